@@ -1,0 +1,4 @@
+-- Basics. Assumes nothing.
+pub mod Tests
+pub mod Members
+pub mod Counting

@@ -1,0 +1,4 @@
+-- Chain. Assumes nothing.
+pub mod Relations
+pub mod Find
+pub mod Above

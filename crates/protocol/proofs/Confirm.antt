@@ -1,0 +1,2 @@
+-- Confirm. Assumes nothing.
+pub mod Quorum

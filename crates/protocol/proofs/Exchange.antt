@@ -1,0 +1,5 @@
+-- Exchange. Assumes nothing.
+pub mod Sendable
+pub mod Acceptance
+pub mod Sending
+pub mod RoundTrip

@@ -1,0 +1,171 @@
+-- A packet in the order of a table is allowed at a sound node, where a number names one block, and is refused only for want of places.
+-- Assumes nothing.
+use Prim.Native.Nat.{ℕ, _/_, _≤_}
+use mathlib.Core.Path.{_≡_, refl, sym, ap}
+use mathlib.Core.Logic.{_⊎_, inl, inr}
+use mathlib.Core.Bool.{Bool, true, false, _||_, cond}
+use mathlib.Core.List.{List, [], _∷_, _++_, List·Memᴰ·head, List·Memᴰ·tail, List·Memᴰ·cases-cons, List·Memᴰ·append-cases, List·Memᴰ·eq-of-singleton, Memᴰ·append-left, Memᴰ·append-right}
+use native.Mathlib.Omega.{arith}
+use lib.Dec.{ltb}
+use lib.ListN.{length}
+use borrow.Author.Tests.{lt-ltb, le-leb, le-ltb}
+use Rattle.protocol.specs.declared.Block.{Block}
+use Rattle.protocol.specs.declared.Settings.{Settings}
+use Rattle.protocol.specs.declared.Vote.{Vote}
+use Rattle.protocol.specs.Limits.{limits}
+use Rattle.protocol.specs.Chain.{genesis, Found, found, missing, find, foundWith}
+use Rattle.protocol.specs.Store.{entries, Places, Node}
+use Rattle.protocol.specs.Sound.{between, sound}
+use Rattle.protocol.specs.Packet.{Packet, packetOf, wellFormed}
+use Rattle.protocol.specs.Refusal.{first, done, pass, refuse, unless}
+use Rattle.protocol.specs.Calls.Receive.{knownAs, addBlock, addBlocks, blockAllowed, blocksAllowed, voteAllowed, blocksAfter, votesAfter, headerAllowed, packetAllowed, brings, receivedOf, receiveInto, receiveTests, receive}
+use Rattle.protocol.specs.Calls.Write.{afterGenesis}
+use Rattle.protocol.proofs.Basics.Tests.{both, and-left, and-right}
+use Rattle.protocol.proofs.Chain.Find.{find-in}
+use Rattle.protocol.proofs.Chain.Relations.{In, Sound}
+use Rattle.protocol.proofs.Filters.Relations.{Cast}
+use Rattle.protocol.proofs.Store.Growth.{Added, added-blocks}
+use Rattle.protocol.proofs.Store.Sound.{VoteSound, vote-holds, vote-later}
+use Rattle.protocol.proofs.Store.Tables.{blockFollows, allFollow, Follows, follows-true, found-holds}
+use Rattle.protocol.proofs.Store.Views.{all-holds, same-block}
+use Rattle.protocol.proofs.Exchange.Sendable.{Sendable, sending, sendable-sound, sent-in, sent-cases}
+
+-- F: blocks among which a number names one block
+module _ (F : Block → Type 0) (one : (c d : Block) → F c → F d → c .number ≡ d .number → c ≡ d) (slot later : ℕ) (l : slot ≤ later) where
+  block-allowed : (e known : List Block) → ((c : Block) → In c e → In c known) → ((c : Block) → In c known → F c) → (b : Block) → F b → Follows slot e b → blockAllowed later known b ≡ true
+  unfolding blockAllowed between knownAs
+  block-allowed e known f g b h w =
+      let p = w .on in
+      let k : foundWith (λ q. ltb (q .slot) (b .slot)) (find known (b .parent)) ≡ true =
+      rw (sym (p .2)) (found-holds (λ q. ltb (q .slot) (b .slot)) known (p .0) (f (p .0) (p .1))
+      (λ d m q. lt-ltb (d .slot) (b .slot) (rw (ap (λ o. o .slot) (one d (p .0) (g d m) (g (p .0) (f (p .0) (p .1))) q)) (p .3)))) in
+      both (both (le-leb 1 (b .slot) (omega (arith, p .3))) (le-leb (b .slot) later (omega (arith, w .early))))
+      (both k (same (find known (b .number)) refl))
+    where
+      same : (o : Found) → find known (b .number) ≡ o → knownAs b o ≡ true
+      same missing q = refl
+      same (found c) q = let i = find-in known (b .number) c q in same-block c b (one c b (g c (i .0)) h (i .1))
+
+  -- b is known afterwards, and nothing else is new
+  add-has : (known : List Block) (b : Block) → ((c : Block) → In c known → F c) → F b → In b (addBlock known b)
+  unfolding addBlock foundWith
+  add-has known b g h = go (find known (b .number)) refl
+    where
+      go : (o : Found) → find known (b .number) ≡ o → In b (cond (foundWith (λ c. true) o) known (known ++ (b ∷ [])))
+      go missing q = Memᴰ·append-right known (List·Memᴰ·head refl)
+      go (found c) q = let i = find-in known (b .number) c q in rw (sym (one c b (g c (i .0)) h (i .1))) (i .0)
+
+  add-keeps : (known : List Block) (b : Block) (t : Bool) (c : Block) → In c known → In c (cond t known (known ++ (b ∷ [])))
+  add-keeps known b true c m = m
+  add-keeps known b false c m = Memᴰ·append-left (b ∷ []) m
+
+  add-from : (known : List Block) (b : Block) (t : Bool) → ((c : Block) → In c known → F c) → F b → (c : Block) → In c (cond t known (known ++ (b ∷ []))) → F c
+  add-from known b true g h c m = g c m
+  add-from known b false g h c m = go (List·Memᴰ·append-cases known m)
+    where
+      go : In c known ⊎ In c (b ∷ []) → F c
+      go (inl n) = g c n
+      go (inr n) = rw (List·Memᴰ·eq-of-singleton n) h
+
+  pub blocks-allowed : (e known bs : List Block) → ((c : Block) → In c e → In c known) → ((c : Block) → In c known → F c) → ((c : Block) → In c bs → F c)
+      → allFollow slot e bs ≡ true → blocksAllowed later known bs ≡ true
+  unfolding allFollow blocksAllowed addBlock
+  blocks-allowed e known [] f g h w = refl
+  blocks-allowed e known (b ∷ bs) f g h w =
+      both (block-allowed e known f g b (h b (List·Memᴰ·head refl)) (follows-true slot e b (and-left (blockFollows slot e b) _ w)))
+      (blocks-allowed (e ++ (b ∷ [])) (addBlock known b) bs (λ c m. go c (List·Memᴰ·append-cases e m))
+      (λ c m. add-from known b (foundWith (λ o. true) (find known (b .number))) g (h b (List·Memᴰ·head refl)) c m)
+      (λ c m. h c (List·Memᴰ·tail m)) (and-right (blockFollows slot e b) _ w))
+    where
+      go : (c : Block) → In c e ⊎ In c (b ∷ []) → In c (addBlock known b)
+      go c (inl m) = add-keeps known b (foundWith (λ o. true) (find known (b .number))) c (f c m)
+      go c (inr m) = rw (List·Memᴰ·eq-of-singleton m) (add-has known b g (h b (List·Memᴰ·head refl)))
+
+  -- the whole packet: its blocks follow block 0, its votes are for these, and its header is right
+  pub packet-allowed : (n : ℕ) (x : Node) (p : Packet) → Sound (entries (x .blocks)) → ((c : Block) → In c (entries (x .blocks)) → F c)
+      → ((c : Block) → In c (p .blocks) → F c) → allFollow slot (genesis ∷ []) (p .blocks) ≡ true
+      → ((a : Vote) → Cast a (p .votes) → VoteSound n slot (genesis ∷ p .blocks) a) → headerAllowed p ≡ true → packetAllowed n later x p ≡ true
+  unfolding packetAllowed blocksAfter
+  packet-allowed n x p S g h w v hd =
+      both ok (both (all-holds (voteAllowed n later (addBlocks (entries (x .blocks)) (p .blocks))) (p .votes)
+      (λ a m. vote-holds n later (addBlocks (entries (x .blocks)) (p .blocks)) a (λ c d k o q. one c d (all c k) (all d o) q) (vote-later l has (v a m)))) hd)
+    where
+      ok : blocksAllowed later (entries (x .blocks)) (p .blocks) ≡ true
+      ok = blocks-allowed (genesis ∷ []) (entries (x .blocks)) (p .blocks) (λ c m. rw (List·Memᴰ·eq-of-singleton m) (S .start)) g h w
+
+      A : Added later (entries (x .blocks)) (p .blocks)
+      A = added-blocks later (entries (x .blocks)) (p .blocks) S ok
+
+      all : (c : Block) → In c (addBlocks (entries (x .blocks)) (p .blocks)) → F c
+      all c m = go (List·Memᴰ·append-cases (entries (x .blocks)) (rw (A .is) at m))
+        where
+          go : In c (entries (x .blocks)) ⊎ In c (A .extra) → F c
+          go (inl n) = g c n
+          go (inr n) = h c (A .from c n)
+
+      has : (c : Block) → In c (genesis ∷ p .blocks) → In c (addBlocks (entries (x .blocks)) (p .blocks))
+      has c m = rw (A .is) (go (List·Memᴰ·cases-cons m))
+        where
+          go : (c ≡ genesis) ⊎ In c (p .blocks) → In c (entries (x .blocks) ++ A .extra)
+          go (inl q) = rw q (Memᴰ·append-left (A .extra) (S .start))
+          go (inr n) = A .has c n
+
+-- ---- a packet that meets all the rules is refused only for want of places
+
+abbrev pub lacking : Places → Node → Packet → Bool
+lacking pl y p = ltb (pl .blocks) (length (blocksAfter y p)) || ltb (pl .votes) (length (votesAfter y p))
+
+module _ (s : Settings) (pl : Places) (y : Node) (beat : ℕ) (bytes : List ℕ) (p : Packet)
+    (e : packetOf bytes ≡ p) (S : sound s pl y ≡ true) (l : y .clock .seen ≤ beat) (m : beat / 3 ≤ (limits .slot)) (W : wellFormed bytes ≡ true)
+    (A : packetAllowed (s .nodes) (beat / 3) y p ≡ true) where
+  pub verdict : first (receiveTests s pl y beat bytes) ≡ cond (lacking pl y p) (refuse 10) pass
+  unfolding receiveTests first
+  verdict = rw (e, S, le-ltb beat (y .clock .seen) l, le-ltb (limits .slot) (beat / 3) m, W, A)
+
+  pub accepted : length (blocksAfter y p) ≤ pl .blocks → length (votesAfter y p) ≤ pl .votes
+      → receive s pl y beat bytes ≡ record { reply = done (receivedOf y beat p); node = receiveInto (brings y beat p) beat y p }
+  unfolding receive unless
+  accepted b v = rw (verdict, le-ltb (pl .blocks) (length (blocksAfter y p)) b, le-ltb (pl .votes) (length (votesAfter y p)) v, e)
+
+-- ---- what can be sent, at a node that knows no other block by one of its numbers
+
+-- no number names two blocks
+abbrev pub Agree : List Block → List Block → Type 0
+Agree xs ys = (c d : Block) → In c xs → In d ys → c .number ≡ d .number → c ≡ d
+
+-- the packet is allowed, and afterwards the stock has the blocks of both
+pub record Welcome (n slot : ℕ) (y : Node) (bs : List Block) (p : Packet) : Type 0 where
+  pub allowed : packetAllowed n slot y p ≡ true
+  pub old : (c : Block) → In c (entries (y .blocks)) → In c (blocksAfter y p)
+  pub new : (c : Block) → In c bs → In c (blocksAfter y p)
+  pub only : (c : Block) → In c (blocksAfter y p) → In c (entries (y .blocks)) ⊎ In c bs
+
+module _ {n slot : ℕ} {bs : List Block} {vs : List Vote} (D : Sendable n slot bs vs) (later : ℕ) (l : slot ≤ later)
+    (y : Node) (S : Sound (entries (y .blocks))) (A : Agree (entries (y .blocks)) bs) where
+  one-block : (c d : Block) → In c (entries (y .blocks)) ⊎ In c bs → In d (entries (y .blocks)) ⊎ In d bs → c .number ≡ d .number → c ≡ d
+  one-block c d (inl m) (inl k) q = S .unique c d m k q
+  one-block c d (inl m) (inr k) q = A c d m k q
+  one-block c d (inr m) (inl k) q = sym (A d c k m (sym q))
+  one-block c d (inr m) (inr k) q = sendable-sound D .unique c d m k q
+
+  pub welcome : (kind t number : ℕ) → headerAllowed (sending kind t number bs vs) ≡ true → Welcome n later y bs (sending kind t number bs vs)
+  unfolding blocksAfter packetAllowed
+  welcome kind t number h =
+      let p = sending kind t number bs vs in
+      let ok = packet-allowed (λ c. In c (entries (y .blocks)) ⊎ In c bs) one-block slot later l n y p S (λ c m. inl m) (λ c m. inr (sent-in D c m)) (D .follow)
+      (λ a m. rw (D .root) at (D .votes a m)) h in
+      let N = added-blocks later (entries (y .blocks)) (afterGenesis bs) S (and-left (blocksAllowed later (entries (y .blocks)) (afterGenesis bs)) _ ok) in
+      record {
+        allowed = ok;
+        old = λ c m. rw (N .is) (Memᴰ·append-left (N .extra) m);
+        new = λ c m. rw (N .is) (new N c (sent-cases D c m));
+        only = λ c m. only N c (List·Memᴰ·append-cases (entries (y .blocks)) (rw (N .is) at m));
+      }
+    where
+      new : (N : Added later (entries (y .blocks)) (afterGenesis bs)) → (c : Block) → (c ≡ genesis) ⊎ In c (afterGenesis bs) → In c (entries (y .blocks) ++ N .extra)
+      new N c (inl q) = rw q (Memᴰ·append-left (N .extra) (S .start))
+      new N c (inr m) = N .has c m
+
+      only : (N : Added later (entries (y .blocks)) (afterGenesis bs)) → (c : Block) → In c (entries (y .blocks)) ⊎ In c (N .extra) → In c (entries (y .blocks)) ⊎ In c bs
+      only N c (inl m) = inl m
+      only N c (inr m) = inr (sent-in D c (N .from c m))

@@ -1,0 +1,3 @@
+-- Filters. Assumes nothing.
+pub mod Relations
+pub mod Kept

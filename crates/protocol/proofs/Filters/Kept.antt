@@ -1,0 +1,238 @@
+-- Which vote of a voter is kept, by membership only. Assumes nothing.
+use Prim.Native.Nat.{ℕ, _≤_, _<_}
+use mathlib.Core.Path.{_≡_, refl, sym, ap, _∙_}
+use mathlib.Core.Logic.{_⊎_, inl, inr}
+use mathlib.Core.Bool.{Bool, true, false, not, _&&_, cond, false≢true}
+use mathlib.Core.List.{List, [], _∷_, List·Memᴰ·head, List·Memᴰ·tail, List·Memᴰ·not-nil}
+use native.Mathlib.Nat.{le-of-eq, le-antisymm, le-trans}
+use native.Mathlib.Omega.{arith}
+use lib.Dec.{eqb, ltb}
+use borrow.Author.Tests.{eqb-true, eqb-false, eq-eqb, ne-eqb, ltb-true, ltb-false, not-true}
+use Rattle.protocol.specs.declared.Vote.{Vote}
+use Rattle.protocol.specs.Lists.{any}
+use Rattle.protocol.specs.Filters.{conflict, equivocates, counted, window, Last, last, none, later, latest, Choice, chosen, nothing, choiceOf, kept}
+use Rattle.protocol.proofs.Basics.Members.{Adds, adds-cons}
+use Rattle.protocol.proofs.Basics.Tests.{facts, tests, both, and-left, and-right, either, or-left, or-right, clashing, same-test}
+use Rattle.protocol.proofs.Filters.Relations.{Cast, SameFor, InWindow, Equivocation, IsLast}
+
+-- ---- some vote passes
+
+pub any-true : (p : Vote → Bool) (vs : List Vote) → any p vs ≡ true → (a : Vote) × Cast a vs × (p a ≡ true)
+unfolding any
+any-true p [] e = absurd (false≢true e)
+any-true p (a ∷ rest) e = go (either (p a) (any p rest) e) (λ h. any-true p rest h)
+  where
+    go : (p a ≡ true) ⊎ (any p rest ≡ true) → (any p rest ≡ true → (b : Vote) × Cast b rest × (p b ≡ true)) → (b : Vote) × Cast b (a ∷ rest) × (p b ≡ true)
+    go (inl h) rec = (a, List·Memᴰ·head refl, h)
+    go (inr h) rec = let r = rec h in (r .0, List·Memᴰ·tail (r .1), r .2)
+
+pub any-holds : (p : Vote → Bool) (vs : List Vote) (a : Vote) → Cast a vs → p a ≡ true → any p vs ≡ true
+unfolding any
+any-holds p vs a (List·Memᴰ·head {x = b} {xs = rest} e) h = or-left (p b) (any p rest) (rw e at h)
+any-holds p vs a (List·Memᴰ·tail {x = b} {xs = rest} m) h = or-right (p b) (any p rest) (any-holds p rest a m h)
+
+-- ---- filter 1
+
+pub equivocates-true : (p : ℕ → Bool) (vs : List Vote) (v : ℕ) → equivocates p vs v ≡ true → Equivocation p vs v
+unfolding equivocates conflict
+equivocates-true p vs v e =
+    let r = any-true (λ a. eqb (a .voter) v && (p (a .slot) && any (λ b. conflict a b) vs)) vs e in
+    let a = r .0 in
+    let f = r .2 in
+    let s = any-true (λ b. conflict a b) vs (and-right (p (a .slot)) _ (and-right (eqb (a .voter) v) _ f)) in
+    let b = s .0 in
+    let g = s .2 in
+    let x : a .voter ≡ v = search facts in
+    let y : a .voter ≡ b .voter = search facts in
+    let z : not (eqb (a .number) (b .number)) ≡ true = search facts in record {
+      one = a;
+      other = b;
+      has-one = r .1;
+      has-other = s .1;
+      by-one = x;
+      by-other = sym y ∙ x;
+      slots = search facts;
+      counts = and-left (p (a .slot)) _ (and-right (eqb (a .voter) v) _ f);
+      differ = eqb-false (a .number) (b .number) (not-true (eqb (a .number) (b .number)) z);
+    }
+
+pub equivocates-holds : (p : ℕ → Bool) (vs : List Vote) (v : ℕ) → Equivocation p vs v → equivocates p vs v ≡ true
+unfolding equivocates conflict
+equivocates-holds p vs v d =
+    any-holds (λ a. eqb (a .voter) v && (p (a .slot) && any (λ b. conflict a b) vs)) vs (d .one) (d .has-one)
+    (both (eq-eqb (d .one .voter) v (d .by-one))
+    (both (d .counts) (any-holds (λ b. conflict (d .one) b) vs (d .other) (d .has-other)
+    (both (eq-eqb (d .one .voter) (d .other .voter) (d .by-one ∙ sym (d .by-other)))
+    (both (eq-eqb (d .one .slot) (d .other .slot) (d .slots)) (ap not (ne-eqb (d .one .number) (d .other .number) (d .differ))))))))
+
+-- a voter that is not dropped votes for one block in a slot
+pub single : (w : ℕ → Bool) (vs : List Vote) (v : ℕ) → equivocates w vs v ≡ false → (a b : Vote) → Cast a vs → Cast b vs → a .voter ≡ v → b .voter ≡ v → a .slot ≡ b .slot → w (a .slot) ≡ true → a .number ≡ b .number
+single w vs v e a b m n p q s i = go (eqb (a .number) (b .number)) refl
+  where
+    go : (t : Bool) → eqb (a .number) (b .number) ≡ t → a .number ≡ b .number
+    go true h = eqb-true (a .number) (b .number) h
+    go false h =
+        absurd (clashing (equivocates-holds w vs v (record {
+          one = a;
+          other = b;
+          has-one = m;
+          has-other = n;
+          by-one = p;
+          by-other = q;
+          slots = s;
+          counts = i;
+          differ = eqb-false (a .number) (b .number) h;
+        })) e)
+
+-- ---- filter 2
+
+pub window-true : (E t s : ℕ) → window E t s ≡ true → InWindow E t s
+unfolding window
+window-true E t s e = search facts
+
+pub window-holds : (E t s : ℕ) → InWindow E t s → window E t s ≡ true
+unfolding window
+window-holds E t s h = search tests
+
+-- a slot in the window counts for filter 1
+pub counted-holds : (E t s : ℕ) → InWindow E t s → counted E t s ≡ true
+unfolding counted
+counted-holds E t s h = refl
+
+-- ---- filter 3
+
+abbrev pub LastIs : List Vote → ℕ → ℕ → ℕ → Last → Type 0
+LastIs vs E t v none = (b : Vote) → Cast b vs → b .voter ≡ v → InWindow E t (b .slot) → ⊥
+LastIs vs E t v (last a) = IsLast vs E t v a
+
+-- a is a vote of v in the window
+abbrev pub Counts : ℕ → ℕ → ℕ → Vote → Type 0
+Counts E t v a = (a .voter ≡ v) × InWindow E t (a .slot)
+
+module _ (E t v : ℕ) {a : Vote} {xs ys : List Vote} (A : Adds Vote a xs ys) where
+  -- one more vote that does not count
+  pub last-skip : (Counts E t v a → ⊥) → (f : Last) → LastIs xs E t v f → LastIs ys E t v f
+  last-skip h none r = λ b m p q. go b p q (A .only b m)
+    where
+      go : (b : Vote) → b .voter ≡ v → InWindow E t (b .slot) → Cast b xs ⊎ (b ≡ a) → ⊥
+      go b p q (inl m) = r b m p q
+      go b p q (inr e) = h (rw e at p, rw e at q)
+  last-skip h (last c) r = record { mem = A .old c (r .mem); by = r .by; inside = r .inside; top = λ b m p q. go b p q (A .only b m) }
+    where
+      go : (b : Vote) → b .voter ≡ v → InWindow E t (b .slot) → Cast b xs ⊎ (b ≡ a) → b .slot ≤ c .slot
+      go b p q (inl m) = r .top b m p q
+      go b p q (inr e) = absurd (h (rw e at p, rw e at q))
+
+  -- one more that counts
+  pub last-join : Counts E t v a → (f : Last) → LastIs xs E t v f → LastIs ys E t v (later a f)
+  unfolding later
+  last-join h none r = record { mem = A .new; by = h .0; inside = h .1; top = λ b m p q. go b p q (A .only b m) }
+    where
+      go : (b : Vote) → b .voter ≡ v → InWindow E t (b .slot) → Cast b xs ⊎ (b ≡ a) → b .slot ≤ a .slot
+      go b p q (inl m) = absurd (r b m p q)
+      go b p q (inr e) = le-of-eq (ap (λ o. o .slot) e)
+  last-join h (last c) r = go (ltb (a .slot) (c .slot)) refl
+    where
+      old : a .slot < c .slot → (b : Vote) → b .voter ≡ v → InWindow E t (b .slot) → Cast b xs ⊎ (b ≡ a) → b .slot ≤ c .slot
+      old l b p q (inl m) = r .top b m p q
+      old l b p q (inr e) = omega (arith, ap (λ o. o .slot) e)
+
+      new : c .slot ≤ a .slot → (b : Vote) → b .voter ≡ v → InWindow E t (b .slot) → Cast b xs ⊎ (b ≡ a) → b .slot ≤ a .slot
+      new l b p q (inl m) = le-trans (r .top b m p q) l
+      new l b p q (inr e) = le-of-eq (ap (λ o. o .slot) e)
+
+      go : (x : Bool) → ltb (a .slot) (c .slot) ≡ x → LastIs ys E t v (cond x (last c) (last a))
+      go true e = record { mem = A .old c (r .mem); by = r .by; inside = r .inside; top = λ b m p q. old (ltb-true (a .slot) (c .slot) e) b p q (A .only b m) }
+      go false e = record { mem = A .new; by = h .0; inside = h .1; top = λ b m p q. new (ltb-false (a .slot) (c .slot) e) b p q (A .only b m) }
+
+  -- either way
+  pub last-next : (f : Last) → LastIs xs E t v f → LastIs ys E t v (cond (eqb (a .voter) v && window E t (a .slot)) (later a f) f)
+  last-next f r = go (eqb (a .voter) v && window E t (a .slot)) refl
+    where
+      go : (x : Bool) → (eqb (a .voter) v && window E t (a .slot)) ≡ x → LastIs ys E t v (cond x (later a f) f)
+      go true e = last-join (search (facts, window-true)) f r
+      go false e = last-skip (λ h. clashing (search (tests, window-holds)) e) f r
+
+pub latest-is : (E t v : ℕ) (vs : List Vote) → LastIs vs E t v (latest vs E t v)
+unfolding latest
+latest-is E t v [] = λ b m p q. List·Memᴰ·not-nil m
+latest-is E t v (a ∷ rest) = last-next E t v (adds-cons Vote a rest) (latest rest E t v) (latest-is E t v rest)
+
+-- ---- all three
+
+module _ (vs : List Vote) (E t v : ℕ) where
+  -- a kept vote is a latest one of a voter that is not dropped
+  pub kept-is : (x : ℕ) → kept vs E t v ≡ chosen x → (equivocates (counted E t) vs v ≡ false) × ((a : Vote) × IsLast vs E t v a × (a .number ≡ x))
+  unfolding kept choiceOf
+  kept-is x e = go (equivocates (counted E t) vs v) refl (latest vs E t v) (latest-is E t v vs) e
+    where
+      clear : {P : Type 0} → nothing ≡ chosen x → P
+      clear q = let z : _≡_ {A = ℕ} 0 1 = cc in absurd (omega arith)
+
+      go : (d : Bool) → equivocates (counted E t) vs v ≡ d → (f : Last) → LastIs vs E t v f → cond d nothing (choiceOf f) ≡ chosen x
+          → (equivocates (counted E t) vs v ≡ false) × ((a : Vote) × IsLast vs E t v a × (a .number ≡ x))
+      go true d f l q = clear q
+      go false d none l q = clear q
+      go false d (last a) l q = let s : a .number ≡ x = cc in (d, (a, l, s))
+
+  -- and any latest vote of such a voter is for the kept block
+  pub kept-holds : (a : Vote) → equivocates (counted E t) vs v ≡ false → IsLast vs E t v a → kept vs E t v ≡ chosen (a .number)
+  unfolding kept choiceOf
+  kept-holds a d h = rw d (go (latest vs E t v) (latest-is E t v vs))
+    where
+      go : (f : Last) → LastIs vs E t v f → choiceOf f ≡ chosen (a .number)
+      go none l = absurd (l a (h .mem) (h .by) (h .inside))
+      go (last b) l =
+          ap chosen (single (counted E t) vs v d b a (l .mem) (h .mem) (l .by) (h .by)
+          (le-antisymm (h .top b (l .mem) (l .by) (l .inside)) (l .top a (h .mem) (h .by) (h .inside))) (counted-holds E t (b .slot) (l .inside)))
+
+  -- nothing is kept: dropped, or no vote in the window
+  pub kept-nothing : kept vs E t v ≡ nothing → (equivocates (counted E t) vs v ≡ true) ⊎ ((b : Vote) → Cast b vs → b .voter ≡ v → InWindow E t (b .slot) → ⊥)
+  unfolding kept choiceOf
+  kept-nothing e = go (equivocates (counted E t) vs v) refl (latest vs E t v) (latest-is E t v vs) e
+    where
+      go : (d : Bool) → equivocates (counted E t) vs v ≡ d → (f : Last) → LastIs vs E t v f → cond d nothing (choiceOf f) ≡ nothing
+          → (equivocates (counted E t) vs v ≡ true) ⊎ ((b : Vote) → Cast b vs → b .voter ≡ v → InWindow E t (b .slot) → ⊥)
+      go true d f l q = inl d
+      go false d none l q = inr l
+      go false d (last a) l q = let z : _≡_ {A = ℕ} 0 1 = cc in absurd (omega arith)
+
+-- ---- it depends on the voter's votes only
+
+double-to : {p : ℕ → Bool} {v : ℕ} {vs ws : List Vote} → ((a : Vote) → a .voter ≡ v → Cast a vs → Cast a ws) → Equivocation p vs v → Equivocation p ws v
+double-to f d = record {
+  one = d .one;
+  other = d .other;
+  has-one = f (d .one) (d .by-one) (d .has-one);
+  has-other = f (d .other) (d .by-other) (d .has-other);
+  by-one = d .by-one;
+  by-other = d .by-other;
+  slots = d .slots;
+  counts = d .counts;
+  differ = d .differ;
+}
+
+pub equivocates-same : (p : ℕ → Bool) (vs ws : List Vote) (v : ℕ) → SameFor v vs ws → equivocates p vs v ≡ equivocates p ws v
+equivocates-same p vs ws v s =
+    same-test (equivocates p vs v) (equivocates p ws v) (λ h. equivocates-holds p ws v (double-to (s .to) (equivocates-true p vs v h)))
+    (λ h. equivocates-holds p vs v (double-to (s .from) (equivocates-true p ws v h)))
+
+last-to : {v : ℕ} {vs ws : List Vote} {E t : ℕ} {a : Vote} → SameFor v vs ws → IsLast vs E t v a → IsLast ws E t v a
+last-to {v} {vs} {ws} {E} {t} {a} s h = record { mem = s .to a (h .by) (h .mem); by = h .by; inside = h .inside; top = λ b m p q. h .top b (s .from b p m) p q }
+
+pub kept-same : (vs ws : List Vote) (E t v : ℕ) → SameFor v vs ws → kept vs E t v ≡ kept ws E t v
+kept-same vs ws E t v s = go (kept vs E t v) (kept ws E t v) refl refl
+  where
+    back : SameFor v ws vs
+    back = record { to = s .from; from = s .to }
+
+    go : (x y : Choice) → kept vs E t v ≡ x → kept ws E t v ≡ y → x ≡ y
+    go (chosen x) y p q =
+        let k = kept-is vs E t v x p in
+        let a = k .1 in
+        ap chosen (sym (a .2)) ∙ sym (kept-holds ws E t v (a .0) (sym (equivocates-same (counted E t) vs ws v s) ∙ k .0) (last-to s (a .1))) ∙ q
+    go nothing (chosen y) p q =
+        let k = kept-is ws E t v y q in
+        let a = k .1 in
+        sym p ∙ kept-holds vs E t v (a .0) (equivocates-same (counted E t) vs ws v s ∙ k .0) (last-to back (a .1)) ∙ ap chosen (a .2)
+    go nothing nothing p q = refl

@@ -1,0 +1,10 @@
+-- Laws. Assumes nothing.
+pub mod Basics
+pub mod Chain
+pub mod Filters
+pub mod Walk
+pub mod Confirm
+pub mod Store
+pub mod Packet
+pub mod Calls
+pub mod Exchange

@@ -1,0 +1,236 @@
+-- A sound node as a record of facts, and back. Assumes nothing.
+use Prim.Native.Nat.{ℕ, _+_, _*_, _/_, _≤_, _<_}
+use mathlib.Core.Path.{_≡_, refl, sym, ap, _∙_}
+use mathlib.Core.Logic.{_⊎_, inl, inr}
+use mathlib.Core.Bool.{Bool, true, false, not, _||_, cond, false≢true}
+use mathlib.Core.List.{List, [], _∷_, List·Memᴰ·head, List·Memᴰ·tail, List·Memᴰ·cases-cons, List·Memᴰ·not-nil, List·Memᴰ·eq-of-singleton}
+use native.Mathlib.Omega.{arith}
+use lib.Dec.{leb, ltb}
+use lib.ListN.{length}
+use borrow.Author.Tests.{leb-true, lt-ltb, le-leb}
+use Rattle.protocol.specs.declared.Block.{Block}
+use Rattle.protocol.specs.declared.Clock.{Clock}
+use Rattle.protocol.specs.declared.Settings.{Settings}
+use Rattle.protocol.specs.declared.Vote.{Vote}
+use Rattle.protocol.specs.Limits.{limits}
+use Rattle.protocol.specs.Lists.{any}
+use Rattle.protocol.specs.Chain.{genesis, find, foundWith}
+use Rattle.protocol.specs.Store.{Marked, entries, inView, sameVote, Places, Node, fresh}
+use Rattle.protocol.specs.Sound.{between, blocksSound, voteSound, votesSound, settingsSound, placesSound, clockSound, sound}
+use Rattle.protocol.specs.Calls.Receive.{voteAllowed}
+use Rattle.protocol.proofs.Basics.Tests.{facts, both, and-left, and-right}
+use Rattle.protocol.proofs.Chain.Relations.{In, Known, Sound}
+use Rattle.protocol.proofs.Filters.Relations.{Cast}
+use Rattle.protocol.proofs.Store.Growth.{distinct}
+use Rattle.protocol.proofs.Store.Tables.{allFollow, Table, table-true, table-holds, table-sound, table-slot, found-true, found-known, known-found, found-holds}
+use Rattle.protocol.proofs.Store.Views.{view-stored}
+
+-- vote a is for a known block of no later slot
+pub record VoteSound (n slot : ℕ) (bs : List Block) (a : Vote) : Type 0 where
+  pub voter : a .voter < n
+  pub real : 0 < a .slot
+  pub early : a .slot ≤ slot
+  pub on : (b : Block) × In b bs × (b .number ≡ a .number) × (b .slot ≤ a .slot)
+
+pub vote-true : (n slot : ℕ) (bs : List Block) (a : Vote) → voteAllowed n slot bs a ≡ true → VoteSound n slot bs a
+unfolding voteAllowed between
+vote-true n slot bs a e =
+    let y : foundWith (λ b. leb (b .slot) (a .slot)) (find bs (a .number)) ≡ true = search facts in
+    let r = found-true (λ b. leb (b .slot) (a .slot)) bs (a .number) y in
+    let z : 1 ≤ a .slot = search facts in
+    record { voter = search facts; real = z; early = search facts; on = (r .0, r .1, r .2, leb-true (r .0 .slot) (a .slot) (r .3)) }
+
+pub vote-holds : (n slot : ℕ) (bs : List Block) (a : Vote) → ((b c : Block) → In b bs → In c bs → b .number ≡ c .number → b ≡ c) → VoteSound n slot bs a → voteAllowed n slot bs a ≡ true
+unfolding voteAllowed between
+vote-holds n slot bs a unique v =
+    let p = v .on in
+    both (lt-ltb (a .voter) n (v .voter)) (both (both (le-leb 1 (a .slot) (v .real)) (le-leb (a .slot) slot (v .early)))
+    (rw (sym (p .2)) (found-holds (λ c. leb (c .slot) (a .slot)) bs (p .0) (p .1) (λ d m q. le-leb (d .slot) (a .slot) (rw (ap (λ o. o .slot) (unique d (p .0) m (p .1) q)) (p .3))))))
+
+pub vote-later : {n slot later : ℕ} {bs cs : List Block} {a : Vote} → slot ≤ later → ((c : Block) → In c bs → In c cs) → VoteSound n slot bs a → VoteSound n later cs a
+vote-later l f v = let p = v .on in record { voter = v .voter; real = v .real; early = omega (arith, v .early); on = (p .0, f (p .0) (p .1), p .2, p .3) }
+
+pub record ClockSound (c : Clock) : Type 0 where
+  pub limited : c .seen / 3 ≤ 1000000000
+  pub done-seen : c .done ≤ c .seen
+  pub merged-done : c .merged * 3 + 2 ≤ c .done
+  pub proposed-seen : c .proposed ≤ c .seen / 3
+
+pub record Ranges (s : Settings) : Type 0 where
+  pub some : 1 ≤ s .nodes
+  pub few : s .nodes ≤ 64
+  pub own : s .own < s .nodes
+  pub expiry : 1 ≤ s .expiry
+
+pub ranges : (s : Settings) → settingsSound s ≡ true → Ranges s
+unfolding settingsSound between
+ranges s e = record { some = search facts; few = search facts; own = search facts; expiry = search facts }
+
+pub places-few : (pl : Places) → placesSound pl ≡ true → (pl .blocks ≤ 2048) × (pl .votes ≤ 8192)
+unfolding placesSound between
+places-few pl e =
+    let a : pl .blocks ≤ 2048 = search facts in
+    let b : pl .votes ≤ 8192 = search facts in
+    (a, b)
+
+pub record IsSound (s : Settings) (pl : Places) (x : Node) : Type 0 where
+  pub settings : settingsSound s ≡ true
+  pub places : placesSound pl ≡ true
+  pub fit-blocks : length (x .blocks) ≤ pl .blocks
+  pub fit-votes : length (x .votes) ≤ pl .votes
+  pub time : ClockSound (x .clock)
+  pub blocks : Table (x .clock .seen / 3) (x .blocks)
+  pub votes : (a : Vote) → Cast a (entries (x .votes)) → VoteSound (s .nodes) (x .clock .seen / 3) (entries (x .blocks)) a
+  pub apart : distinct (entries (x .votes)) ≡ true
+  pub closed-blocks : (c : Block) → In c (inView (x .blocks)) → Known (inView (x .blocks)) (c .parent)
+  pub closed-votes : (a : Vote) → Cast a (inView (x .votes)) → Known (inView (x .blocks)) (a .number)
+
+time-true : (c : Clock) → clockSound c ≡ true → ClockSound c
+unfolding clockSound
+time-true c e = record { limited = search facts; done-seen = search facts; merged-done = search facts; proposed-seen = search facts }
+
+time-holds : (c : Clock) → ClockSound c → clockSound c ≡ true
+unfolding clockSound
+time-holds c t =
+    both (le-leb (c .seen / 3) (limits .slot) (t .limited))
+    (both (le-leb (c .done) (c .seen) (t .done-seen)) (both (le-leb (c .merged * 3 + 2) (c .done) (t .merged-done)) (le-leb (c .proposed) (c .seen / 3) (t .proposed-seen))))
+
+-- the votes, with their marks
+pub record VotesSound (n slot : ℕ) (bs : List (Marked Block)) (ms : List (Marked Vote)) : Type 0 where
+  pub each : (a : Vote) → Cast a (entries ms) → VoteSound n slot (entries bs) a
+  pub apart : distinct (entries ms) ≡ true
+  pub closed : (a : Vote) → Cast a (inView ms) → Known (inView bs) (a .number)
+
+votes-true : (n slot : ℕ) (bs : List (Marked Block)) (ms : List (Marked Vote)) → votesSound n slot bs ms ≡ true → VotesSound n slot bs ms
+unfolding votesSound entries inView distinct
+votes-true n slot bs [] e = record { each = λ a m. absurd (List·Memᴰ·not-nil m); apart = refl; closed = λ a m. absurd (List·Memᴰ·not-nil m) }
+votes-true n slot bs (m ∷ ms) e =
+    let V0 = votes-true n slot bs ms (and-right (not (any (sameVote (m .entry)) (entries ms))) _ (and-right (voteSound n slot bs m) _ e)) in
+    record {
+      each = λ a k. each V0 a (List·Memᴰ·cases-cons k);
+      apart = both (and-left (not (any (sameVote (m .entry)) (entries ms))) _ (and-right (voteSound n slot bs m) _ e)) (V0 .apart);
+      closed = λ a k. shown V0 a (m .shown) refl k;
+    }
+  where
+    each : VotesSound n slot bs ms → (a : Vote) → (a ≡ m .entry) ⊎ Cast a (entries ms) → VoteSound n slot (entries bs) a
+    each o a (inl q) = rw q (vote-true n slot (entries bs) (m .entry) (allowed (and-left (voteSound n slot bs m) _ e)))
+      where
+        allowed : voteSound n slot bs m ≡ true → voteAllowed n slot (entries bs) (m .entry) ≡ true
+        allowed h = unfold voteSound voteAllowed in (
+            let x : ltb (m .entry .voter) n ≡ true = search facts in
+            let y : between 1 slot (m .entry .slot) ≡ true = search facts in
+            let z : foundWith (λ b. leb (b .slot) (m .entry .slot)) (find (entries bs) (m .entry .number)) ≡ true = search facts in
+            both x (both y z))
+    each o a (inr k) = o .each a k
+
+    seen : m .shown ≡ true → Known (inView bs) (m .entry .number)
+    seen s = unfold voteSound in (
+        let h : voteSound n slot bs m ≡ true = and-left (voteSound n slot bs m) _ e in
+        let q : (not (m .shown) || foundWith (λ b. true) (find (inView bs) (m .entry .number))) ≡ true = search facts in
+        known-found (inView bs) (m .entry .number) (rw s at q))
+
+    front : VotesSound n slot bs ms → m .shown ≡ true → (a : Vote) → (a ≡ m .entry) ⊎ Cast a (inView ms) → Known (inView bs) (a .number)
+    front o s a (inl q) = rw q (seen s)
+    front o s a (inr k) = o .closed a k
+
+    shown : VotesSound n slot bs ms → (a : Vote) → (t : Bool) → m .shown ≡ t → Cast a (cond t (m .entry ∷ inView ms) (inView ms)) → Known (inView bs) (a .number)
+    shown o a true s k = front o s a (List·Memᴰ·cases-cons k)
+    shown o a false s k = o .closed a k
+
+votes-holds : (n slot : ℕ) (bs : List (Marked Block)) → Sound (entries bs) → (ms : List (Marked Vote)) → VotesSound n slot bs ms → votesSound n slot bs ms ≡ true
+unfolding votesSound entries inView distinct
+votes-holds n slot bs S [] o = refl
+votes-holds n slot bs S (m ∷ ms) o =
+    both one (both (and-left (not (any (sameVote (m .entry)) (entries ms))) _ (o .apart))
+    (votes-holds n slot bs S ms (record { each = λ a k. o .each a (List·Memᴰ·tail k); apart = and-right (not (any (sameVote (m .entry)) (entries ms))) _ (o .apart); closed = λ a k. o .closed a (more (m .shown) a k) })))
+  where
+    more : (t : Bool) (a : Vote) → Cast a (inView ms) → Cast a (cond t (m .entry ∷ inView ms) (inView ms))
+    more true a k = List·Memᴰ·tail k
+    more false a k = k
+
+    mark : (t : Bool) → m .shown ≡ t → (not t || foundWith (λ b. true) (find (inView bs) (m .entry .number))) ≡ true
+    mark false s = refl
+    mark true s = found-known (inView bs) (m .entry .number) (o .closed (m .entry) (shows (m .shown) s))
+      where
+        shows : (t : Bool) → t ≡ true → Cast (m .entry) (cond t (m .entry ∷ inView ms) (inView ms))
+        shows true s = List·Memᴰ·head refl
+        shows false s = absurd (false≢true s)
+
+    one : voteSound n slot bs m ≡ true
+    one = unfold voteSound voteAllowed in (
+        let h : voteAllowed n slot (entries bs) (m .entry) ≡ true = vote-holds n slot (entries bs) (m .entry) (S .unique) (o .each (m .entry) (List·Memᴰ·head refl)) in
+        let x : ltb (m .entry .voter) n ≡ true = search facts in
+        let y : between 1 slot (m .entry .slot) ≡ true = search facts in
+        let z : foundWith (λ b. leb (b .slot) (m .entry .slot)) (find (entries bs) (m .entry .number)) ≡ true = search facts in
+        both x (both y (both z (mark (m .shown) refl))))
+
+module _ (s : Settings) (pl : Places) (x : Node) where
+  pub sound-true : sound s pl x ≡ true → IsSound s pl x
+  unfolding sound
+  sound-true e =
+      let c : clockSound (x .clock) ≡ true = search (and-left, and-right) depth 12 in
+      let b : blocksSound (x .clock .seen / 3) (x .blocks) ≡ true = search (and-left, and-right) depth 12 in
+      let v : votesSound (s .nodes) (x .clock .seen / 3) (x .blocks) (x .votes) ≡ true = search (and-left, and-right) depth 12 in
+      let t = table-true (x .clock .seen / 3) (x .blocks) b in
+      let o = votes-true (s .nodes) (x .clock .seen / 3) (x .blocks) (x .votes) v in
+      record {
+        settings = and-left (settingsSound s) _ e;
+        places = search (and-left, and-right);
+        fit-blocks = search facts depth 12;
+        fit-votes = search facts depth 12;
+        time = time-true (x .clock) c;
+        blocks = t .0;
+        votes = o .each;
+        apart = o .apart;
+        closed-blocks = t .1;
+        closed-votes = o .closed;
+      }
+
+module _ {s : Settings} {pl : Places} {x : Node} (G : IsSound s pl x) where
+  pub table : Table (x .clock .seen / 3) (x .blocks)
+  table = G .blocks
+
+  pub store-sound : Sound (entries (x .blocks))
+  store-sound = table-sound table
+
+  pub start-shown : In genesis (inView (x .blocks))
+  start-shown = table .shown
+
+  pub view-sound : Sound (inView (x .blocks))
+  view-sound = record {
+    start = start-shown;
+    unique = λ c d m n q. store-sound .unique c d (view-stored (x .blocks) c m) (view-stored (x .blocks) d n) q;
+    parents = λ c m z.
+        let p = store-sound .parents c (view-stored (x .blocks) c m) z in
+        let q = G .closed-blocks c m in
+        let e = store-sound .unique (q .0) (p .0) (view-stored (x .blocks) (q .0) (q .1)) (p .1) (q .2 ∙ sym (p .2)) in
+        (q .0, q .1, q .2, rw e (p .3));
+  }
+
+  pub slot-seen : (c : Block) → In c (entries (x .blocks)) → c .slot ≤ x .clock .seen / 3
+  slot-seen c m = table-slot table c m
+
+  pub sound-holds : sound s pl x ≡ true
+  unfolding sound
+  sound-holds =
+      both (G .settings) (both (G .places) (both (le-leb (length (x .blocks)) (pl .blocks) (G .fit-blocks)) (both (le-leb (length (x .votes)) (pl .votes) (G .fit-votes))
+      (both (time-holds (x .clock) (G .time)) (both (table-holds (x .clock .seen / 3) (x .blocks) (G .blocks) (G .closed-blocks))
+      (votes-holds (s .nodes) (x .clock .seen / 3) (x .blocks) store-sound (x .votes) (record { each = G .votes; apart = G .apart; closed = G .closed-votes })))))))
+
+-- a fresh node is sound
+pub fresh-sound : (s : Settings) (pl : Places) → settingsSound s ≡ true → placesSound pl ≡ true → IsSound s pl fresh
+unfolding placesSound between entries inView allFollow distinct
+fresh-sound s pl a b =
+    let x : 1 ≤ pl .blocks = search facts in
+    record {
+      settings = a;
+      places = b;
+      fit-blocks = omega arith;
+      fit-votes = omega arith;
+      time = record { limited = omega arith; done-seen = omega arith; merged-done = omega arith; proposed-seen = omega arith };
+      blocks = record { rest = []; is = refl; follow = refl; shown = List·Memᴰ·head refl };
+      votes = λ v m. absurd (List·Memᴰ·not-nil m);
+      apart = refl;
+      closed-blocks = λ c m. (genesis, List·Memᴰ·head refl, ap (λ o. o .parent) (sym (List·Memᴰ·eq-of-singleton m)));
+      closed-votes = λ v m. absurd (List·Memᴰ·not-nil m);
+    }

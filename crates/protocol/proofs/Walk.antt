@@ -1,0 +1,9 @@
+-- Walk. Assumes nothing.
+pub mod Relations
+pub mod Best
+pub mod Ends
+pub mod Sameness
+pub mod Majority
+pub mod Ballots
+pub mod Reorg
+pub mod Proposal

@@ -1,0 +1,126 @@
+-- Receive: the new entries of a packet wait at the tables' ends; the first proposal of the slot comes into view. Assumes nothing.
+use Prim.Native.Nat.{ℕ, _*_, _-_, _/_}
+use mathlib.Core.Bool.{Bool, true, false, not, _&&_, _||_, cond}
+use mathlib.Core.List.{List, [], _∷_, _++_}
+use lib.ListN.{length, drop}
+use lib.Dec.{eqb, leb, ltb}
+use Rattle.protocol.specs.declared.Settings.{Settings}
+use Rattle.protocol.specs.declared.Block.{Block}
+use Rattle.protocol.specs.declared.Vote.{Vote}
+use Rattle.protocol.specs.Lists.{any, all}
+use Rattle.protocol.specs.Chain.{Found, found, missing, find, foundWith, known, above}
+use Rattle.protocol.specs.Store.{entries, allWaiting, show, sameBlock, sameVote, Places, Node}
+use Rattle.protocol.specs.Sound.{between}
+use Rattle.protocol.specs.Packet.{Packet, packetOf, wellFormed}
+use Rattle.protocol.specs.Refusal.{Test, test, first, Outcome, unless, unsound, wrongBeat}
+
+-- ---- what is stored: an entry that is not known yet goes to the end
+
+unfoldable pub addBlock : List Block → Block → List Block
+addBlock bs b = cond (known bs (b .number)) bs (bs ++ (b ∷ []))
+
+unfoldable pub addBlocks : List Block → List Block → List Block
+addBlocks bs [] = bs
+addBlocks bs (c ∷ cs) = addBlocks (addBlock bs c) cs
+
+unfoldable pub addVote : List Vote → Vote → List Vote
+addVote vs a = cond (any (sameVote a) vs) vs (vs ++ (a ∷ []))
+
+unfoldable pub addVotes : List Vote → List Vote → List Vote
+addVotes vs [] = vs
+addVotes vs (a ∷ rest) = addVotes (addVote vs a) rest
+
+unfoldable pub blocksAfter : Node → Packet → List Block
+blocksAfter x p = addBlocks (entries (x .blocks)) (p .blocks)
+
+unfoldable pub votesAfter : Node → Packet → List Vote
+votesAfter x p = addVotes (entries (x .votes)) (p .votes)
+
+-- ---- the rules of refusal 9, at a beat of this slot
+
+unfoldable pub knownAs : Block → Found → Bool
+knownAs b missing = true
+knownAs b (found c) = sameBlock c b
+
+unfoldable pub blockAllowed : ℕ → List Block → Block → Bool
+blockAllowed slot before b =
+    between 1 slot (b .slot)
+    && (foundWith (λ p. ltb (p .slot) (b .slot)) (find before (b .parent)) && knownAs b (find before (b .number)))
+
+-- the store and earlier entries count as known
+unfoldable pub blocksAllowed : ℕ → List Block → List Block → Bool
+blocksAllowed slot before [] = true
+blocksAllowed slot before (b ∷ bs) = blockAllowed slot before b && blocksAllowed slot (addBlock before b) bs
+
+unfoldable pub voteAllowed : ℕ → ℕ → List Block → Vote → Bool
+voteAllowed n slot bs a =
+    ltb (a .voter) n && (between 1 slot (a .slot) && foundWith (λ b. leb (b .slot) (a .slot)) (find bs (a .number)))
+
+-- a proposal's block is among the packet's, with the header's slot
+unfoldable pub headerAllowed : Packet → Bool
+headerAllowed p = eqb (p .kind) 0 || any (λ b. eqb (b .number) (p .number) && eqb (b .slot) (p .slot)) (p .blocks)
+
+unfoldable pub packetAllowed : ℕ → ℕ → Node → Packet → Bool
+packetAllowed n slot x p =
+    blocksAllowed slot (entries (x .blocks)) (p .blocks)
+    && (all (voteAllowed n slot (blocksAfter x p)) (p .votes) && headerAllowed p)
+
+-- ---- what comes into view
+
+-- a proposal of the beat's slot, in phase 0, as the first of that slot
+unfoldable pub brings : Node → ℕ → Packet → Bool
+brings x beat p = eqb (p .kind) 1 && (eqb (p .slot * 3) beat && not (eqb (x .clock .proposed) (p .slot)))
+
+-- a block that the packet's entries stand on: one of its blocks, one that its votes are for, or an ancestor of these
+unfoldable pub stoodOn : List Block → Packet → Block → Bool
+stoodOn bs p b =
+    any (λ c. above bs (c .number) (b .number)) (p .blocks) || any (λ a. above bs (a .number) (b .number)) (p .votes)
+
+-- ---- the call
+
+unfoldable pub receiveTests : Settings → Places → Node → ℕ → List ℕ → List Test
+receiveTests s pl x beat bytes =
+    let p = packetOf bytes in
+    unsound s pl x
+    ∷ wrongBeat x beat
+    ∷ test 8 (not (wellFormed bytes))
+    ∷ test 9 (not (packetAllowed (s .nodes) (beat / 3) x p))
+    ∷ test 10 (ltb (pl .blocks) (length (blocksAfter x p)) || ltb (pl .votes) (length (votesAfter x p)))
+    ∷ []
+
+-- how many entries were new, and whether the packet came into view
+pub record Received : Type 0 where
+  pub newBlocks : ℕ
+  pub newVotes : ℕ
+  pub brought : Bool
+
+unfoldable pub receivedOf : Node → ℕ → Packet → Received
+receivedOf x beat p =
+    record {
+      newBlocks = length (blocksAfter x p) - length (x .blocks);
+      newVotes = length (votesAfter x p) - length (x .votes);
+      brought = brings x beat p;
+    }
+
+unfoldable pub receiveInto : Bool → ℕ → Node → Packet → Node
+receiveInto brought beat x p =
+    record {
+      blocks =
+          show (λ b. brought && stoodOn (blocksAfter x p) p b)
+          (x .blocks ++ allWaiting (drop (length (x .blocks)) (blocksAfter x p)));
+      votes =
+          show (λ a. brought && any (sameVote a) (p .votes))
+          (x .votes ++ allWaiting (drop (length (x .votes)) (votesAfter x p)));
+      clock =
+          record {
+            seen = beat;
+            done = x .clock .done;
+            merged = x .clock .merged;
+            proposed = cond brought (p .slot) (x .clock .proposed);
+          };
+    }
+
+unfoldable pub receive : Settings → Places → Node → ℕ → List ℕ → Outcome Received
+receive s pl x beat bytes =
+    let p = packetOf bytes in
+    unless (first (receiveTests s pl x beat bytes)) x (receivedOf x beat p) (receiveInto (brings x beat p) beat x p)

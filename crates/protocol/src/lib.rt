@@ -1,0 +1,31 @@
+// The records that code and definitions share. Assumes nothing.
+
+// What a node is opened with.
+pub struct Settings {
+    pub nodes: u64,
+    pub own: u64,
+    pub expiry: u64,
+    pub depth: u64,
+}
+
+// What a node knows of time: the beat last seen, the last beat done, the slot last merged,
+// and the slot of the last proposal that was made or brought into view.
+pub struct Clock {
+    pub seen: u64,
+    pub done: u64,
+    pub merged: u64,
+    pub proposed: u64,
+}
+
+pub struct Block {
+    pub number: u64,
+    pub parent: u64,
+    pub slot: u64,
+}
+
+// A voter's vote of a slot for the block with this number.
+pub struct Vote {
+    pub voter: u64,
+    pub slot: u64,
+    pub number: u64,
+}

@@ -8,3 +8,4 @@ pub mod Store
 pub mod Packet
 pub mod Calls
 pub mod Exchange
+pub mod Cases

@@ -1,0 +1,132 @@
+-- Document 01's starred cases, as one table over the definitions, and rows of our own that tell its five shortcuts from the rule.
+-- Assumes nothing.
+use Prim.Native.Nat.{ℕ}
+use mathlib.Core.Path.{_≡_, refl}
+use mathlib.Core.List.{List, [], _∷_}
+use Rattle.protocol.specs.declared.Block.{Block}
+use Rattle.protocol.specs.declared.Vote.{Vote}
+use Rattle.protocol.specs.Lists.{any, all}
+use Rattle.protocol.specs.Chain.{genesis, find, foundWith, slotIn, upGo, upStep, aboveIn, above}
+use Rattle.protocol.specs.Filters.{conflict, equivocates, counted, window, later, latest, chosen, nothing, choiceOf, kept}
+use Rattle.protocol.specs.Walk.{count, supports, weight, isChild, beats, better, bestChild, walkStep, walkIn, walk, weightAt, head, base}
+use Rattle.protocol.specs.Confirm.{deepGo, deepStep, deepIn, deepFrom, deep, voteIn, validVote, quorum, heightGo, heightStep, heightIn, height, higher, highest, numberIn, fast}
+use Rattle.protocol.specs.Store.{waiting, visible, allWaiting, entries, inView, show, sameBlock, sameVote, fresh}
+use Rattle.protocol.specs.Sound.{between, settingsSound, placesSound, clockSound, restSound, blocksSound, votesSound, sound}
+use Rattle.protocol.specs.Packet.{bytesOf, numberOf, field, flat, section, entriesAt, headBytes, blockBytes, voteBytes, packetAs, blockAt, voteAt, packetAt, packetBytes, packetOf, headerFormed, wellFormed}
+use Rattle.protocol.specs.Refusal.{first, Outcome, unless}
+use Rattle.protocol.specs.Calls.Receive.{addBlock, addBlocks, addVote, addVotes, blocksAfter, votesAfter, knownAs, blockAllowed, blocksAllowed, voteAllowed, headerAllowed, packetAllowed, brings, stoodOn, receiveTests, Received, receivedOf, receiveInto, receive}
+
+abbrev pub block : ℕ → ℕ → ℕ → Block
+block x p s = record { number = x; parent = p; slot = s }
+
+abbrev pub vote : ℕ → ℕ → ℕ → Vote
+vote v s x = record { voter = v; slot = s; number = x }
+
+-- ---- "n = 5, E = 2. Blocks 11 (parent 0, slot 1), 21 (parent 0, slot 2), 31 (parent 11, slot 3)."
+
+abbrev pub blocks : List Block
+blocks = genesis ∷ block 11 0 1 ∷ block 21 0 2 ∷ block 31 11 3 ∷ []
+
+-- "Votes, all in view: 0 in slot 1 for 11; 1 in slot 2 for 21; 4 in slot 2 for 11; 2 in slot 3 for 31; 3 in slot 3 for 21."
+abbrev pub votes : List Vote
+votes = vote 0 1 11 ∷ vote 1 2 21 ∷ vote 4 2 11 ∷ vote 2 3 31 ∷ vote 3 3 21 ∷ []
+
+abbrev pub headFor : List Vote → ℕ → ℕ
+headFor vs t = head blocks vs 5 2 t
+
+abbrev pub deepWith : ℕ → ℕ
+deepWith K = deep blocks votes 5 2 K 4
+
+-- "With only 0, 1, 2 in slot 3 for 31"
+abbrev pub three : List Vote
+three = vote 0 3 31 ∷ vote 1 3 31 ∷ vote 2 3 31 ∷ []
+
+pub record Starred : Type 0 where
+  pub head-4 : headFor votes 4 ≡ 31
+  pub head-3 : headFor votes 3 ≡ 31
+  pub base-3 : base blocks votes 5 2 3 ≡ 11
+  pub node-4-added : headFor (vote 4 3 21 ∷ votes) 4 ≡ 21
+  pub node-3-added : headFor (vote 3 3 31 ∷ votes) 4 ≡ 31
+  pub deep-1 : deepWith 1 ≡ 31
+  pub deep-2 : deepWith 2 ≡ 11
+  pub deep-3 : deepWith 3 ≡ 11
+  pub deep-4 : deepWith 4 ≡ 0
+  pub fast-3 : fast blocks votes 5 3 ≡ nothing
+  pub fast-three : fast blocks three 5 3 ≡ nothing
+  pub fast-four : fast blocks (vote 4 3 11 ∷ three) 5 3 ≡ chosen 11
+
+pub starred : Starred
+unfolding any find slotIn upGo upStep aboveIn above conflict equivocates counted window later latest choiceOf kept count supports weight isChild beats better bestChild walkStep walkIn walk weightAt head base deepGo deepStep deepIn deepFrom deep voteIn validVote quorum heightGo heightStep heightIn height higher highest numberIn fast
+starred =
+    record {
+      head-4 = refl;
+      head-3 = refl;
+      base-3 = refl;
+      node-4-added = refl;
+      node-3-added = refl;
+      deep-1 = refl;
+      deep-2 = refl;
+      deep-3 = refl;
+      deep-4 = refl;
+      fast-3 = refl;
+      fast-three = refl;
+      fast-four = refl;
+    }
+
+-- ---- document 01's shortcuts, each told from the rule by a row
+
+-- "Expiring before (1), which forgets double votes": voter 2 has two votes of slot 1, which is too old for slot 4
+abbrev pub doubled : List Vote
+doubled = vote 2 1 11 ∷ vote 2 1 0 ∷ votes
+
+-- "Taking the latest vote before expiry, so a vote of slot t hides an older one": 0 and 4 vote in slot 3 too
+abbrev pub hiding : List Vote
+hiding = vote 0 3 21 ∷ vote 4 3 21 ∷ votes
+
+-- "Breaking ties by arrival": 21 arrives before 11
+abbrev pub arrived : List Block
+arrived = genesis ∷ block 21 0 2 ∷ block 11 0 1 ∷ block 31 11 3 ∷ []
+
+-- "Bringing gossip into view on arrival": a fresh node hears of block 11
+abbrev pub heard : Outcome Received
+heard =
+    receive (record { nodes = 5; own = 0; expiry = 2; depth = 3 }) (record { blocks = 4; votes = 4 }) fresh 3
+    (packetBytes (record { kind = 0; slot = 0; number = 0; blocks = block 11 0 1 ∷ []; votes = vote 1 1 11 ∷ [] }))
+
+pub record Told : Type 0 where
+  pub double-votes-last : headFor doubled 4 ≡ 21
+  pub slot-t-hides-nothing : headFor hiding 3 ≡ 31
+  pub slot-t-does-not-count : headFor (vote 4 3 21 ∷ votes) 3 ≡ 31
+  pub gossip-waits : heard .node .blocks ≡ visible genesis ∷ waiting (block 11 0 1) ∷ []
+  pub gossip-votes-wait : heard .node .votes ≡ waiting (vote 1 1 11) ∷ []
+  pub ties-by-number : head arrived votes 5 2 4 ≡ 31
+
+pub told : Told
+unfolding any find slotIn upGo upStep aboveIn above conflict equivocates counted window later latest choiceOf kept count supports weight isChild beats better bestChild walkStep walkIn walk weightAt head base deepGo deepStep deepIn deepFrom deep voteIn validVote quorum heightGo heightStep heightIn height higher highest numberIn fast foundWith receive receiveTests receivedOf receiveInto packetAllowed blocksAllowed blockAllowed knownAs headerAllowed voteAllowed blocksAfter votesAfter addBlocks addBlock addVotes addVote brings stoodOn first unless sound settingsSound placesSound clockSound blocksSound restSound votesSound between all sameBlock sameVote entries inView show allWaiting packetBytes packetAs headBytes blockBytes voteBytes section flat bytesOf packetOf packetAt entriesAt blockAt voteAt field numberOf wellFormed headerFormed
+told =
+    record {
+      double-votes-last = refl;
+      slot-t-hides-nothing = refl;
+      slot-t-does-not-count = refl;
+      gossip-waits = refl;
+      gossip-votes-wait = refl;
+      ties-by-number = refl;
+    }
+
+-- ---- the same at the last slots that there are
+
+abbrev pub lateBlocks : List Block
+lateBlocks = genesis ∷ block 11 0 999999997 ∷ block 21 0 999999998 ∷ block 31 11 999999999 ∷ []
+
+abbrev pub lateVotes : List Vote
+lateVotes = vote 1 999999998 21 ∷ vote 2 999999999 31 ∷ vote 3 999999999 31 ∷ vote 4 999999999 31 ∷ vote 0 999999999 11 ∷ []
+
+pub record Late : Type 0 where
+  pub late-head : head lateBlocks lateVotes 5 2 1000000000 ≡ 31
+  pub late-base : base lateBlocks lateVotes 5 2 999999999 ≡ 21
+  pub late-deep : deep lateBlocks lateVotes 5 2 3 1000000000 ≡ 11
+  pub late-fast : fast lateBlocks lateVotes 5 999999999 ≡ chosen 11
+
+pub late : Late
+unfolding any find slotIn upGo upStep aboveIn above conflict equivocates counted window later latest choiceOf kept count supports weight isChild beats better bestChild walkStep walkIn walk weightAt head base deepGo deepStep deepIn deepFrom deep voteIn validVote quorum heightGo heightStep heightIn height higher highest numberIn fast
+late = record { late-head = refl; late-base = refl; late-deep = refl; late-fast = refl }

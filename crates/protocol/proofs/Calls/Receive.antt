@@ -140,11 +140,11 @@ module _ (s : Settings) (pl : Places) (x : Node) (beat : ℕ) (bytes : List ℕ)
   unfolding stoodOn
   under-holds c (by-block d m r) =
       or-left (any (λ o. above (blocksAfter x packet) (o .number) (c .number)) (packet .blocks)) _
-      (any-holds (λ o. above (blocksAfter x packet) (o .number) (c .number)) d m (rw stored-are at (above-holds all-sound (d, stores-blocks d m, refl) r)))
+      (any-holds (λ o. above (blocksAfter x packet) (o .number) (c .number)) d m (rw stored-are at (above-holds all-sound r)))
   under-holds c (by-vote a m r) =
       let o = vote-ok a m .on in
       or-right (any (λ o. above (blocksAfter x packet) (o .number) (c .number)) (packet .blocks)) _
-      (any-holds (λ o. above (blocksAfter x packet) (o .number) (c .number)) a m (rw stored-are at (above-holds all-sound (o .0, o .1, o .2) r)))
+      (any-holds (λ o. above (blocksAfter x packet) (o .number) (c .number)) a m (rw stored-are at (above-holds all-sound r)))
 
   pub keeps-view : (c : Block) → In c (inView (x .blocks)) → In c (inView (after .blocks))
   keeps-view c m = rw blocks-are (grown-keeps shownBlock (x .blocks) (added .extra) c m)

@@ -14,7 +14,6 @@ use Rattle.protocol.specs.Chain.{Found, found, missing, find, slotIn, ge
 use Rattle.protocol.proofs.Basics.Tests.{either, or-left, or-right, same-test}
 use Rattle.protocol.proofs.Chain.Find.{find-in, find-is}
 use Rattle.protocol.proofs.Chain.Relations.{In, Known, Sound, Above, here, up}
-use Rattle.protocol.proofs.Walk.Relations.{IsChild}
 
 -- ---- the relation
 
@@ -25,10 +24,6 @@ above-cast e (up c m q z r) = up c m (q ∙ e) (rw e at z) r
 pub above-trans : {bs : List Block} {a b x : ℕ} → Above bs b x → Above bs a b → Above bs a x
 above-trans (here q) s = above-cast (sym q) s
 above-trans (up c m q z r) s = up c m q z (above-trans r s)
-
--- a child is above its parent
-pub child-above : {bs : List Block} {lim a : ℕ} (c : Block) → In c bs → IsChild lim a c → Above bs a (c .number)
-child-above c m h = up c m refl (h .late) (here (h .under))
 
 -- x is a itself, or at or above some child of a
 pub above-split : {bs : List Block} {a x : ℕ} → Above bs a x
@@ -122,7 +117,7 @@ module _ {bs : List Block} (S : Sound bs) where
 
   -- ---- the test
 
-  pub aboveIn-true : (k x b : ℕ) → aboveIn bs k x b ≡ true → Above bs b x
+  aboveIn-true : (k x b : ℕ) → aboveIn bs k x b ≡ true → Above bs b x
   unfolding aboveIn upStep upGo
   aboveIn-true zero x b e = here (eqb-true x b e)
   aboveIn-true (suc k) x b e = go (either (eqb x b) _ e) (λ y h. aboveIn-true k y b h)
@@ -140,11 +135,16 @@ module _ {bs : List Block} (S : Sound bs) where
       go (inl h) rec = here (eqb-true x b h)
       go (inr h) rec = there (find bs x) refl h rec
 
+  aboveIn-here : (k x b : ℕ) → x ≡ b → aboveIn bs k x b ≡ true
+  unfolding aboveIn
+  aboveIn-here zero x b q = eq-eqb x b q
+  aboveIn-here (suc k) x b q = or-left (eqb x b) _ (eq-eqb x b q)
+
   -- as many steps as the slot says are enough
-  pub aboveIn-enough : (k : ℕ) {b x : ℕ} (c : Block) → In c bs → c .number ≡ x → c .slot ≤ k → Above bs b x → aboveIn bs k x b ≡ true
+  aboveIn-enough : (k : ℕ) {b x : ℕ} (c : Block) → In c bs → c .number ≡ x → c .slot ≤ k → Above bs b x → aboveIn bs k x b ≡ true
   unfolding aboveIn upStep upGo
-  aboveIn-enough zero {b} {x} c m e l (here q) = eq-eqb x b q
-  aboveIn-enough (suc k) {b} {x} c m e l (here q) = or-left (eqb x b) _ (eq-eqb x b q)
+  aboveIn-enough zero {b} {x} c m e l (here q) = aboveIn-here zero x b q
+  aboveIn-enough (suc k) {b} {x} c m e l (here q) = aboveIn-here (suc k) x b q
   aboveIn-enough zero {b} {x} c m e l (up g n q z r) =
       let p = S .parents c m (rw (← e) at z) in
       absurd (omega (arith, p .3))
@@ -159,11 +159,12 @@ module _ {bs : List Block} (S : Sound bs) where
   unfolding above
   above-true x b e = aboveIn-true (slotIn (find bs x)) x b e
 
-  pub above-holds : {x b : ℕ} → Known bs x → Above bs b x → above bs x b ≡ true
+  pub above-holds : {x b : ℕ} → Above bs b x → above bs x b ≡ true
   unfolding above slotIn
-  above-holds {x} {b} k r =
-      let f : find bs x ≡ found (k .0) = ap (find bs) (sym (k .2)) ∙ find-is bs S (k .0) (k .1) in
-      rw f (aboveIn-enough (k .0 .slot) (k .0) (k .1) (k .2) (omega arith) r)
+  above-holds {x} {b} (here q) = aboveIn-here (slotIn (find bs x)) x b q
+  above-holds {x} {b} (up c m q z r) =
+      let f : find bs x ≡ found c = ap (find bs) (sym q) ∙ find-is bs S c m in
+      rw f (aboveIn-enough (c .slot) c m q (omega arith) (up c m q z r))
 
 -- ---- two lists of blocks, one within the other
 
@@ -182,6 +183,5 @@ module _ {bs cs : List Block} (S : Sound bs) (R : Sound cs) (f : (c : Block) →
 
   pub above-within : (x b : ℕ) → Known bs x → above bs x b ≡ above cs x b
   above-within x b k =
-      let l : Known cs x = (k .0, f (k .0) (k .1), k .2) in
-      same-test (above bs x b) (above cs x b) (λ h. above-holds R l (above-mono f (above-true S x b h)))
-      (λ h. above-holds S k (above-back k (above-true R x b h)))
+      same-test (above bs x b) (above cs x b) (λ h. above-holds R (above-mono f (above-true S x b h)))
+      (λ h. above-holds S (above-back k (above-true R x b h)))

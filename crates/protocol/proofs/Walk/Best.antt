@@ -13,8 +13,8 @@ use Rattle.protocol.specs.Chain.{Found, found, missing, genesis}
 use Rattle.protocol.specs.Walk.{isChild, beats, better, bestChild, walkStep, walkIn, walk}
 use Rattle.protocol.proofs.Basics.Members.{Adds, adds-cons}
 use Rattle.protocol.proofs.Basics.Tests.{facts, tests, both, either, or-left, or-right, clashing}
-use Rattle.protocol.proofs.Chain.Above.{above-trans, child-above}
-use Rattle.protocol.proofs.Chain.Relations.{In, Known, Sound, Above, here}
+use Rattle.protocol.proofs.Chain.Above.{above-trans}
+use Rattle.protocol.proofs.Chain.Relations.{In, Known, Sound, Above, here, up}
 use Rattle.protocol.proofs.Walk.Relations.{IsChild, Beats, IsBest, Walk, stop, step}
 
 -- ---- children
@@ -26,6 +26,10 @@ child-true lim a c e = search facts
 pub child-holds : (lim a : ℕ) (c : Block) → IsChild lim a c → isChild lim a c ≡ true
 unfolding isChild
 child-holds lim a c h = search tests
+
+-- a child is above its parent
+pub child-above : {bs : List Block} {lim a : ℕ} (c : Block) → In c bs → IsChild lim a c → Above bs a (c .number)
+child-above c m h = up c m refl (h .late) (here (h .under))
 
 -- ---- the best child
 
@@ -64,7 +68,7 @@ beats-false w d c e = (heavy, λ q. tie (sym q) (ltb (d .number) (c .number)) re
     tie q true h = absurd (clashing (or-right (ltb (w (c .number)) (w (d .number))) (eqb (w (c .number)) (w (d .number)) && ltb (d .number) (c .number)) (both (eq-eqb (w (c .number)) (w (d .number)) q) h)) e)
     tie q false h = ltb-false (d .number) (c .number) h
 
--- what `best` answers
+-- what `bestChild` answers
 abbrev pub BestIs : (ℕ → ℕ) → ℕ → ℕ → List Block → Found → Type 0
 BestIs w lim a bs missing = (d : Block) → In d bs → IsChild lim a d → ⊥
 BestIs w lim a bs (found c) = IsBest w bs lim a c
@@ -128,19 +132,19 @@ module _ (w : ℕ → ℕ) {bs : List Block} (S : Sound bs) (lim : ℕ) where
       let s : p .0 .slot ≡ c .slot = ap (λ o. o .slot) (S .unique (p .0) c (p .1) m (p .2 ∙ k .under ∙ sym e)) in
       omega (arith, p .3)
 
-  pub walkIn-walks : (k a : ℕ) (c : Block) → In c bs → c .number ≡ a → lim ≤ c .slot + k → Walk w bs lim (walkIn w bs lim k a) a
+  pub walkIn-is : (k a : ℕ) (c : Block) → In c bs → c .number ≡ a → lim ≤ c .slot + k → Walk w bs lim (walkIn w bs lim k a) a
   unfolding walkIn walkStep
-  walkIn-walks zero a c m e l = stop refl (λ d n k. absurd (omega (arith, child-later c d m e n k, k .early)))
-  walkIn-walks (suc k) a c m e l = go (bestChild w lim a bs) (best-is w lim a bs) (λ d n h. walkIn-walks k (d .number) d n refl (omega (arith, child-later c d m e n h)))
+  walkIn-is zero a c m e l = stop refl (λ d n k. absurd (omega (arith, child-later c d m e n k, k .early)))
+  walkIn-is (suc k) a c m e l = go (bestChild w lim a bs) (best-is w lim a bs) (λ d n h. walkIn-is k (d .number) d n refl (omega (arith, child-later c d m e n h)))
     where
       go : (f : Found) → BestIs w lim a bs f → ((d : Block) → In d bs → IsChild lim a d → Walk w bs lim (walkIn w bs lim k (d .number)) (d .number)) → Walk w bs lim (walkStep (λ y. walkIn w bs lim k y) a f) a
       go missing b rec = stop refl b
       go (found d) b rec = step d b (rec d (b .mem) (b .child))
 
   -- the walk from block 0
-  pub walk-walks : Walk w bs lim (walk w bs lim) 0
+  pub walk-is : Walk w bs lim (walk w bs lim) 0
   unfolding walk
-  walk-walks = walkIn-walks lim 0 genesis (S .start) refl (omega arith)
+  walk-is = walkIn-is lim 0 genesis (S .start) refl (omega arith)
 
   best-one : {a : ℕ} (c d : Block) → IsBest w bs lim a c → IsBest w bs lim a d → c ≡ d
   best-one c d p q =
@@ -148,7 +152,7 @@ module _ (w : ℕ → ℕ) {bs : List Block} (S : Sound bs) (lim : ℕ) where
       let y = q .top c (p .mem) (p .child) in
       S .unique c d (p .mem) (q .mem) (le-antisymm (x .1 (omega arith)) (y .1 (omega arith)))
 
-  -- whatever is found so is what `best` finds
+  -- whatever is found so is what `bestChild` finds
   pub best-of : (a : ℕ) (f : Found) → BestIs w lim a bs f → bestChild w lim a bs ≡ f
   best-of a f r = go (bestChild w lim a bs) (best-is w lim a bs) f r
     where
@@ -170,7 +174,7 @@ module _ (w : ℕ → ℕ) {bs : List Block} (S : Sound bs) (lim : ℕ) where
 
   -- whatever stops so is the walk
   pub walk-of : {r : ℕ} → Walk w bs lim r 0 → walk w bs lim ≡ r
-  walk-of t = walk-one walk-walks t
+  walk-of t = walk-one walk-is t
 
 -- the walk ends at or above where it starts
 pub walk-above : {w : ℕ → ℕ} {bs : List Block} {lim r a : ℕ} → Walk w bs lim r a → Above bs a r

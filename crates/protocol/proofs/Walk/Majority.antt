@@ -9,15 +9,14 @@ use native.Mathlib.Omega.{arith}
 use lib.Dec.{eqb}
 use borrow.Author.Tests.{eqb-true, eqb-false}
 use Rattle.protocol.specs.declared.Block.{Block}
-use Rattle.protocol.specs.Chain.{Found, found, missing, find, slotIn, above, aboveIn}
+use Rattle.protocol.specs.Chain.{above}
 use Rattle.protocol.specs.Filters.{Choice, chosen, nothing}
 use Rattle.protocol.specs.Walk.{supports, weight, count, walk}
 use Rattle.protocol.proofs.Basics.Counting.{count-mono}
 use Rattle.protocol.proofs.Basics.Tests.{not-passes}
-use Rattle.protocol.proofs.Chain.Above.{above-trans, child-above, above-split, above-slot, siblings-apart, above-true, above-holds, above-start}
-use Rattle.protocol.proofs.Chain.Find.{find-in}
-use Rattle.protocol.proofs.Chain.Relations.{In, Known, Sound, Above, here}
-use Rattle.protocol.proofs.Walk.Best.{walk-above, walk-walks}
+use Rattle.protocol.proofs.Chain.Above.{above-trans, above-split, above-slot, siblings-apart, above-true, above-holds, above-start}
+use Rattle.protocol.proofs.Chain.Relations.{In, Sound, Above, here}
+use Rattle.protocol.proofs.Walk.Best.{child-above, walk-above, walk-is}
 use Rattle.protocol.proofs.Walk.Relations.{IsChild, Walk, stop, step}
 
 module _ {bs : List Block} (S : Sound bs) (B : Block) (inside : In B bs) (lim : ℕ) (soon : B .slot < lim) (w : ℕ → ℕ) where
@@ -52,28 +51,19 @@ module _ {bs : List Block} (S : Sound bs) (B : Block) (inside : In B bs) (lim : 
       go (inl q) rec = above-trans (walk-above t) (rw (← q) at (child-above c (p .mem) (p .child)))
       go (inr (d, m, q, z, o)) rec = turn d m q z o (eqb (d .number) (c .number)) refl rec
 
--- a number at or above a known block is known
-pub above-known : (bs : List Block) (x b : ℕ) → Known bs b → above bs x b ≡ true → Known bs x
-unfolding above slotIn aboveIn
-above-known bs x b k e = go (find bs x) refl e
-  where
-    go : (f : Found) → find bs x ≡ f → aboveIn bs (slotIn f) x b ≡ true → Known bs x
-    go (found c) q h = let i = find-in bs x c q in (c, i .0, i .1)
-    go missing q h = (k .0, k .1, k .2 ∙ sym (eqb-true x b h))
-
 module _ {bs : List Block} (S : Sound bs) (k : ℕ → Choice) (n : ℕ) where
   -- a vote for what stands above B backs all that B stands on
-  pub backs-down : (B c : ℕ) (o : Choice) → Known bs B → Above bs c B → supports bs o B ≡ true → supports bs o c ≡ true
+  pub supports-down : (B c : ℕ) (o : Choice) → Above bs c B → supports bs o B ≡ true → supports bs o c ≡ true
   unfolding supports
-  backs-down B c nothing m r h = h
-  backs-down B c (chosen x) m r h = above-holds S (above-known bs x B m h) (above-trans (above-true S x B h) r)
+  supports-down B c nothing r h = h
+  supports-down B c (chosen x) r h = above-holds S (above-trans (above-true S x B h) r)
 
   -- a vote cannot back two children of one block
-  pub backs-apart : (c d : Block) → In c bs → In d bs → 0 < c .number → 0 < d .number → c .parent ≡ d .parent → (c .number ≡ d .number → ⊥)
+  pub supports-apart : (c d : Block) → In c bs → In d bs → 0 < c .number → 0 < d .number → c .parent ≡ d .parent → (c .number ≡ d .number → ⊥)
       → (o : Choice) → supports bs o (c .number) ≡ true → supports bs o (d .number) ≡ true → ⊥
   unfolding supports
-  backs-apart c d m l y z e f nothing p q = false≢true p
-  backs-apart c d m l y z e f (chosen x) p q = f (siblings-apart S c d m l y z e (above-true S x (c .number) p) (above-true S x (d .number) q))
+  supports-apart c d m l y z e f nothing p q = false≢true p
+  supports-apart c d m l y z e f (chosen x) p q = f (siblings-apart S c d m l y z e (above-true S x (c .number) p) (above-true S x (d .number) q))
 
   module _ (B : Block) (inside : In B bs) (H X : ℕ → Bool) (more : count X n < count H n)
       (for : (v : ℕ) → v < n → H v ≡ true → supports bs (k v) (B .number) ≡ true)
@@ -84,15 +74,15 @@ module _ {bs : List Block} (S : Sound bs) (k : ℕ → Choice) (n : ℕ) where
     unfolding supports
     rival c d m l y z e r f v h nothing q b = absurd (false≢true b)
     rival c d m l y z e r f v h (chosen x) q b =
-        against v x h q (not-passes (λ t. backs-apart c d m l y z e f (chosen x) (backs-down (B .number) (c .number) (chosen x) (B, inside, refl) r t) b))
+        against v x h q (not-passes (λ t. supports-apart c d m l y z e f (chosen x) (supports-down (B .number) (c .number) (chosen x) r t) b))
 
     pub weight-leads : (lim : ℕ) (soon : B .slot < lim) → Leads S B inside lim soon (weight bs k n)
     unfolding weight
     weight-leads lim soon c d m l y z e r f =
         lt-of-le-of-lt (count-mono (λ v. supports bs (k v) (d .number)) X n (λ v h b. rival c d m l y z e r f v h (k v) refl b))
-        (lt-of-lt-of-le more (count-mono H (λ v. supports bs (k v) (c .number)) n (λ v h t. backs-down (B .number) (c .number) (k v) (B, inside, refl) r (for v h t))))
+        (lt-of-lt-of-le more (count-mono H (λ v. supports bs (k v) (c .number)) n (λ v h t. supports-down (B .number) (c .number) (k v) r (for v h t))))
 
     -- the walk ends at B or above it
     pub majority : (lim : ℕ) → B .slot < lim → Above bs (B .number) (walk (weight bs k n) bs lim)
     majority lim soon =
-        walk-leads S B inside lim soon (weight bs k n) (weight-leads lim soon) (walk-walks (weight bs k n) S lim) (above-start S B inside)
+        walk-leads S B inside lim soon (weight bs k n) (weight-leads lim soon) (walk-is (weight bs k n) S lim) (above-start S B inside)

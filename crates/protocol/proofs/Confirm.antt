@@ -1,2 +1,4 @@
 -- Confirm. Assumes nothing.
+pub mod Height
+pub mod Deep
 pub mod Quorum

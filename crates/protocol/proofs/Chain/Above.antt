@@ -52,12 +52,16 @@ module _ {bs : List Block} (S : Sound bs) where
       go (inl e) = (genesis, S .start, ap (λ o. o .parent) (sym (S .unique c genesis m (S .start) e)))
       go (inr z) = let p = S .parents c m z in (p .0, p .1, p .2)
 
-  start-within : (k : ℕ) (c : Block) → In c bs → c .slot ≤ k → Above bs 0 (c .number)
-  start-within zero c m l = go (eq-zero-or-pos (c .number))
+  -- only block 0 has slot 0
+  pub slot-start : (c : Block) → In c bs → c .slot ≤ 0 → c .number ≡ 0
+  slot-start c m l = go (eq-zero-or-pos (c .number))
     where
-      go : (c .number ≡ 0) ⊎ (0 < c .number) → Above bs 0 (c .number)
-      go (inl e) = here e
+      go : (c .number ≡ 0) ⊎ (0 < c .number) → c .number ≡ 0
+      go (inl e) = e
       go (inr z) = let p = S .parents c m z in absurd (omega (arith, p .3))
+
+  start-within : (k : ℕ) (c : Block) → In c bs → c .slot ≤ k → Above bs 0 (c .number)
+  start-within zero c m l = here (slot-start c m l)
   start-within (suc k) c m l = go (eq-zero-or-pos (c .number)) (λ d n h. start-within k d n h)
     where
       go : (c .number ≡ 0) ⊎ (0 < c .number) → ((d : Block) → In d bs → d .slot ≤ k → Above bs 0 (d .number)) → Above bs 0 (c .number)

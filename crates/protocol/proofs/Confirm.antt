@@ -1,4 +1,6 @@
 -- Confirm. Assumes nothing.
 pub mod Height
 pub mod Deep
+pub mod Votes
 pub mod Quorum
+pub mod Fast

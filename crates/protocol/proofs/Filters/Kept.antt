@@ -15,6 +15,14 @@ use Rattle.protocol.proofs.Basics.Members.{Adds, adds-cons}
 use Rattle.protocol.proofs.Basics.Tests.{facts, tests, both, and-left, and-right, either, or-left, or-right, clashing, same-test}
 use Rattle.protocol.proofs.Filters.Relations.{Cast, SameFor, InWindow, Equivocation, IsLast}
 
+-- ---- choices
+
+pub chosen-inj : {x y : ℕ} → chosen x ≡ chosen y → x ≡ y
+chosen-inj e = cc
+
+pub not-chosen : {x : ℕ} → nothing ≡ chosen x → ⊥
+not-chosen e = let z : _≡_ {A = ℕ} 0 1 = cc in omega arith
+
 -- ---- some vote passes
 
 pub any-true : (p : Vote → Bool) (vs : List Vote) → any p vs ≡ true → (a : Vote) × Cast a vs × (p a ≡ true)

@@ -16,6 +16,7 @@ use Rattle.protocol.specs.Chain.{genesis, above}
 use Rattle.protocol.specs.Store.{entries, inView, allWaiting, show, sameVote, Places, Node}
 use Rattle.protocol.specs.Packet.{Packet, packetOf}
 use Rattle.protocol.specs.Calls.Receive.{voteAllowed, blocksAllowed, blocksAfter, votesAfter, packetAllowed, brings, stoodOn, receiveInto}
+use Rattle.protocol.proofs.Basics.Members.{any-true, any-holds, all-true}
 use Rattle.protocol.proofs.Basics.Tests.{facts, both, and-left, and-right, either, or-left, or-right}
 use Rattle.protocol.proofs.Chain.Above.{above-true, above-holds, above-trans}
 use Rattle.protocol.proofs.Chain.Relations.{In, Known, Sound, Above, here, up}
@@ -23,7 +24,7 @@ use Rattle.protocol.proofs.Filters.Relations.{Cast}
 use Rattle.protocol.proofs.Store.Growth.{Added, added-blocks, AddedVotes, added-votes, table-grow, show-append}
 use Rattle.protocol.proofs.Store.Sound.{VoteSound, vote-true, vote-later, ClockSound, IsSound, store-sound}
 use Rattle.protocol.proofs.Store.Tables.{Table, follow-sound}
-use Rattle.protocol.proofs.Store.Views.{any-true, any-holds, all-true, entries-show, entries-waiting, length-entries, vote-same, same-vote, grown-entries, grown-keeps, grown-brings, grown-from, grown-none}
+use Rattle.protocol.proofs.Store.Views.{entries-show, entries-waiting, length-entries, vote-same, same-vote, grown-entries, grown-keeps, grown-brings, grown-from, grown-none}
 use Rattle.protocol.proofs.Calls.Passed.{Receives}
 
 module _ (s : Settings) (pl : Places) (x : Node) (beat : ℕ) (bytes : List ℕ) (R : Receives s pl x beat bytes) where

@@ -15,11 +15,12 @@ use Rattle.protocol.specs.Lists.{any}
 use Rattle.protocol.specs.Walk.{base}
 use Rattle.protocol.specs.Store.{entries, inView, waiting, sameVote, Places, Node}
 use Rattle.protocol.specs.Calls.Vote.{headOf}
+use Rattle.protocol.proofs.Basics.Members.{any-true, any-holds}
 use Rattle.protocol.proofs.Basics.Tests.{both, not-passes, clashing}
 use Rattle.protocol.proofs.Filters.Relations.{Cast}
 use Rattle.protocol.proofs.Store.Growth.{distinct-end}
 use Rattle.protocol.proofs.Store.Sound.{VoteSound, vote-later, IsSound, ranges, view-sound}
-use Rattle.protocol.proofs.Store.Views.{any-true, any-holds, entries-append, view-append, view-stored, vote-same}
+use Rattle.protocol.proofs.Store.Views.{entries-append, view-append, view-stored, vote-same}
 use Rattle.protocol.proofs.Calls.Passed.{Votes}
 use Rattle.protocol.specs.Calls.Vote.{voteInto}
 use Rattle.protocol.proofs.Walk.Ends.{head-early}

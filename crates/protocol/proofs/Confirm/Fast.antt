@@ -15,6 +15,7 @@ use Rattle.protocol.specs.Lists.{Same}
 use Rattle.protocol.specs.Chain.{Found, found, missing}
 use Rattle.protocol.specs.Filters.{Choice, chosen, nothing}
 use Rattle.protocol.specs.Confirm.{validVote, quorum, height, higher, highest, numberIn, fast}
+use Rattle.protocol.proofs.Basics.Members.{Adds, adds-cons, adds-all}
 use Rattle.protocol.proofs.Basics.Tests.{clashing}
 use Rattle.protocol.proofs.Chain.Relations.{In, Sound, Above}
 use Rattle.protocol.proofs.Confirm.Height.{height-one, height-same}
@@ -34,41 +35,32 @@ module _ (p : ℕ → Bool) (bs : List Block) where
   FarthestIs cs missing = (d : Block) → In d cs → p (d .number) ≡ true → ⊥
   FarthestIs cs (found c) = IsFarthest p bs cs c
 
-  -- one more block
-  skip : (c : Block) (cs : List Block) (f : Found) → p (c .number) ≡ false → FarthestIs cs f → FarthestIs (c ∷ cs) f
-  unfolding FarthestIs
-  skip c cs missing e r = λ d m h. go d h (List·Memᴰ·cases-cons m)
-    where
-      go : (d : Block) → p (d .number) ≡ true → (d ≡ c) ⊎ In d cs → ⊥
-      go d h (inl q) = clashing (rw q at h) e
-      go d h (inr m) = r d m h
-  skip c cs (found b) e r = record { mem = List·Memᴰ·tail (r .mem); share = r .share; top = λ d m h. go d h (List·Memᴰ·cases-cons m) }
-    where
-      go : (d : Block) → p (d .number) ≡ true → (d ≡ c) ⊎ In d cs → height bs (d .number) ≤ height bs (b .number)
-      go d h (inl q) = absurd (clashing (rw q at h) e)
-      go d h (inr m) = r .top d m h
+  module _ {c : Block} {cs ds : List Block} (A : Adds Block c cs ds) where
+    -- those that pass are no farther than height h
+    within : (h : ℕ) → ((d : Block) → In d cs → p (d .number) ≡ true → height bs (d .number) ≤ h) → (p (c .number) ≡ true → height bs (c .number) ≤ h)
+        → (d : Block) → In d ds → p (d .number) ≡ true → height bs (d .number) ≤ h
+    within h f g = adds-all Block A (λ d. p (d .number) ≡ true → height bs (d .number) ≤ h) f g
 
-  join : (c : Block) (cs : List Block) (f : Found) → p (c .number) ≡ true → FarthestIs cs f → FarthestIs (c ∷ cs) (higher bs c f)
-  unfolding FarthestIs higher
-  join c cs missing e r = record { mem = List·Memᴰ·head refl; share = e; top = λ d m h. go d h (List·Memᴰ·cases-cons m) }
-    where
-      go : (d : Block) → p (d .number) ≡ true → (d ≡ c) ⊎ In d cs → height bs (d .number) ≤ height bs (c .number)
-      go d h (inl q) = le-of-eq (ap (λ o. height bs (o .number)) q)
-      go d h (inr m) = absurd (r d m h)
-  join c cs (found b) e r = go (ltb (height bs (c .number)) (height bs (b .number))) refl
-    where
-      within : (a : Block) → height bs (c .number) ≤ height bs (a .number) → height bs (b .number) ≤ height bs (a .number)
-          → (d : Block) → p (d .number) ≡ true → (d ≡ c) ⊎ In d cs → height bs (d .number) ≤ height bs (a .number)
-      within a x y d h (inl q) = le-trans (le-of-eq (ap (λ o. height bs (o .number)) q)) x
-      within a x y d h (inr m) = le-trans (r .top d m h) y
+    -- one more block that fails
+    skip : (f : Found) → p (c .number) ≡ false → FarthestIs cs f → FarthestIs ds f
+    unfolding FarthestIs
+    skip missing e r = adds-all Block A (λ d. p (d .number) ≡ true → ⊥) r (λ k. clashing k e)
+    skip (found b) e r =
+        record { mem = A .old b (r .mem); share = r .share; top = within (height bs (b .number)) (r .top) (λ k. absurd (clashing k e)) }
 
-      go : (t : Bool) → ltb (height bs (c .number)) (height bs (b .number)) ≡ t → FarthestIs (c ∷ cs) (cond t (found b) (found c))
-      go true f =
-          let l = ltb-true (height bs (c .number)) (height bs (b .number)) f in
-          record { mem = List·Memᴰ·tail (r .mem); share = r .share; top = λ d m h. within b (omega arith) (omega arith) d h (List·Memᴰ·cases-cons m) }
-      go false f =
-          let l = ltb-false (height bs (c .number)) (height bs (b .number)) f in
-          record { mem = List·Memᴰ·head refl; share = e; top = λ d m h. within c (omega arith) l d h (List·Memᴰ·cases-cons m) }
+    -- one more that passes
+    join : (f : Found) → p (c .number) ≡ true → FarthestIs cs f → FarthestIs ds (higher bs c f)
+    unfolding FarthestIs higher
+    join missing e r = record { mem = A .new; share = e; top = within (height bs (c .number)) (λ d m k. absurd (r d m k)) (λ k. omega arith) }
+    join (found b) e r = go (ltb (height bs (c .number)) (height bs (b .number))) refl
+      where
+        go : (t : Bool) → ltb (height bs (c .number)) (height bs (b .number)) ≡ t → FarthestIs ds (cond t (found b) (found c))
+        go true f =
+            let l = ltb-true (height bs (c .number)) (height bs (b .number)) f in
+            record { mem = A .old b (r .mem); share = r .share; top = within (height bs (b .number)) (r .top) (λ k. omega arith) }
+        go false f =
+            let l = ltb-false (height bs (c .number)) (height bs (b .number)) f in
+            record { mem = A .new; share = e; top = within (height bs (c .number)) (λ d m k. le-trans (r .top d m k) l) (λ k. omega arith) }
 
   highest-is : (cs : List Block) → FarthestIs cs (highest p bs cs)
   unfolding FarthestIs highest
@@ -76,8 +68,8 @@ module _ (p : ℕ → Bool) (bs : List Block) where
   highest-is (c ∷ cs) = go (p (c .number)) refl (highest-is cs)
     where
       go : (t : Bool) → p (c .number) ≡ t → FarthestIs cs (highest p bs cs) → FarthestIs (c ∷ cs) (cond t (higher bs c (highest p bs cs)) (highest p bs cs))
-      go true e r = join c cs (highest p bs cs) e r
-      go false e r = skip c cs (highest p bs cs) e r
+      go true e r = join (adds-cons Block c cs) (highest p bs cs) e r
+      go false e r = skip (adds-cons Block c cs) (highest p bs cs) e r
 
 -- what `fast` answers
 abbrev pub FastIs : List Block → List Vote → ℕ → ℕ → Choice → Type 0

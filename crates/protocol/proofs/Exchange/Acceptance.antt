@@ -20,6 +20,7 @@ use Rattle.protocol.specs.Packet.{Packet, packetOf, wellFormed}
 use Rattle.protocol.specs.Refusal.{first, done, pass, refuse, unless}
 use Rattle.protocol.specs.Calls.Receive.{knownAs, addBlock, addBlocks, blockAllowed, blocksAllowed, voteAllowed, blocksAfter, votesAfter, headerAllowed, packetAllowed, brings, receivedOf, receiveInto, receiveTests, receive}
 use Rattle.protocol.specs.Calls.Write.{afterGenesis}
+use Rattle.protocol.proofs.Basics.Members.{all-holds}
 use Rattle.protocol.proofs.Basics.Tests.{both, and-left, and-right}
 use Rattle.protocol.proofs.Chain.Find.{find-in}
 use Rattle.protocol.proofs.Chain.Relations.{In, Sound}
@@ -27,7 +28,7 @@ use Rattle.protocol.proofs.Filters.Relations.{Cast}
 use Rattle.protocol.proofs.Store.Growth.{Added, added-blocks}
 use Rattle.protocol.proofs.Store.Sound.{VoteSound, vote-holds, vote-later}
 use Rattle.protocol.proofs.Store.Tables.{blockFollows, allFollow, Follows, follows-true, found-holds}
-use Rattle.protocol.proofs.Store.Views.{all-holds, same-block}
+use Rattle.protocol.proofs.Store.Views.{same-block}
 use Rattle.protocol.proofs.Exchange.Sendable.{Sendable, sending, sendable-sound, sent-in, sent-cases}
 
 -- F: blocks among which a number names one block

@@ -20,13 +20,14 @@ use Rattle.protocol.specs.Refusal.{done}
 use Rattle.protocol.specs.Calls.Receive.{addBlock, addBlocks, addVote, addVotes, blocksAfter, votesAfter, packetAllowed, brings, receivedOf, receiveInto, receive}
 use Rattle.protocol.specs.Calls.Write.{afterGenesis, gossipOf, packetOut}
 use Rattle.protocol.specs.RoundTrip.{NumbersBelow, copyOf, RoundTrip}
+use Rattle.protocol.proofs.Basics.Members.{any-true, any-holds}
 use Rattle.protocol.proofs.Basics.Tests.{facts, and-left, and-right, clashing, not-passes}
 use Rattle.protocol.proofs.Chain.Relations.{Sound}
 use Rattle.protocol.proofs.Filters.Relations.{Cast}
 use Rattle.protocol.proofs.Store.Growth.{distinct}
 use Rattle.protocol.proofs.Store.Sound.{IsSound, sound-holds, fresh-sound, store-sound}
 use Rattle.protocol.proofs.Store.Tables.{blockFollows, allFollow}
-use Rattle.protocol.proofs.Store.Views.{any-true, any-holds, vote-same, same-vote, show-none, length-entries, entries-waiting}
+use Rattle.protocol.proofs.Store.Views.{vote-same, same-vote, show-none, length-entries, entries-waiting}
 use Rattle.protocol.proofs.Packet.Bytes.{round-trip, written-well}
 use Rattle.protocol.proofs.Calls.Open.{opened, open-settings, open-places}
 use Rattle.protocol.proofs.Calls.Write.{wrote}

@@ -17,10 +17,11 @@ use Rattle.protocol.specs.Refusal.{pass, refuse, first}
 use Rattle.protocol.specs.Calls.Receive.{headerAllowed, receiveTests}
 use Rattle.protocol.specs.Calls.Write.{afterGenesis, lastBlock, gossipOf, proposalOf, proposedNow, packetOut}
 use Rattle.protocol.specs.RoundTrip.{NumbersBelow}
+use Rattle.protocol.proofs.Basics.Members.{any-holds}
 use Rattle.protocol.proofs.Basics.Tests.{both}
 use Rattle.protocol.proofs.Chain.Relations.{In}
 use Rattle.protocol.proofs.Store.Sound.{IsSound, sound-holds, ranges, places-few, store-sound, slot-seen}
-use Rattle.protocol.proofs.Store.Views.{any-holds, length-entries, view-length, view-stored}
+use Rattle.protocol.proofs.Store.Views.{length-entries, view-length, view-stored}
 use Rattle.protocol.proofs.Packet.Bytes.{round-trip, written-well}
 use Rattle.protocol.proofs.Packet.Ranges.{FieldsFit, InRange}
 use Rattle.protocol.proofs.Calls.Write.{IsProposer, proposer-true, last-in}

@@ -11,7 +11,7 @@ use borrow.Author.Tests.{eqb-true, eqb-false, eq-eqb, ne-eqb, ltb-true, ltb-fals
 use Rattle.protocol.specs.declared.Vote.{Vote}
 use Rattle.protocol.specs.Lists.{any}
 use Rattle.protocol.specs.Filters.{conflict, equivocates, counted, window, Last, last, none, later, latest, Choice, chosen, nothing, choiceOf, kept}
-use Rattle.protocol.proofs.Basics.Members.{Adds, adds-cons}
+use Rattle.protocol.proofs.Basics.Members.{Adds, adds-cons, adds-all, any-true, any-holds}
 use Rattle.protocol.proofs.Basics.Tests.{facts, tests, both, and-left, and-right, either, or-left, or-right, clashing, same-test}
 use Rattle.protocol.proofs.Filters.Relations.{Cast, SameFor, InWindow, Equivocation, IsLast}
 
@@ -22,22 +22,6 @@ chosen-inj e = cc
 
 pub not-chosen : {x : ℕ} → nothing ≡ chosen x → ⊥
 not-chosen e = let z : _≡_ {A = ℕ} 0 1 = cc in omega arith
-
--- ---- some vote passes
-
-pub any-true : (p : Vote → Bool) (vs : List Vote) → any p vs ≡ true → (a : Vote) × Cast a vs × (p a ≡ true)
-unfolding any
-any-true p [] e = absurd (false≢true e)
-any-true p (a ∷ rest) e = go (either (p a) (any p rest) e) (λ h. any-true p rest h)
-  where
-    go : (p a ≡ true) ⊎ (any p rest ≡ true) → (any p rest ≡ true → (b : Vote) × Cast b rest × (p b ≡ true)) → (b : Vote) × Cast b (a ∷ rest) × (p b ≡ true)
-    go (inl h) rec = (a, List·Memᴰ·head refl, h)
-    go (inr h) rec = let r = rec h in (r .0, List·Memᴰ·tail (r .1), r .2)
-
-pub any-holds : (p : Vote → Bool) (vs : List Vote) (a : Vote) → Cast a vs → p a ≡ true → any p vs ≡ true
-unfolding any
-any-holds p vs a (List·Memᴰ·head {x = b} {xs = rest} e) h = or-left (p b) (any p rest) (rw e at h)
-any-holds p vs a (List·Memᴰ·tail {x = b} {xs = rest} m) h = or-right (p b) (any p rest) (any-holds p rest a m h)
 
 -- ---- filter 1
 
@@ -67,9 +51,9 @@ equivocates-true p vs v e =
 pub equivocates-holds : (p : ℕ → Bool) (vs : List Vote) (v : ℕ) → Equivocation p vs v → equivocates p vs v ≡ true
 unfolding equivocates conflict
 equivocates-holds p vs v d =
-    any-holds (λ a. eqb (a .voter) v && (p (a .slot) && any (λ b. conflict a b) vs)) vs (d .one) (d .has-one)
+    any-holds (λ a. eqb (a .voter) v && (p (a .slot) && any (λ b. conflict a b) vs)) (d .one) (d .has-one)
     (both (eq-eqb (d .one .voter) v (d .by-one))
-    (both (d .counts) (any-holds (λ b. conflict (d .one) b) vs (d .other) (d .has-other)
+    (both (d .counts) (any-holds (λ b. conflict (d .one) b) (d .other) (d .has-other)
     (both (eq-eqb (d .one .voter) (d .other .voter) (d .by-one ∙ sym (d .by-other)))
     (both (eq-eqb (d .one .slot) (d .other .slot) (d .slots)) (ap not (ne-eqb (d .one .number) (d .other .number) (d .differ))))))))
 
@@ -118,40 +102,29 @@ abbrev pub Counts : ℕ → ℕ → ℕ → Vote → Type 0
 Counts E t v a = (a .voter ≡ v) × InWindow E t (a .slot)
 
 module _ (E t v : ℕ) {a : Vote} {xs ys : List Vote} (A : Adds Vote a xs ys) where
+  -- the votes that count are no later than slot q
+  up-to : (q : ℕ) → ((b : Vote) → Cast b xs → b .voter ≡ v → InWindow E t (b .slot) → b .slot ≤ q) → (Counts E t v a → a .slot ≤ q)
+      → (b : Vote) → Cast b ys → b .voter ≡ v → InWindow E t (b .slot) → b .slot ≤ q
+  up-to q f g = adds-all Vote A (λ b. b .voter ≡ v → InWindow E t (b .slot) → b .slot ≤ q) f (λ x y. g (x, y))
+
   -- one more vote that does not count
   pub last-skip : (Counts E t v a → ⊥) → (f : Last) → LastIs xs E t v f → LastIs ys E t v f
-  last-skip h none r = λ b m p q. go b p q (A .only b m)
-    where
-      go : (b : Vote) → b .voter ≡ v → InWindow E t (b .slot) → Cast b xs ⊎ (b ≡ a) → ⊥
-      go b p q (inl m) = r b m p q
-      go b p q (inr e) = h (rw e at p, rw e at q)
-  last-skip h (last c) r = record { mem = A .old c (r .mem); by = r .by; inside = r .inside; top = λ b m p q. go b p q (A .only b m) }
-    where
-      go : (b : Vote) → b .voter ≡ v → InWindow E t (b .slot) → Cast b xs ⊎ (b ≡ a) → b .slot ≤ c .slot
-      go b p q (inl m) = r .top b m p q
-      go b p q (inr e) = absurd (h (rw e at p, rw e at q))
+  last-skip h none r = adds-all Vote A (λ b. b .voter ≡ v → InWindow E t (b .slot) → ⊥) r (λ x y. h (x, y))
+  last-skip h (last c) r = record { mem = A .old c (r .mem); by = r .by; inside = r .inside; top = up-to (c .slot) (r .top) (λ k. absurd (h k)) }
 
   -- one more that counts
   pub last-join : Counts E t v a → (f : Last) → LastIs xs E t v f → LastIs ys E t v (later a f)
   unfolding later
-  last-join h none r = record { mem = A .new; by = h .0; inside = h .1; top = λ b m p q. go b p q (A .only b m) }
-    where
-      go : (b : Vote) → b .voter ≡ v → InWindow E t (b .slot) → Cast b xs ⊎ (b ≡ a) → b .slot ≤ a .slot
-      go b p q (inl m) = absurd (r b m p q)
-      go b p q (inr e) = le-of-eq (ap (λ o. o .slot) e)
+  last-join h none r = record { mem = A .new; by = h .0; inside = h .1; top = up-to (a .slot) (λ b m x y. absurd (r b m x y)) (λ k. omega arith) }
   last-join h (last c) r = go (ltb (a .slot) (c .slot)) refl
     where
-      old : a .slot < c .slot → (b : Vote) → b .voter ≡ v → InWindow E t (b .slot) → Cast b xs ⊎ (b ≡ a) → b .slot ≤ c .slot
-      old l b p q (inl m) = r .top b m p q
-      old l b p q (inr e) = omega (arith, ap (λ o. o .slot) e)
-
-      new : c .slot ≤ a .slot → (b : Vote) → b .voter ≡ v → InWindow E t (b .slot) → Cast b xs ⊎ (b ≡ a) → b .slot ≤ a .slot
-      new l b p q (inl m) = le-trans (r .top b m p q) l
-      new l b p q (inr e) = le-of-eq (ap (λ o. o .slot) e)
-
       go : (x : Bool) → ltb (a .slot) (c .slot) ≡ x → LastIs ys E t v (cond x (last c) (last a))
-      go true e = record { mem = A .old c (r .mem); by = r .by; inside = r .inside; top = λ b m p q. old (ltb-true (a .slot) (c .slot) e) b p q (A .only b m) }
-      go false e = record { mem = A .new; by = h .0; inside = h .1; top = λ b m p q. new (ltb-false (a .slot) (c .slot) e) b p q (A .only b m) }
+      go true e =
+          let l = ltb-true (a .slot) (c .slot) e in
+          record { mem = A .old c (r .mem); by = r .by; inside = r .inside; top = up-to (c .slot) (r .top) (λ k. omega arith) }
+      go false e =
+          let l = ltb-false (a .slot) (c .slot) e in
+          record { mem = A .new; by = h .0; inside = h .1; top = up-to (a .slot) (λ b m x y. le-trans (r .top b m x y) l) (λ k. omega arith) }
 
   -- either way
   pub last-next : (f : Last) → LastIs xs E t v f → LastIs ys E t v (cond (eqb (a .voter) v && window E t (a .slot)) (later a f) f)

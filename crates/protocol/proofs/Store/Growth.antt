@@ -14,12 +14,13 @@ use Rattle.protocol.specs.Chain.{genesis, Found, found, missing, find, f
 use Rattle.protocol.specs.Store.{inView, Marked, entries, show, sameBlock, sameVote}
 use Rattle.protocol.specs.Sound.{between}
 use Rattle.protocol.specs.Calls.Receive.{addBlock, addBlocks, addVote, addVotes, knownAs, blockAllowed, blocksAllowed}
+use Rattle.protocol.proofs.Basics.Members.{any-true, any-holds}
 use Rattle.protocol.proofs.Basics.Tests.{facts, both, and-left, and-right, or-left, not-passes, clashing}
 use Rattle.protocol.proofs.Chain.Find.{find-in}
 use Rattle.protocol.proofs.Chain.Relations.{In, Sound}
 use Rattle.protocol.proofs.Filters.Relations.{Cast}
 use Rattle.protocol.proofs.Store.Tables.{blockFollows, allFollow, Table, follows-true, follows-sound, follow-append, follow-later}
-use Rattle.protocol.proofs.Store.Views.{view-append, show-keeps, any-true, any-holds, entries-append, entries-show, block-same, vote-same, same-vote}
+use Rattle.protocol.proofs.Store.Views.{view-append, show-keeps, entries-append, entries-show, block-same, vote-same, same-vote}
 
 -- ---- blocks
 

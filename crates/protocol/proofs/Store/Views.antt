@@ -14,32 +14,6 @@ use Rattle.protocol.specs.Store.{Marked, entries, inView, allWaiting, sh
 use Rattle.protocol.proofs.Basics.Tests.{facts, both, and-left, and-right, either, or-left, or-right}
 
 module _ {A : Type 0} where
-  -- ---- tests of lists
-
-  pub any-true : (p : A → Bool) (xs : List A) → any p xs ≡ true → (a : A) × List·Memᴰ a xs × (p a ≡ true)
-  unfolding any
-  any-true p [] e = absurd (false≢true e)
-  any-true p (a ∷ rest) e = go (either (p a) (any p rest) e) (λ h. any-true p rest h)
-    where
-      go : (p a ≡ true) ⊎ (any p rest ≡ true) → (any p rest ≡ true → (b : A) × List·Memᴰ b rest × (p b ≡ true)) → (b : A) × List·Memᴰ b (a ∷ rest) × (p b ≡ true)
-      go (inl h) rec = (a, List·Memᴰ·head refl, h)
-      go (inr h) rec = let r = rec h in (r .0, List·Memᴰ·tail (r .1), r .2)
-
-  pub any-holds : (p : A → Bool) {xs : List A} (a : A) → List·Memᴰ a xs → p a ≡ true → any p xs ≡ true
-  unfolding any
-  any-holds p a (List·Memᴰ·head {x = b} {xs = rest} e) h = or-left (p b) (any p rest) (ap p (sym e) ∙ h)
-  any-holds p a (List·Memᴰ·tail {x = b} {xs = rest} m) h = or-right (p b) (any p rest) (any-holds p a m h)
-
-  pub all-true : (p : A → Bool) {xs : List A} → all p xs ≡ true → (a : A) → List·Memᴰ a xs → p a ≡ true
-  unfolding all
-  all-true p e a (List·Memᴰ·head {x = b} {xs = rest} q) = ap p q ∙ and-left (p b) (all p rest) e
-  all-true p e a (List·Memᴰ·tail {x = b} {xs = rest} m) = all-true p (and-right (p b) (all p rest) e) a m
-
-  pub all-holds : (p : A → Bool) (xs : List A) → ((a : A) → List·Memᴰ a xs → p a ≡ true) → all p xs ≡ true
-  unfolding all
-  all-holds p [] f = refl
-  all-holds p (a ∷ rest) f = both (f a (List·Memᴰ·head refl)) (all-holds p rest (λ b m. f b (List·Memᴰ·tail m)))
-
   -- ---- entries and view
 
   pub entries-append : (ms ns : List (Marked A)) → entries (ms ++ ns) ≡ entries ms ++ entries ns

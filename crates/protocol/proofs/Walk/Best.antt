@@ -11,7 +11,7 @@ use borrow.Author.Tests.{eq-eqb, ltb-true, ltb-false}
 use Rattle.protocol.specs.declared.Block.{Block}
 use Rattle.protocol.specs.Chain.{Found, found, missing, genesis}
 use Rattle.protocol.specs.Walk.{isChild, beats, better, bestChild, walkStep, walkIn, walk}
-use Rattle.protocol.proofs.Basics.Members.{Adds, adds-cons}
+use Rattle.protocol.proofs.Basics.Members.{Adds, adds-cons, adds-all}
 use Rattle.protocol.proofs.Basics.Tests.{facts, tests, both, either, or-left, or-right, clashing}
 use Rattle.protocol.proofs.Chain.Above.{above-trans}
 use Rattle.protocol.proofs.Chain.Relations.{In, Known, Sound, Above, here, up}
@@ -33,10 +33,8 @@ child-above c m h = up c m refl (h .late) (here (h .under))
 
 -- ---- the best child
 
-beats-refl : (w : ℕ → ℕ) (c d : Block) → d ≡ c → Beats w c d
-beats-refl w c d e =
-    let n : d .number ≡ c .number = ap (λ o. o .number) e in
-    (le-of-eq (ap w n), λ h. omega arith)
+beats-refl : (w : ℕ → ℕ) (c : Block) → Beats w c c
+beats-refl w c = (omega arith, λ h. omega arith)
 
 beats-trans : (w : ℕ → ℕ) (c d e : Block) → Beats w c d → Beats w d e → Beats w c e
 beats-trans w c d e p q =
@@ -74,40 +72,26 @@ BestIs w lim a bs missing = (d : Block) → In d bs → IsChild lim a d → ⊥
 BestIs w lim a bs (found c) = IsBest w bs lim a c
 
 module _ (w : ℕ → ℕ) (lim a : ℕ) {c : Block} {xs ys : List Block} (A : Adds Block c xs ys) where
+  -- b goes before the children or is one
+  before : (b : Block) → ((d : Block) → In d xs → IsChild lim a d → Beats w b d) → (IsChild lim a c → Beats w b c)
+      → (d : Block) → In d ys → IsChild lim a d → Beats w b d
+  before b f g = adds-all Block A (λ d. IsChild lim a d → Beats w b d) f g
+
   -- one more block c that is no child: the answer stays
   pub best-skip : (IsChild lim a c → ⊥) → (f : Found) → BestIs w lim a xs f → BestIs w lim a ys f
-  best-skip h missing r = λ d m k. go d k (A .only d m)
-    where
-      go : (d : Block) → IsChild lim a d → In d xs ⊎ (d ≡ c) → ⊥
-      go d k (inl m) = r d m k
-      go d k (inr e) = h (rw e at k)
-  best-skip h (found b) r = record { mem = A .old b (r .mem); child = r .child; top = λ d m k. go d k (A .only d m) }
-    where
-      go : (d : Block) → IsChild lim a d → In d xs ⊎ (d ≡ c) → Beats w b d
-      go d k (inl m) = r .top d m k
-      go d k (inr e) = absurd (h (rw e at k))
+  best-skip h missing r = adds-all Block A (λ d. IsChild lim a d → ⊥) r h
+  best-skip h (found b) r = record { mem = A .old b (r .mem); child = r .child; top = before b (r .top) (λ k. absurd (h k)) }
 
   -- one more child c: the better of it and the answer
   pub best-join : IsChild lim a c → (f : Found) → BestIs w lim a xs f → BestIs w lim a ys (better w c f)
   unfolding better
-  best-join h missing r = record { mem = A .new; child = h; top = λ d m k. go d k (A .only d m) }
-    where
-      go : (d : Block) → IsChild lim a d → In d xs ⊎ (d ≡ c) → Beats w c d
-      go d k (inl m) = absurd (r d m k)
-      go d k (inr e) = beats-refl w c d e
+  best-join h missing r = record { mem = A .new; child = h; top = before c (λ d m k. absurd (r d m k)) (λ k. beats-refl w c) }
   best-join h (found b) r = go (beats w b c) refl
     where
-      over : Beats w b c → (d : Block) → IsChild lim a d → In d xs ⊎ (d ≡ c) → Beats w b d
-      over o d k (inl m) = r .top d m k
-      over o d k (inr e) = beats-trans w b c d o (beats-refl w c d e)
-
-      new : Beats w c b → (d : Block) → IsChild lim a d → In d xs ⊎ (d ≡ c) → Beats w c d
-      new o d k (inl m) = beats-trans w c b d o (r .top d m k)
-      new o d k (inr e) = beats-refl w c d e
-
       go : (t : Bool) → beats w b c ≡ t → BestIs w lim a ys (cond t (found b) (found c))
-      go true e = record { mem = A .old b (r .mem); child = r .child; top = λ d m k. over (beats-true w b c e) d k (A .only d m) }
-      go false e = record { mem = A .new; child = h; top = λ d m k. new (beats-false w b c e) d k (A .only d m) }
+      go true e = record { mem = A .old b (r .mem); child = r .child; top = before b (r .top) (λ k. beats-true w b c e) }
+      go false e =
+          record { mem = A .new; child = h; top = before c (λ d m k. beats-trans w c b d (beats-false w b c e) (r .top d m k)) (λ k. beats-refl w c) }
 
   -- either way
   pub best-next : (f : Found) → BestIs w lim a xs f → BestIs w lim a ys (cond (isChild lim a c) (better w c f) f)

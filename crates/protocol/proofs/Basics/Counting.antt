@@ -26,27 +26,6 @@ unfolding count
 count-ext p q zero f = refl
 count-ext p q (suc n) f = rw (f n (le-refl (suc n)), count-ext p q n (λ v h. f v (omega arith)))
 
-step-all : (a : Bool) (x n : ℕ) → x ≤ n → cond a (suc x) x ≤ suc n
-step-all true x n h = omega arith
-step-all false x n h = omega arith
-
-pub count-le : (p : ℕ → Bool) (n : ℕ) → count p n ≤ n
-unfolding count
-count-le p zero = zero-le
-count-le p (suc n) = step-all (p n) (count p n) n (count-le p n)
-
-step-split : (a b : Bool) (x y z : ℕ) → z ≡ x + y → cond a (suc z) z ≡ cond (a && b) (suc x) x + cond (a && not b) (suc y) y
-step-split true true x y z h = omega arith
-step-split true false x y z h = omega arith
-step-split false b x y z h = h
-
--- those that pass p are those that pass q too and those that do not
-pub count-split : (p q : ℕ → Bool) (n : ℕ) → count p n ≡ count (λ v. p v && q v) n + count (λ v. p v && not (q v)) n
-unfolding count
-count-split p q zero = refl
-count-split p q (suc n) =
-    step-split (p n) (q n) (count (λ v. p v && q v) n) (count (λ v. p v && not (q v)) n) (count p n) (count-split p q n)
-
 step-not : (a : Bool) (x y n : ℕ) → x + y ≡ n → cond a (suc x) x + cond (not a) (suc y) y ≡ suc n
 step-not true x y n h = omega arith
 step-not false x y n h = omega arith

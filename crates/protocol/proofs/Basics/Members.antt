@@ -39,12 +39,6 @@ module _ (A : Type 0) where
   pub same-refl : (xs : List A) → Same A xs xs
   same-refl xs = record { to = λ a m. m; from = λ a m. m }
 
-  pub same-sym : {xs ys : List A} → Same A xs ys → Same A ys xs
-  same-sym s = record { to = s .from; from = s .to }
-
-  pub same-trans : {xs ys zs : List A} → Same A xs ys → Same A ys zs → Same A xs zs
-  same-trans s r = record { to = λ a m. r .to a (s .to a m); from = λ a m. s .from a (r .from a m) }
-
 -- ---- tests of the members
 
 module _ {A : Type 0} where

@@ -1,4 +1,4 @@
--- What `find` finds. Assumes nothing.
+-- What `find` finds: a block of the list with the number, or none exactly if the list has none. Assumes nothing.
 use Prim.Native.Nat.{ℕ}
 use mathlib.Core.Path.{_≡_, refl, sym, ap, _∙_}
 use mathlib.Core.Bool.{Bool, true, false, cond}
@@ -7,7 +7,6 @@ use native.Mathlib.Omega.{arith}
 use lib.Dec.{eqb}
 use borrow.Author.Tests.{eqb-true, eq-eqb}
 use Rattle.protocol.specs.declared.Block.{Block}
-use Rattle.protocol.specs.Lists.{Same}
 use Rattle.protocol.specs.Chain.{Found, found, missing, find}
 use Rattle.protocol.proofs.Chain.Relations.{In, Sound}
 
@@ -44,15 +43,15 @@ find-is bs S c m =
     let i = find-in bs (c .number) (h .0) (h .1) in
     h .1 ∙ ap found (S .unique (h .0) c (i .0) m (i .1))
 
--- two sound lists with the same members find the same
-pub find-same : (xs ys : List Block) → Sound xs → Sound ys → Same Block xs ys → (x : ℕ) → find xs x ≡ find ys x
-find-same xs ys S R s x = go (find xs x) (find ys x) refl refl
+-- nothing is found exactly if no block has the number
+pub find-missing : (bs : List Block) (x : ℕ) → find bs x ≡ missing → (c : Block) → In c bs → c .number ≡ x → ⊥
+find-missing bs x e c m q =
+    let h = find-hit bs c m in
+    never (sym (h .1) ∙ ap (find bs) q ∙ e)
+
+pub find-none : (bs : List Block) (x : ℕ) → ((c : Block) → In c bs → c .number ≡ x → ⊥) → find bs x ≡ missing
+find-none bs x f = go (find bs x) refl
   where
-    go : (f g : Found) → find xs x ≡ f → find ys x ≡ g → f ≡ g
-    go (found c) g e h =
-        let i = find-in xs x c e in
-        sym (find-is ys R c (s .to c (i .0))) ∙ ap (find ys) (i .1) ∙ h
-    go missing (found d) e h =
-        let i = find-in ys x d h in
-        sym e ∙ ap (find xs) (sym (i .1)) ∙ find-is xs S d (s .from d (i .0))
-    go missing missing e h = refl
+    go : (o : Found) → find bs x ≡ o → o ≡ missing
+    go missing e = refl
+    go (found c) e = let i = find-in bs x c e in absurd (f c (i .0) (i .1))

@@ -139,6 +139,20 @@ unfolding latest
 latest-is E t v [] = λ b m p q. List·Memᴰ·not-nil m
 latest-is E t v (a ∷ rest) = last-next E t v (adds-cons Vote a rest) (latest rest E t v) (latest-is E t v rest)
 
+-- a voter that is not dropped has one latest vote
+pub latest-of : (E t v : ℕ) (vs : List Vote) → equivocates (counted E t) vs v ≡ false → (f : Last) → LastIs vs E t v f → latest vs E t v ≡ f
+latest-of E t v vs d f r = go (latest vs E t v) (latest-is E t v vs) f r
+  where
+    go : (x : Last) → LastIs vs E t v x → (y : Last) → LastIs vs E t v y → x ≡ y
+    go none p none q = refl
+    go none p (last b) q = absurd (p b (q .mem) (q .by) (q .inside))
+    go (last a) p none q = absurd (q a (p .mem) (p .by) (p .inside))
+    go (last a) p (last b) q =
+        let x : a .voter ≡ b .voter = p .by ∙ sym (q .by) in
+        let y : a .slot ≡ b .slot = le-antisymm (q .top a (p .mem) (p .by) (p .inside)) (p .top b (q .mem) (q .by) (q .inside)) in
+        let z : a .number ≡ b .number = single (counted E t) vs v d a b (p .mem) (q .mem) (p .by) (q .by) y (counted-holds E t (a .slot) (p .inside)) in
+        ap last (λ i. record { voter = x i; slot = y i; number = z i })
+
 -- ---- all three
 
 module _ (vs : List Vote) (E t v : ℕ) where
@@ -147,25 +161,16 @@ module _ (vs : List Vote) (E t v : ℕ) where
   unfolding kept choiceOf
   kept-is x e = go (equivocates (counted E t) vs v) refl (latest vs E t v) (latest-is E t v vs) e
     where
-      clear : {P : Type 0} → nothing ≡ chosen x → P
-      clear q = let z : _≡_ {A = ℕ} 0 1 = cc in absurd (omega arith)
-
       go : (d : Bool) → equivocates (counted E t) vs v ≡ d → (f : Last) → LastIs vs E t v f → cond d nothing (choiceOf f) ≡ chosen x
           → (equivocates (counted E t) vs v ≡ false) × ((a : Vote) × IsLast vs E t v a × (a .number ≡ x))
-      go true d f l q = clear q
-      go false d none l q = clear q
-      go false d (last a) l q = let s : a .number ≡ x = cc in (d, (a, l, s))
+      go true d f l q = absurd (not-chosen q)
+      go false d none l q = absurd (not-chosen q)
+      go false d (last a) l q = (d, (a, l, chosen-inj q))
 
   -- and any latest vote of such a voter is for the kept block
   pub kept-holds : (a : Vote) → equivocates (counted E t) vs v ≡ false → IsLast vs E t v a → kept vs E t v ≡ chosen (a .number)
   unfolding kept choiceOf
-  kept-holds a d h = rw d (go (latest vs E t v) (latest-is E t v vs))
-    where
-      go : (f : Last) → LastIs vs E t v f → choiceOf f ≡ chosen (a .number)
-      go none l = absurd (l a (h .mem) (h .by) (h .inside))
-      go (last b) l =
-          ap chosen (single (counted E t) vs v d b a (l .mem) (h .mem) (l .by) (h .by)
-          (le-antisymm (h .top b (l .mem) (l .by) (l .inside)) (l .top a (h .mem) (h .by) (h .inside))) (counted-holds E t (b .slot) (l .inside)))
+  kept-holds a d h = rw (d, latest-of E t v vs d (last a) h)
 
   -- nothing is kept: dropped, or no vote in the window
   pub kept-nothing : kept vs E t v ≡ nothing → (equivocates (counted E t) vs v ≡ true) ⊎ ((b : Vote) → Cast b vs → b .voter ≡ v → InWindow E t (b .slot) → ⊥)
@@ -176,12 +181,22 @@ module _ (vs : List Vote) (E t v : ℕ) where
           → (equivocates (counted E t) vs v ≡ true) ⊎ ((b : Vote) → Cast b vs → b .voter ≡ v → InWindow E t (b .slot) → ⊥)
       go true d f l q = inl d
       go false d none l q = inr l
-      go false d (last a) l q = let z : _≡_ {A = ℕ} 0 1 = cc in absurd (omega arith)
+      go false d (last a) l q = absurd (not-chosen (sym q))
+
+  -- and where it is so, nothing is kept
+  pub kept-none : (equivocates (counted E t) vs v ≡ true) ⊎ ((b : Vote) → Cast b vs → b .voter ≡ v → InWindow E t (b .slot) → ⊥) → kept vs E t v ≡ nothing
+  unfolding kept choiceOf
+  kept-none (inl d) = rw d
+  kept-none (inr f) = go (equivocates (counted E t) vs v) refl
+    where
+      go : (d : Bool) → equivocates (counted E t) vs v ≡ d → cond d nothing (choiceOf (latest vs E t v)) ≡ nothing
+      go true d = refl
+      go false d = rw (latest-of E t v vs d none f)
 
 -- ---- it depends on the voter's votes only
 
-double-to : {p : ℕ → Bool} {v : ℕ} {vs ws : List Vote} → ((a : Vote) → a .voter ≡ v → Cast a vs → Cast a ws) → Equivocation p vs v → Equivocation p ws v
-double-to f d = record {
+equivocation-to : {p : ℕ → Bool} {v : ℕ} {vs ws : List Vote} → ((a : Vote) → a .voter ≡ v → Cast a vs → Cast a ws) → Equivocation p vs v → Equivocation p ws v
+equivocation-to f d = record {
   one = d .one;
   other = d .other;
   has-one = f (d .one) (d .by-one) (d .has-one);
@@ -195,8 +210,8 @@ double-to f d = record {
 
 pub equivocates-same : (p : ℕ → Bool) (vs ws : List Vote) (v : ℕ) → SameFor v vs ws → equivocates p vs v ≡ equivocates p ws v
 equivocates-same p vs ws v s =
-    same-test (equivocates p vs v) (equivocates p ws v) (λ h. equivocates-holds p ws v (double-to (s .to) (equivocates-true p vs v h)))
-    (λ h. equivocates-holds p vs v (double-to (s .from) (equivocates-true p ws v h)))
+    same-test (equivocates p vs v) (equivocates p ws v) (λ h. equivocates-holds p ws v (equivocation-to (s .to) (equivocates-true p vs v h)))
+    (λ h. equivocates-holds p vs v (equivocation-to (s .from) (equivocates-true p ws v h)))
 
 last-to : {v : ℕ} {vs ws : List Vote} {E t : ℕ} {a : Vote} → SameFor v vs ws → IsLast vs E t v a → IsLast ws E t v a
 last-to {v} {vs} {ws} {E} {t} {a} s h = record { mem = s .to a (h .by) (h .mem); by = h .by; inside = h .inside; top = λ b m p q. h .top b (s .from b p m) p q }

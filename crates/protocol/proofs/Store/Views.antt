@@ -9,9 +9,8 @@ use lib.ListN.{length, drop}
 use borrow.Author.Tests.{eq-eqb}
 use Rattle.protocol.specs.declared.Block.{Block}
 use Rattle.protocol.specs.declared.Vote.{Vote}
-use Rattle.protocol.specs.Lists.{any, all}
 use Rattle.protocol.specs.Store.{Marked, entries, inView, allWaiting, show, showAll, sameBlock, sameVote}
-use Rattle.protocol.proofs.Basics.Tests.{facts, both, and-left, and-right, either, or-left, or-right}
+use Rattle.protocol.proofs.Basics.Tests.{facts, both, either, or-left, or-right}
 
 module _ {A : Type 0} where
   -- ---- entries and view

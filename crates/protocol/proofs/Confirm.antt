@@ -1,4 +1,4 @@
--- Confirm. Assumes nothing.
+-- Laws of the deep and the fast block. Assumes nothing.
 pub mod Height
 pub mod Deep
 pub mod Votes

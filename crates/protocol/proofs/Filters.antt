@@ -1,3 +1,3 @@
--- Filters. Assumes nothing.
+-- Laws of equivocators, the window and kept votes. Assumes nothing.
 pub mod Relations
 pub mod Kept

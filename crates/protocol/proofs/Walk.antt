@@ -1,4 +1,4 @@
--- Walk. Assumes nothing.
+-- Laws of best children and walks: one result, by the members only, held by a majority and by a proposal. Assumes nothing.
 pub mod Relations
 pub mod Best
 pub mod Ends

@@ -1,4 +1,4 @@
--- At or above: a transitive relation on which any two blocks below one block compare, and the test that decides it.
+-- At or above is an order in which any two blocks below one block compare. The test decides it, and depends on the members only.
 -- Assumes nothing.
 use Prim.Native.Nat.{ℕ, zero, suc, _≤_, _<_}
 use mathlib.Core.Path.{_≡_, refl, sym, ap, _∙_}
@@ -10,6 +10,7 @@ use native.Mathlib.Omega.{arith}
 use lib.Dec.{eqb}
 use borrow.Author.Tests.{eqb-true, eqb-false, eq-eqb, ne-eqb}
 use Rattle.protocol.specs.declared.Block.{Block}
+use Rattle.protocol.specs.Lists.{Same}
 use Rattle.protocol.specs.Chain.{Found, found, missing, find, slotIn, genesis, above, aboveIn, upStep, upGo}
 use Rattle.protocol.proofs.Basics.Tests.{either, or-left, or-right, same-test}
 use Rattle.protocol.proofs.Chain.Find.{find-in, find-is}
@@ -111,9 +112,9 @@ module _ {bs : List Block} (S : Sound bs) where
       go (inr o) = sym (sibling-over d c n m z (sym e) o)
 
   -- at or above each other: the same block
-  pub above-antisym : {a b : ℕ} → Known bs a → Above bs a b → Above bs b a → a ≡ b
-  above-antisym k (here q) s = sym q
-  above-antisym k (up c m q z r) s = absurd (not-under c m (rw (← q) at z) (above-trans r (above-cast-to (sym q) s)))
+  pub above-antisym : {a b : ℕ} → Above bs a b → Above bs b a → a ≡ b
+  above-antisym (here q) s = sym q
+  above-antisym (up c m q z r) s = absurd (not-under c m (rw (← q) at z) (above-trans r (above-cast-to (sym q) s)))
     where
       above-cast-to : {y z w : ℕ} → y ≡ z → Above bs y w → Above bs z w
       above-cast-to e (here p) = here (p ∙ e)
@@ -189,3 +190,17 @@ module _ {bs cs : List Block} (S : Sound bs) (R : Sound cs) (f : (c : Block) →
   above-within x b k =
       same-test (above bs x b) (above cs x b) (λ h. above-holds R (above-mono f (above-true S x b h)))
       (λ h. above-holds S (above-back k (above-true R x b h)))
+
+-- ---- two lists with the same members
+
+pub sound-same : {xs ys : List Block} → Sound xs → Same Block xs ys → Sound ys
+sound-same S s = record {
+  start = s .to _ (S .start);
+  unique = λ c d m n e. S .unique c d (s .from c m) (s .from d n) e;
+  parents = λ c m z. let p = S .parents c (s .from c m) z in (p .0, s .to (p .0) (p .1), p .2, p .3);
+}
+
+pub above-same : {xs ys : List Block} → Sound xs → Same Block xs ys → (x b : ℕ) → above xs x b ≡ above ys x b
+above-same {xs} {ys} S s x b =
+    same-test (above xs x b) (above ys x b) (λ h. above-holds (sound-same S s) (above-mono (s .to) (above-true S x b h)))
+    (λ h. above-holds S (above-mono (s .from) (above-true (sound-same S s) x b h)))

@@ -17,12 +17,13 @@ use Rattle.protocol.specs.Filters.{Choice, chosen, nothing}
 use Rattle.protocol.specs.Confirm.{validVote, quorum, height, higher, highest, numberIn, fast}
 use Rattle.protocol.proofs.Basics.Members.{Adds, adds-cons, adds-all}
 use Rattle.protocol.proofs.Basics.Tests.{clashing}
+use Rattle.protocol.proofs.Chain.Above.{sound-same}
 use Rattle.protocol.proofs.Chain.Relations.{In, Sound, Above}
 use Rattle.protocol.proofs.Confirm.Height.{height-one, height-same}
 use Rattle.protocol.proofs.Confirm.Quorum.{quorum-compare}
 use Rattle.protocol.proofs.Confirm.Votes.{valid-same}
 use Rattle.protocol.proofs.Filters.Relations.{SameFor}
-use Rattle.protocol.proofs.Walk.Sameness.{sound-same, weight-same}
+use Rattle.protocol.proofs.Walk.Sameness.{weight-same}
 
 -- c is a block of cs that passes, and none that passes is farther from block 0
 pub record IsFarthest (p : ℕ → Bool) (bs cs : List Block) (c : Block) : Type 0 where
@@ -31,7 +32,7 @@ pub record IsFarthest (p : ℕ → Bool) (bs cs : List Block) (c : Block) : Type
   pub top : (d : Block) → In d cs → p (d .number) ≡ true → height bs (d .number) ≤ height bs (c .number)
 
 module _ (p : ℕ → Bool) (bs : List Block) where
-  FarthestIs : List Block → Found → Type 0
+  abbrev FarthestIs : List Block → Found → Type 0
   FarthestIs cs missing = (d : Block) → In d cs → p (d .number) ≡ true → ⊥
   FarthestIs cs (found c) = IsFarthest p bs cs c
 
@@ -43,14 +44,13 @@ module _ (p : ℕ → Bool) (bs : List Block) where
 
     -- one more block that fails
     skip : (f : Found) → p (c .number) ≡ false → FarthestIs cs f → FarthestIs ds f
-    unfolding FarthestIs
     skip missing e r = adds-all Block A (λ d. p (d .number) ≡ true → ⊥) r (λ k. clashing k e)
     skip (found b) e r =
         record { mem = A .old b (r .mem); share = r .share; top = within (height bs (b .number)) (r .top) (λ k. absurd (clashing k e)) }
 
     -- one more that passes
     join : (f : Found) → p (c .number) ≡ true → FarthestIs cs f → FarthestIs ds (higher bs c f)
-    unfolding FarthestIs higher
+    unfolding higher
     join missing e r = record { mem = A .new; share = e; top = within (height bs (c .number)) (λ d m k. absurd (r d m k)) (λ k. omega arith) }
     join (found b) e r = go (ltb (height bs (c .number)) (height bs (b .number))) refl
       where
@@ -63,7 +63,7 @@ module _ (p : ℕ → Bool) (bs : List Block) where
             record { mem = A .new; share = e; top = within (height bs (c .number)) (λ d m k. le-trans (r .top d m k) l) (λ k. omega arith) }
 
   highest-is : (cs : List Block) → FarthestIs cs (highest p bs cs)
-  unfolding FarthestIs highest
+  unfolding highest
   highest-is [] = λ d m h. List·Memᴰ·not-nil m
   highest-is (c ∷ cs) = go (p (c .number)) refl (highest-is cs)
     where
@@ -77,7 +77,7 @@ FastIs bs vs n t nothing = (d : Block) → In d bs → quorum bs vs n t (d .numb
 FastIs bs vs n t (chosen x) = (c : Block) × IsFarthest (quorum bs vs n t) bs bs c × (c .number ≡ x)
 
 pub fast-is : (bs : List Block) (vs : List Vote) (n t : ℕ) → FastIs bs vs n t (fast bs vs n t)
-unfolding fast numberIn FarthestIs
+unfolding fast numberIn
 fast-is bs vs n t = go (highest (quorum bs vs n t) bs bs) (highest-is (quorum bs vs n t) bs bs)
   where
     go : (f : Found) → FarthestIs (quorum bs vs n t) bs bs f → FastIs bs vs n t (numberIn f)
@@ -85,7 +85,8 @@ fast-is bs vs n t = go (highest (quorum bs vs n t) bs bs) (highest-is (quorum bs
     go (found c) r = (c, r, refl)
 
 -- Two blocks with the share are on one chain, so the farthest is one block.
-fast-one : {bs : List Block} → Sound bs → (vs : List Vote) (n t : ℕ) → 0 < n → (c d : Block) → IsFarthest (quorum bs vs n t) bs bs c → IsFarthest (quorum bs vs n t) bs bs d → c .number ≡ d .number
+fast-one : {bs : List Block} → Sound bs → (vs : List Vote) (n t : ℕ) → 0 < n → (c d : Block)
+    → IsFarthest (quorum bs vs n t) bs bs c → IsFarthest (quorum bs vs n t) bs bs d → c .number ≡ d .number
 fast-one {bs} S vs n t z c d p q = go (quorum-compare S vs n t (c .number) (d .number) z (p .share) (q .share))
   where
     go : Above bs (c .number) (d .number) ⊎ Above bs (d .number) (c .number) → c .number ≡ d .number
@@ -115,9 +116,13 @@ module _ {xs ys : List Block} (S : Sound xs) (s : Same Block xs ys) (vs ws : Lis
     where
       go : (o : Choice) → FastIs xs vs n t o → FastIs ys ws n t o
       go nothing r = λ d m h. r d (s .from d m) (quorum-same (d .number) ∙ h)
-      go (chosen x) (c, r, e) = (c, record {
-        mem = s .to c (r .mem);
-        share = sym (quorum-same (c .number)) ∙ r .share;
-        top = λ d m h.
-            rw (← height-same S s c (r .mem), ← height-same S s d (s .from d m)) (r .top d (s .from d m) (quorum-same (d .number) ∙ h));
-      }, e)
+      go (chosen x) (c, r, e) = (
+        c,
+        record {
+          mem = s .to c (r .mem);
+          share = sym (quorum-same (c .number)) ∙ r .share;
+          top = λ d m h.
+              rw (← height-same S s c (r .mem), ← height-same S s d (s .from d m)) (r .top d (s .from d m) (quorum-same (d .number) ∙ h));
+        },
+        e,
+      )

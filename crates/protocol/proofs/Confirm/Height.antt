@@ -13,10 +13,9 @@ use Rattle.protocol.specs.declared.Block.{Block}
 use Rattle.protocol.specs.Lists.{Same}
 use Rattle.protocol.specs.Chain.{found, find, slotIn, genesis}
 use Rattle.protocol.specs.Confirm.{height, heightIn, heightStep, heightGo}
-use Rattle.protocol.proofs.Chain.Above.{slot-start, above-start}
+use Rattle.protocol.proofs.Chain.Above.{slot-start, above-start, sound-same}
 use Rattle.protocol.proofs.Chain.Find.{find-is}
 use Rattle.protocol.proofs.Chain.Relations.{In, Sound, Above, here, up}
-use Rattle.protocol.proofs.Walk.Sameness.{sound-same}
 
 module _ {bs : List Block} (S : Sound bs) where
   heightIn-start : (k : ℕ) → heightIn bs k 0 ≡ 0
@@ -57,7 +56,8 @@ module _ {bs : List Block} (S : Sound bs) where
   pub height-child : (c : Block) → In c bs → 0 < c .number → height bs (c .number) ≡ suc (height bs (c .parent))
   height-child c m z =
       let p = S .parents c m z in
-      let e : heightIn bs (c .slot) (c .parent) ≡ height bs (c .parent) = rw (← p .2) (heightIn-enough (c .slot) (p .0 .slot) (p .0) (p .1) (omega (arith, p .3)) (omega arith) ∙ sym (height-at (p .0) (p .1))) in
+      let e : heightIn bs (c .slot) (c .parent) ≡ height bs (c .parent) =
+          rw (← p .2) (heightIn-enough (c .slot) (p .0 .slot) (p .0) (p .1) (omega (arith, p .3)) (omega arith) ∙ sym (height-at (p .0) (p .1))) in
       height-at c m ∙ heightIn-enough (c .slot) (suc (c .slot)) c m (omega arith) (omega arith) ∙ heightIn-next (c .slot) c m z ∙ ap suc e
 
   -- what stands below is not higher

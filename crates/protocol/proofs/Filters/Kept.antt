@@ -1,4 +1,4 @@
--- Which vote of a voter is kept, by membership only. Assumes nothing.
+-- The filters agree with their relations, so the kept vote of a voter depends on its votes only, in any order. Assumes nothing.
 use Prim.Native.Nat.{ℕ, _≤_, _<_}
 use mathlib.Core.Path.{_≡_, refl, sym, ap, _∙_}
 use mathlib.Core.Logic.{_⊎_, inl, inr}
@@ -173,18 +173,18 @@ module _ (vs : List Vote) (E t v : ℕ) where
   kept-holds a d h = rw (d, latest-of E t v vs d (last a) h)
 
   -- nothing is kept: dropped, or no vote in the window
-  pub kept-nothing : kept vs E t v ≡ nothing → (equivocates (counted E t) vs v ≡ true) ⊎ ((b : Vote) → Cast b vs → b .voter ≡ v → InWindow E t (b .slot) → ⊥)
+  pub kept-nothing : kept vs E t v ≡ nothing → (equivocates (counted E t) vs v ≡ true) ⊎ LastIs vs E t v none
   unfolding kept choiceOf
   kept-nothing e = go (equivocates (counted E t) vs v) refl (latest vs E t v) (latest-is E t v vs) e
     where
       go : (d : Bool) → equivocates (counted E t) vs v ≡ d → (f : Last) → LastIs vs E t v f → cond d nothing (choiceOf f) ≡ nothing
-          → (equivocates (counted E t) vs v ≡ true) ⊎ ((b : Vote) → Cast b vs → b .voter ≡ v → InWindow E t (b .slot) → ⊥)
+          → (equivocates (counted E t) vs v ≡ true) ⊎ LastIs vs E t v none
       go true d f l q = inl d
       go false d none l q = inr l
       go false d (last a) l q = absurd (not-chosen (sym q))
 
   -- and where it is so, nothing is kept
-  pub kept-none : (equivocates (counted E t) vs v ≡ true) ⊎ ((b : Vote) → Cast b vs → b .voter ≡ v → InWindow E t (b .slot) → ⊥) → kept vs E t v ≡ nothing
+  pub kept-none : (equivocates (counted E t) vs v ≡ true) ⊎ LastIs vs E t v none → kept vs E t v ≡ nothing
   unfolding kept choiceOf
   kept-none (inl d) = rw d
   kept-none (inr f) = go (equivocates (counted E t) vs v) refl

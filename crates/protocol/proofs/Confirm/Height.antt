@@ -3,15 +3,13 @@
 use Prim.Native.Nat.{ℕ, zero, suc, _≤_, _<_}
 use mathlib.Core.Path.{_≡_, refl, sym, ap, _∙_}
 use mathlib.Core.Logic.{_⊎_, inl, inr}
-use mathlib.Core.Bool.{true, false}
 use mathlib.Core.List.{List}
 use native.Mathlib.Nat.{le-of-eq, eq-zero-or-pos}
 use native.Mathlib.Omega.{arith}
-use lib.Dec.{eqb}
-use borrow.Author.Tests.{eq-eqb, ne-eqb}
+use borrow.Author.Tests.{ne-eqb}
 use Rattle.protocol.specs.declared.Block.{Block}
 use Rattle.protocol.specs.Lists.{Same}
-use Rattle.protocol.specs.Chain.{found, find, slotIn, genesis}
+use Rattle.protocol.specs.Chain.{find, slotIn, genesis}
 use Rattle.protocol.specs.Confirm.{height, heightIn, heightStep, heightGo}
 use Rattle.protocol.proofs.Chain.Above.{slot-start, above-start, sound-same}
 use Rattle.protocol.proofs.Chain.Find.{find-is}
@@ -57,7 +55,7 @@ module _ {bs : List Block} (S : Sound bs) where
   height-child c m z =
       let p = S .parents c m z in
       let e : heightIn bs (c .slot) (c .parent) ≡ height bs (c .parent) =
-          rw (← p .2) (heightIn-enough (c .slot) (p .0 .slot) (p .0) (p .1) (omega (arith, p .3)) (omega arith) ∙ sym (height-at (p .0) (p .1))) in
+      rw (← p .2) (heightIn-enough (c .slot) (p .0 .slot) (p .0) (p .1) (omega (arith, p .3)) (omega arith) ∙ sym (height-at (p .0) (p .1))) in
       height-at c m ∙ heightIn-enough (c .slot) (suc (c .slot)) c m (omega arith) (omega arith) ∙ heightIn-next (c .slot) c m z ∙ ap suc e
 
   -- what stands below is not higher

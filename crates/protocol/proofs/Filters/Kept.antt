@@ -1,10 +1,10 @@
 -- The filters agree with their relations, so the kept vote of a voter depends on its votes only, in any order. Assumes nothing.
-use Prim.Native.Nat.{ℕ, _≤_, _<_}
+use Prim.Native.Nat.{ℕ, _≤_}
 use mathlib.Core.Path.{_≡_, refl, sym, ap, _∙_}
 use mathlib.Core.Logic.{_⊎_, inl, inr}
-use mathlib.Core.Bool.{Bool, true, false, not, _&&_, cond, false≢true}
-use mathlib.Core.List.{List, [], _∷_, List·Memᴰ·head, List·Memᴰ·tail, List·Memᴰ·not-nil}
-use native.Mathlib.Nat.{le-of-eq, le-antisymm, le-trans}
+use mathlib.Core.Bool.{Bool, true, false, not, _&&_, cond}
+use mathlib.Core.List.{List, [], _∷_, List·Memᴰ·not-nil}
+use native.Mathlib.Nat.{le-antisymm, le-trans}
 use native.Mathlib.Omega.{arith}
 use lib.Dec.{eqb, ltb}
 use borrow.Author.Tests.{eqb-true, eqb-false, eq-eqb, ne-eqb, ltb-true, ltb-false, not-true}
@@ -12,7 +12,7 @@ use Rattle.protocol.specs.declared.Vote.{Vote}
 use Rattle.protocol.specs.Lists.{any}
 use Rattle.protocol.specs.Filters.{conflict, equivocates, counted, window, Last, last, none, later, latest, Choice, chosen, nothing, choiceOf, kept}
 use Rattle.protocol.proofs.Basics.Members.{Adds, adds-cons, adds-all, any-true, any-holds}
-use Rattle.protocol.proofs.Basics.Tests.{facts, tests, both, and-left, and-right, either, or-left, or-right, clashing, same-test}
+use Rattle.protocol.proofs.Basics.Tests.{facts, tests, both, and-left, and-right, clashing, same-test}
 use Rattle.protocol.proofs.Filters.Relations.{Cast, SameFor, InWindow, Equivocation, IsLast}
 
 -- ---- choices

@@ -15,7 +15,7 @@ use Rattle.protocol.specs.Chain.{found, find, slotIn, genesis}
 use Rattle.protocol.specs.Walk.{head}
 use Rattle.protocol.specs.Confirm.{deepGo, deepStep, deepIn, deepFrom, deep}
 use Rattle.protocol.proofs.Chain.Above.{above-cast, above-antisym, above-mono, slot-start, sound-same}
-use Rattle.protocol.proofs.Chain.Find.{find-is}
+use Rattle.protocol.proofs.Chain.Find.{find-holds}
 use Rattle.protocol.proofs.Chain.Relations.{In, Sound, Above, here, up}
 use Rattle.protocol.proofs.Filters.Relations.{SameFor}
 use Rattle.protocol.proofs.Walk.Ends.{head-early}
@@ -61,7 +61,7 @@ module _ {bs : List Block} (S : Sound bs) where
   deepIn-is zero m {x} c i f l =
       let e : x ≡ 0 = sym f ∙ slot-start S c i l in
       (genesis, record { mem = S .start; under = here e; early = inr refl; top = λ d n o p. above-cast e o }, refl)
-  deepIn-is (suc k) m {x} c i f l = rw (ap (find bs) (sym f) ∙ find-is bs S c i) (go (leb (c .slot) m) refl (λ p n q h. deepIn-is k m p n q h))
+  deepIn-is (suc k) m {x} c i f l = rw (ap (find bs) (sym f) ∙ find-holds bs S c i) (go (leb (c .slot) m) refl (λ p n q h. deepIn-is k m p n q h))
     where
       go : (b : Bool) → leb (c .slot) m ≡ b
           → ((p : Block) → In p bs → p .number ≡ c .parent → p .slot ≤ k → (d : Block) × IsDeep bs (c .parent) 0 m d × (d .number ≡ deepIn bs k m (c .parent)))
@@ -77,7 +77,7 @@ module _ {bs : List Block} (S : Sound bs) where
   unfolding deep deepFrom slotIn
   deep-is vs n E K t =
       let c = head-early S vs n E t in
-      let f : find bs (head bs vs n E t) ≡ found (c .0) = ap (find bs) (sym (c .2)) ∙ find-is bs S (c .0) (c .1) in
+      let f : find bs (head bs vs n E t) ≡ found (c .0) = ap (find bs) (sym (c .2)) ∙ find-holds bs S (c .0) (c .1) in
       let r = deepIn-is (c .0 .slot) (t - K) (c .0) (c .1) (c .2) (omega arith) in (
         r .0,
         record {

@@ -2,4 +2,5 @@
 pub mod Sendable
 pub mod Acceptance
 pub mod Sending
+pub mod Accepted
 pub mod RoundTrip

@@ -8,4 +8,5 @@ pub mod Store
 pub mod Packet
 pub mod Calls
 pub mod Exchange
+pub mod Lent
 pub mod Cases

@@ -6,12 +6,12 @@ use mathlib.Core.List.{[], append-nil}
 use native.Mathlib.Nat.{le-refl}
 use native.Mathlib.Omega.{arith}
 use Rattle.protocol.specs.declared.Settings.{Settings}
-use Rattle.protocol.specs.Walk.{base}
 use Rattle.protocol.specs.Store.{entries, show, showAll, Places, Node}
 use Rattle.protocol.proofs.Chain.Above.{parent-known}
 use Rattle.protocol.proofs.Store.Growth.{table-grow}
 use Rattle.protocol.proofs.Store.Sound.{vote-later, IsSound, store-sound}
-use Rattle.protocol.proofs.Store.Tables.{allFollow, Table}
+use Rattle.protocol.proofs.Store.Follow.{allFollow}
+use Rattle.protocol.proofs.Store.Tables.{Table}
 use Rattle.protocol.proofs.Store.Views.{entries-all, length-show, view-all}
 use Rattle.protocol.proofs.Calls.Passed.{Merges}
 use Rattle.protocol.specs.Calls.Merge.{mergeInto}

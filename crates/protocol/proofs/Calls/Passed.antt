@@ -1,9 +1,8 @@
 -- The tests that a call passed, as records of facts. Assumes nothing.
 use Prim.Native.Nat.{ℕ, _+_, _/_, _%_, _≤_, _<_}
-use mathlib.Core.Path.{_≡_, refl}
-use mathlib.Core.Bool.{Bool, true, false, not, _&&_, _||_}
+use mathlib.Core.Path.{_≡_}
+use mathlib.Core.Bool.{true, false, not, _&&_, _||_}
 use mathlib.Core.List.{List, _∷_}
-use native.Mathlib.Omega.{arith}
 use lib.Dec.{eqb, leb, ltb}
 use lib.ListN.{length}
 use borrow.Author.Tests.{eqb-true, ltb-false, leb-false, not-false}
@@ -11,32 +10,40 @@ use Rattle.protocol.specs.declared.Settings.{Settings}
 use Rattle.protocol.specs.Limits.{limits}
 use Rattle.protocol.specs.Lists.{any}
 use Rattle.protocol.specs.Chain.{find, foundWith}
-use Rattle.protocol.specs.Walk.{base}
 use Rattle.protocol.specs.Store.{entries, Places, Node}
-use Rattle.protocol.specs.Sound.{sound}
+use Rattle.protocol.specs.Sound.{between, settingsSound, placesSound, sound}
 use Rattle.protocol.specs.Packet.{packetOf, wellFormed}
-use Rattle.protocol.specs.Refusal.{first, unsound, wrongBeat, Test, Verdict, pass, refuse, done, unless}
+use Rattle.protocol.specs.Refusal.{first, unsound, wrongBeat, Test, pass, wrongPhase, alreadyDone, notJoined}
 use Rattle.protocol.specs.Calls.Merge.{mergeTests}
+use Rattle.protocol.specs.Calls.Open.{openTests}
 use Rattle.protocol.specs.Calls.Propose.{proposeTests}
 use Rattle.protocol.specs.Calls.Receive.{blocksAfter, votesAfter, packetAllowed, receiveTests}
 use Rattle.protocol.specs.Calls.Vote.{voteTests}
-use Rattle.protocol.proofs.Basics.Tests.{and-left, neither, clashing}
+use Rattle.protocol.proofs.Basics.Tests.{both, neither, clashing}
 use Rattle.protocol.proofs.Chain.Relations.{Known}
 use Rattle.protocol.proofs.Store.Sound.{IsSound, sound-true}
-use Rattle.protocol.proofs.Store.Tables.{found-known}
+use Rattle.protocol.proofs.Store.Follow.{found-known}
+use Rattle.protocol.proofs.Calls.Refusal.{passed}
 
--- ---- the tests that a call passed
+-- Open: settings and places are in range
+pub record Opens (s : Settings) (pl : Places) : Type 0 where
+  pub settings : settingsSound s ≡ true
+  pub places : placesSound pl ≡ true
 
-pub passed : (k : ℕ) (b : Bool) (ts : List Test) → first (record { refusal = k; applies = b } ∷ ts) ≡ pass → (b ≡ false) × (first ts ≡ pass)
-unfolding first
-passed k true ts e = let z : _≡_ {A = ℕ} 0 1 = cc in absurd (omega arith)
-passed k false ts e = (refl, e)
-
--- a call that answered had passed its tests
-pub carried-passes : {A : Type 0} (v : Verdict) (x : Node) (a : A) (y : Node) (b : A) → unless v x a y .reply ≡ done b → v ≡ pass
-unfolding unless
-carried-passes pass x a y b e = refl
-carried-passes (refuse k) x a y b e = let z : _≡_ {A = ℕ} 0 1 = cc in absurd (omega arith)
+pub opens : (s : Settings) (pl : Places) → first (openTests s pl) ≡ pass → Opens s pl
+unfolding openTests settingsSound
+opens s pl e =
+    let a = passed 1 (not (between 1 (limits .nodes) (s .nodes))) _ e in
+    let b = passed 2 (not (ltb (s .own) (s .nodes))) _ (a .1) in
+    let c = passed 3 (not (between 1 (limits .expiry) (s .expiry))) _ (b .1) in
+    let d = passed 4 (not (between 1 (limits .depth) (s .depth))) _ (c .1) in
+    let f = passed 5 (not (placesSound pl)) _ (d .1) in
+    record {
+      settings =
+          both (not-false (between 1 (limits .nodes) (s .nodes)) (a .0)) (both (not-false (ltb (s .own) (s .nodes)) (b .0))
+          (both (not-false (between 1 (limits .expiry) (s .expiry)) (c .0)) (not-false (between 1 (limits .depth) (s .depth)) (d .0))));
+      places = not-false (placesSound pl) (f .0);
+    }
 
 module _ (s : Settings) (pl : Places) (x : Node) (beat : ℕ) where
   pub record OnTime : Type 0 where
@@ -57,6 +64,24 @@ module _ (s : Settings) (pl : Places) (x : Node) (beat : ℕ) where
         },
         b .1,
       )
+
+  record OnTurn (phase : ℕ) : Type 0 where
+    base : OnTime
+    phased : beat % 3 ≡ phase
+    undone : x .clock .done < beat
+
+  -- and the two that Propose, Vote and Merge go on with
+  on-turn : (phase : ℕ) (ts : List Test) → first (unsound s pl x ∷ wrongBeat x beat ∷ wrongPhase phase beat ∷ alreadyDone x beat ∷ ts) ≡ pass → OnTurn phase × (first ts ≡ pass)
+  on-turn phase ts e =
+      let o = on-time _ e in
+      let a = passed 11 (not (eqb (beat % 3) phase)) _ (o .1) in
+      let b = passed 12 (leb beat (x .clock .done)) ts (a .1) in
+      (record { base = o .0; phased = eqb-true (beat % 3) phase (not-false (eqb (beat % 3) phase) (a .0)); undone = leb-false beat (x .clock .done) (b .0) }, b .1)
+
+  has-joined : (ts : List Test) → first (notJoined x beat ∷ ts) ≡ pass → (x .clock .merged + 1 ≡ beat / 3) × (first ts ≡ pass)
+  has-joined ts e =
+      let a = passed 13 (not (eqb (x .clock .merged + 1) (beat / 3))) ts e in
+      (eqb-true (x .clock .merged + 1) (beat / 3) (not-false (eqb (x .clock .merged + 1) (beat / 3)) (a .0)), a .1)
 
   pub record Receives (bytes : List ℕ) : Type 0 where
     pub base : OnTime
@@ -94,18 +119,16 @@ module _ (s : Settings) (pl : Places) (x : Node) (beat : ℕ) where
   pub proposes : (number : ℕ) → first (proposeTests s pl x beat number) ≡ pass → Proposes number
   unfolding proposeTests
   proposes number e =
-      let o = on-time _ e in
-      let a = passed 11 (not (eqb (beat % 3) 0)) _ (o .1) in
-      let b = passed 12 (leb beat (x .clock .done)) _ (a .1) in
-      let c = passed 13 (not (eqb (x .clock .merged + 1) (beat / 3))) _ (b .1) in
+      let o = on-turn 0 _ e in
+      let c = has-joined _ (o .1) in
       let d = passed 14 (not (eqb (beat / 3 % s .nodes) (s .own))) _ (c .1) in
       let f = passed 15 (foundWith (λ g. true) (find (entries (x .blocks)) number)) _ (d .1) in
       let g = passed 10 (leb (pl .blocks) (length (x .blocks))) _ (f .1) in
       record {
-        base = o .0;
-        phase = eqb-true (beat % 3) 0 (not-false (eqb (beat % 3) 0) (a .0));
-        undone = leb-false beat (x .clock .done) (b .0);
-        joined = eqb-true (x .clock .merged + 1) (beat / 3) (not-false (eqb (x .clock .merged + 1) (beat / 3)) (c .0));
+        base = o .0 .base;
+        phase = o .0 .phased;
+        undone = o .0 .undone;
+        joined = c .0;
         own = eqb-true (beat / 3 % s .nodes) (s .own) (not-false (eqb (beat / 3 % s .nodes) (s .own)) (d .0));
         new = λ k. clashing (found-known (entries (x .blocks)) number k) (f .0);
         room = leb-false (pl .blocks) (length (x .blocks)) (g .0);
@@ -122,20 +145,11 @@ module _ (s : Settings) (pl : Places) (x : Node) (beat : ℕ) where
   pub votes : first (voteTests s pl x beat) ≡ pass → Votes
   unfolding voteTests
   votes e =
-      let o = on-time _ e in
-      let a = passed 11 (not (eqb (beat % 3) 1)) _ (o .1) in
-      let b = passed 12 (leb beat (x .clock .done)) _ (a .1) in
-      let c = passed 13 (not (eqb (x .clock .merged + 1) (beat / 3))) _ (b .1) in
+      let o = on-turn 1 _ e in
+      let c = has-joined _ (o .1) in
       let d = passed 16 (any (λ a. eqb (a .voter) (s .own) && eqb (a .slot) (beat / 3)) (entries (x .votes))) _ (c .1) in
       let g = passed 10 (leb (pl .votes) (length (x .votes))) _ (d .1) in
-      record {
-        base = o .0;
-        phase = eqb-true (beat % 3) 1 (not-false (eqb (beat % 3) 1) (a .0));
-        undone = leb-false beat (x .clock .done) (b .0);
-        joined = eqb-true (x .clock .merged + 1) (beat / 3) (not-false (eqb (x .clock .merged + 1) (beat / 3)) (c .0));
-        new = d .0;
-        room = leb-false (pl .votes) (length (x .votes)) (g .0);
-      }
+      record { base = o .0 .base; phase = o .0 .phased; undone = o .0 .undone; joined = c .0; new = d .0; room = leb-false (pl .votes) (length (x .votes)) (g .0) }
 
   pub record Merges : Type 0 where
     pub base : OnTime
@@ -144,12 +158,4 @@ module _ (s : Settings) (pl : Places) (x : Node) (beat : ℕ) where
 
   pub merges : first (mergeTests s pl x beat) ≡ pass → Merges
   unfolding mergeTests
-  merges e =
-      let o = on-time _ e in
-      let a = passed 11 (not (eqb (beat % 3) 2)) _ (o .1) in
-      let b = passed 12 (leb beat (x .clock .done)) _ (a .1) in
-      record {
-        base = o .0;
-        phase = eqb-true (beat % 3) 2 (not-false (eqb (beat % 3) 2) (a .0));
-        undone = leb-false beat (x .clock .done) (b .0);
-      }
+  merges e = let o = on-turn 2 _ e in record { base = o .0 .base; phase = o .0 .phased; undone = o .0 .undone }

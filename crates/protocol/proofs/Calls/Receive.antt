@@ -1,13 +1,12 @@
 -- A Receive that is carried out: what it stores, what it brings into view, and that the node stays sound. Assumes nothing.
 use Prim.Native.Nat.{ℕ, zero, suc, _*_, _/_, _≤_, _<_}
 use mathlib.Core.Path.{_≡_, refl, sym, ap, _∙_}
-use mathlib.Core.Logic.{_⊎_, inl, inr}
+use mathlib.Core.Logic.{_⊎_, inl, inr, ⊎-elim, ⊎-map}
 use mathlib.Core.Bool.{Bool, true, false, not, _&&_, cond}
-use mathlib.Core.List.{List, _++_, List·Memᴰ·append-cases, Memᴰ·append-left}
+use mathlib.Core.List.{List, _++_}
 use native.Mathlib.Omega.{arith}
 use lib.Dec.{eqb}
-use lib.ListN.{length, drop}
-use lib.Seq.{drop-append-seam}
+use lib.ListN.{length}
 use Rattle.protocol.specs.declared.Block.{Block}
 use Rattle.protocol.specs.declared.Settings.{Settings}
 use Rattle.protocol.specs.declared.Vote.{Vote}
@@ -16,16 +15,19 @@ use Rattle.protocol.specs.Chain.{genesis, above}
 use Rattle.protocol.specs.Store.{entries, inView, allWaiting, show, sameVote, Places, Node}
 use Rattle.protocol.specs.Packet.{Packet, packetOf}
 use Rattle.protocol.specs.Calls.Receive.{voteAllowed, blocksAllowed, blocksAfter, votesAfter, packetAllowed, brings, stoodOn, receiveInto}
-use Rattle.protocol.proofs.Basics.Members.{any-true, any-holds, all-true}
+use Rattle.protocol.proofs.Basics.Members.{all-true, any-holds, any-true}
 use Rattle.protocol.proofs.Basics.Tests.{facts, both, and-left, and-right, either, or-left, or-right}
 use Rattle.protocol.proofs.Chain.Above.{above-true, above-holds, above-trans}
 use Rattle.protocol.proofs.Chain.Relations.{In, Known, Sound, Above, here, up}
 use Rattle.protocol.proofs.Filters.Relations.{Cast}
 use Rattle.protocol.proofs.Store.Growth.{Added, added-blocks, AddedVotes, added-votes, table-grow, show-append}
+use Rattle.protocol.proofs.Store.New.{blocks-keep, votes-keep, blocks-cases, votes-cases}
 use Rattle.protocol.proofs.Store.Sound.{VoteSound, vote-true, vote-later, ClockSound, IsSound, store-sound}
-use Rattle.protocol.proofs.Store.Tables.{Table, follow-sound}
-use Rattle.protocol.proofs.Store.Views.{entries-show, entries-waiting, length-entries, vote-same, same-vote, grown-entries, grown-keeps, grown-brings, grown-from, grown-none}
+use Rattle.protocol.proofs.Store.Follow.{follow-sound}
+use Rattle.protocol.proofs.Store.Tables.{Table}
+use Rattle.protocol.proofs.Store.Views.{entries-show, entries-waiting, length-entries, vote-same, same-vote, grown-keeps, grown-brings, grown-from, grown-none}
 use Rattle.protocol.proofs.Calls.Passed.{Receives}
+use Rattle.protocol.proofs.Calls.Received.{blocksNew, votesNew, shownBlock, shownVote, blocks-after, votes-after, blocks-into, votes-into, blocks-stored, votes-stored}
 
 module _ (s : Settings) (pl : Places) (x : Node) (beat : ℕ) (bytes : List ℕ) (R : Receives s pl x beat bytes) where
   abbrev pub packet : Packet
@@ -50,73 +52,70 @@ module _ (s : Settings) (pl : Places) (x : Node) (beat : ℕ) (bytes : List ℕ)
   votesAdded : AddedVotes (entries (x .votes)) (packet .votes)
   votesAdded = added-votes (entries (x .votes)) (packet .votes)
 
-  shownBlock : Block → Bool
-  shownBlock b = brings x beat packet && stoodOn (blocksAfter x packet) packet b
+  abbrev newBlocks : List Block
+  newBlocks = blocksNew x packet
 
-  shownVote : Vote → Bool
-  shownVote a = brings x beat packet && any (sameVote a) (packet .votes)
+  abbrev newVotes : List Vote
+  newVotes = votesNew x packet
 
-  -- the tables afterwards
-  blocks-are : after .blocks ≡ show shownBlock (x .blocks ++ allWaiting (added .extra))
-  unfolding receiveInto shownBlock blocksAfter
-  blocks-are =
-      ap (λ l. show (λ b. brings x beat packet && stoodOn (blocksAfter x packet) packet b) (x .blocks ++ allWaiting l))
-      (ap (λ l. drop (length (x .blocks)) l) (added .is) ∙ ap (λ k. drop k (entries (x .blocks) ++ added .extra)) (sym (length-entries (x .blocks)))
-      ∙ drop-append-seam (entries (x .blocks)) (added .extra))
+  abbrev showBlock : Block → Bool
+  showBlock = shownBlock x packet (brings x beat packet) beat
 
-  votes-are : after .votes ≡ show shownVote (x .votes ++ allWaiting (votesAdded .extra))
-  unfolding receiveInto shownVote votesAfter
-  votes-are =
-      ap (λ l. show (λ a. brings x beat packet && any (sameVote a) (packet .votes)) (x .votes ++ allWaiting l))
-      (ap (λ l. drop (length (x .votes)) l) (votesAdded .is) ∙ ap (λ k. drop k (entries (x .votes) ++ votesAdded .extra)) (sym (length-entries (x .votes)))
-      ∙ drop-append-seam (entries (x .votes)) (votesAdded .extra))
+  abbrev showVote : Vote → Bool
+  showVote = shownVote x packet (brings x beat packet) beat
 
-  blocks-stored : entries (after .blocks) ≡ entries (x .blocks) ++ added .extra
-  blocks-stored = ap entries blocks-are ∙ grown-entries shownBlock (x .blocks) (added .extra)
+  blocks-are : after .blocks ≡ show showBlock (x .blocks ++ allWaiting newBlocks)
+  blocks-are = blocks-into x packet (brings x beat packet) beat
 
-  votes-stored : entries (after .votes) ≡ entries (x .votes) ++ votesAdded .extra
-  votes-stored = ap entries votes-are ∙ grown-entries shownVote (x .votes) (votesAdded .extra)
+  votes-are : after .votes ≡ show showVote (x .votes ++ allWaiting newVotes)
+  votes-are = votes-into x packet (brings x beat packet) beat
 
-  stored-are : entries (after .blocks) ≡ blocksAfter x packet
-  unfolding blocksAfter
-  stored-are = blocks-stored ∙ sym (added .is)
+  pub receive-blocks : entries (after .blocks) ≡ entries (x .blocks) ++ newBlocks
+  receive-blocks = blocks-stored x packet (brings x beat packet) beat
+
+  pub receive-votes : entries (after .votes) ≡ entries (x .votes) ++ newVotes
+  receive-votes = votes-stored x packet (brings x beat packet) beat
+
+  blocks-stored-are : entries (after .blocks) ≡ blocksAfter x packet
+  blocks-stored-are = receive-blocks ∙ sym (blocks-after x packet)
+
+  votes-stored-are : entries (after .votes) ≡ votesAfter x packet
+  votes-stored-are = receive-votes ∙ sym (votes-after x packet)
 
   -- ---- stored
 
   pub keeps-blocks : (c : Block) → In c (entries (x .blocks)) → In c (entries (after .blocks))
-  keeps-blocks c m = rw blocks-stored (Memᴰ·append-left (added .extra) m)
+  unfolding blocksAfter
+  keeps-blocks c m = rw blocks-stored-are (blocks-keep (entries (x .blocks)) (packet .blocks) c m)
 
   pub keeps-votes : (a : Vote) → Cast a (entries (x .votes)) → Cast a (entries (after .votes))
-  keeps-votes a m = rw votes-stored (Memᴰ·append-left (votesAdded .extra) m)
+  unfolding votesAfter
+  keeps-votes a m = rw votes-stored-are (votes-keep (entries (x .votes)) (packet .votes) a m)
 
   pub stores-blocks : (c : Block) → In c (packet .blocks) → In c (entries (after .blocks))
-  stores-blocks c m = rw blocks-stored (added .has c m)
+  unfolding blocksAfter
+  stores-blocks c m = rw blocks-stored-are (added .has c m)
 
   pub stores-votes : (a : Vote) → Cast a (packet .votes) → Cast a (entries (after .votes))
-  stores-votes a m = rw votes-stored (votesAdded .has a m)
+  unfolding votesAfter
+  stores-votes a m = rw votes-stored-are (votesAdded .has a m)
 
   pub stored-blocks : (c : Block) → In c (entries (after .blocks)) → In c (entries (x .blocks)) ⊎ In c (packet .blocks)
-  stored-blocks c m = go (List·Memᴰ·append-cases (entries (x .blocks)) (rw blocks-stored at m))
-    where
-      go : In c (entries (x .blocks)) ⊎ In c (added .extra) → In c (entries (x .blocks)) ⊎ In c (packet .blocks)
-      go (inl n) = inl n
-      go (inr n) = inr (added .from c n)
+  unfolding blocksAfter
+  stored-blocks c m = blocks-cases (entries (x .blocks)) (packet .blocks) c (rw blocks-stored-are at m)
 
   pub stored-votes : (a : Vote) → Cast a (entries (after .votes)) → Cast a (entries (x .votes)) ⊎ Cast a (packet .votes)
-  stored-votes a m = go (List·Memᴰ·append-cases (entries (x .votes)) (rw votes-stored at m))
-    where
-      go : Cast a (entries (x .votes)) ⊎ Cast a (votesAdded .extra) → Cast a (entries (x .votes)) ⊎ Cast a (packet .votes)
-      go (inl n) = inl n
-      go (inr n) = inr (votesAdded .from a n)
+  unfolding votesAfter
+  stored-votes a m = votes-cases (entries (x .votes)) (packet .votes) a (rw votes-stored-are at m)
 
   pub packet-real : (c : Block) → In c (packet .blocks) → (0 < c .slot) × (c .slot ≤ beat / 3)
   packet-real c m = added .real c m
 
   all-sound : Sound (entries (after .blocks))
-  all-sound = rw blocks-stored (follow-sound (beat / 3) (entries (x .blocks)) (added .extra) (store-sound (R .base .good)) (added .follow))
+  all-sound = rw receive-blocks (follow-sound (beat / 3) (entries (x .blocks)) newBlocks (store-sound (R .base .good)) (added .follow))
 
   vote-ok : (a : Vote) → Cast a (packet .votes) → VoteSound (s .nodes) (beat / 3) (entries (after .blocks)) a
-  vote-ok a m = rw stored-are (vote-true (s .nodes) (beat / 3) (blocksAfter x packet) a (all-true (voteAllowed (s .nodes) (beat / 3) (blocksAfter x packet)) votes-ok a m))
+  vote-ok a m = rw blocks-stored-are (vote-true (s .nodes) (beat / 3) (blocksAfter x packet) a (all-true (voteAllowed (s .nodes) (beat / 3) (blocksAfter x packet)) votes-ok a m))
 
   -- ---- in view
 
@@ -127,72 +126,59 @@ module _ (s : Settings) (pl : Places) (x : Node) (beat : ℕ) (bytes : List ℕ)
 
   under-true : (c : Block) → stoodOn (blocksAfter x packet) packet c ≡ true → Under c
   unfolding stoodOn
-  under-true c e = go (either (any (λ d. above (blocksAfter x packet) (d .number) (c .number)) (packet .blocks)) _ e)
-    where
-      go : (any (λ d. above (blocksAfter x packet) (d .number) (c .number)) (packet .blocks) ≡ true) ⊎ (any (λ a. above (blocksAfter x packet) (a .number) (c .number)) (packet .votes) ≡ true) → Under c
-      go (inl h) =
-          let r = any-true (λ d. above (blocksAfter x packet) (d .number) (c .number)) (packet .blocks) h in
-          by-block (r .0) (r .1) (above-true all-sound (r .0 .number) (c .number) (rw stored-are (r .2)))
-      go (inr h) =
-          let r = any-true (λ a. above (blocksAfter x packet) (a .number) (c .number)) (packet .votes) h in
-          by-vote (r .0) (r .1) (above-true all-sound (r .0 .number) (c .number) (rw stored-are (r .2)))
+  under-true c e =
+      ⊎-elim (λ h.
+      let r = any-true (λ d. above (blocksAfter x packet) (d .number) (c .number)) (packet .blocks) h in
+      by-block (r .0) (r .1) (above-true all-sound (r .0 .number) (c .number) (rw blocks-stored-are (r .2))))
+      (λ h.
+      let r = any-true (λ a. above (blocksAfter x packet) (a .number) (c .number)) (packet .votes) h in
+      by-vote (r .0) (r .1) (above-true all-sound (r .0 .number) (c .number) (rw blocks-stored-are (r .2))))
+      (either (any (λ d. above (blocksAfter x packet) (d .number) (c .number)) (packet .blocks)) _ e)
 
   under-holds : (c : Block) → Under c → stoodOn (blocksAfter x packet) packet c ≡ true
   unfolding stoodOn
   under-holds c (by-block d m r) =
       or-left (any (λ o. above (blocksAfter x packet) (o .number) (c .number)) (packet .blocks)) _
-      (any-holds (λ o. above (blocksAfter x packet) (o .number) (c .number)) d m (rw stored-are at (above-holds all-sound r)))
+      (any-holds (λ o. above (blocksAfter x packet) (o .number) (c .number)) d m (rw blocks-stored-are at (above-holds all-sound r)))
   under-holds c (by-vote a m r) =
       let o = vote-ok a m .on in
       or-right (any (λ o. above (blocksAfter x packet) (o .number) (c .number)) (packet .blocks)) _
-      (any-holds (λ o. above (blocksAfter x packet) (o .number) (c .number)) a m (rw stored-are at (above-holds all-sound r)))
+      (any-holds (λ o. above (blocksAfter x packet) (o .number) (c .number)) a m (rw blocks-stored-are at (above-holds all-sound r)))
 
   pub keeps-view : (c : Block) → In c (inView (x .blocks)) → In c (inView (after .blocks))
-  keeps-view c m = rw blocks-are (grown-keeps shownBlock (x .blocks) (added .extra) c m)
+  keeps-view c m = rw blocks-are (grown-keeps showBlock (x .blocks) newBlocks c m)
 
   pub keeps-view-votes : (a : Vote) → Cast a (inView (x .votes)) → Cast a (inView (after .votes))
-  keeps-view-votes a m = rw votes-are (grown-keeps shownVote (x .votes) (votesAdded .extra) a m)
+  keeps-view-votes a m = rw votes-are (grown-keeps showVote (x .votes) newVotes a m)
 
   pub brings-block : brings x beat packet ≡ true → (c : Block) → In c (entries (after .blocks)) → Under c → In c (inView (after .blocks))
-  unfolding shownBlock
-  brings-block b c m u = rw blocks-are (grown-brings shownBlock (x .blocks) (added .extra) c (rw blocks-stored at m) (both b (under-holds c u)))
+  brings-block b c m u = rw blocks-are (grown-brings showBlock (x .blocks) newBlocks c (rw receive-blocks at m) (both b (under-holds c u)))
 
   pub brings-packet : brings x beat packet ≡ true → (c : Block) → In c (packet .blocks) → In c (inView (after .blocks))
   brings-packet b c m = brings-block b c (stores-blocks c m) (by-block c m (here refl))
 
   pub brings-votes : brings x beat packet ≡ true → (a : Vote) → Cast a (packet .votes) → Cast a (inView (after .votes))
-  unfolding shownVote
   brings-votes b a m =
-      rw votes-are (grown-brings shownVote (x .votes) (votesAdded .extra) a (rw votes-stored at (stores-votes a m)) (both b (any-holds (sameVote a) a m (same-vote a a refl))))
+      rw votes-are (grown-brings showVote (x .votes) newVotes a (rw receive-votes at (stores-votes a m)) (both b (any-holds (sameVote a) a m (same-vote a a refl))))
 
   pub view-from : (c : Block) → In c (inView (after .blocks)) → In c (inView (x .blocks)) ⊎ ((brings x beat packet ≡ true) × In c (entries (after .blocks)) × Under c)
-  unfolding shownBlock
-  view-from c m = go (grown-from shownBlock (x .blocks) (added .extra) c (rw blocks-are at m))
-    where
-      go : In c (inView (x .blocks)) ⊎ (In c (entries (x .blocks) ++ added .extra) × ((brings x beat packet && stoodOn (blocksAfter x packet) packet c) ≡ true))
-          → In c (inView (x .blocks)) ⊎ ((brings x beat packet ≡ true) × In c (entries (after .blocks)) × Under c)
-      go (inl n) = inl n
-      go (inr n) = inr (and-left (brings x beat packet) _ (n .1), rw blocks-stored (n .0), under-true c (and-right (brings x beat packet) _ (n .1)))
+  view-from c m =
+      ⊎-map (λ n. n) (λ n. (and-left (brings x beat packet) _ (n .1), rw receive-blocks (n .0), under-true c (and-right (brings x beat packet) _ (n .1))))
+      (grown-from showBlock (x .blocks) newBlocks c (rw blocks-are at m))
 
   pub view-votes-from : (a : Vote) → Cast a (inView (after .votes)) → Cast a (inView (x .votes)) ⊎ ((brings x beat packet ≡ true) × Cast a (packet .votes))
-  unfolding shownVote
-  view-votes-from a m = go (grown-from shownVote (x .votes) (votesAdded .extra) a (rw votes-are at m))
-    where
-      go : Cast a (inView (x .votes)) ⊎ (Cast a (entries (x .votes) ++ votesAdded .extra) × ((brings x beat packet && any (sameVote a) (packet .votes)) ≡ true))
-          → Cast a (inView (x .votes)) ⊎ ((brings x beat packet ≡ true) × Cast a (packet .votes))
-      go (inl n) = inl n
-      go (inr n) =
-          let r = any-true (sameVote a) (packet .votes) (and-right (brings x beat packet) _ (n .1)) in
-          inr (and-left (brings x beat packet) _ (n .1), rw (vote-same a (r .0) (r .2)) (r .1))
+  view-votes-from a m =
+      ⊎-map (λ n. n) (λ n.
+      let r = any-true (sameVote a) (packet .votes) (and-right (brings x beat packet) _ (n .1)) in
+      (and-left (brings x beat packet) _ (n .1), rw (vote-same a (r .0) (r .2)) (r .1)))
+      (grown-from showVote (x .votes) newVotes a (rw votes-are at m))
 
   -- nothing is brought: the view is as it was
   pub view-stays : brings x beat packet ≡ false → inView (after .blocks) ≡ inView (x .blocks)
-  unfolding shownBlock
-  view-stays b = ap inView blocks-are ∙ grown-none shownBlock (x .blocks) (added .extra) (λ c. ap (λ t. t && stoodOn (blocksAfter x packet) packet c) b)
+  view-stays b = ap inView blocks-are ∙ grown-none showBlock (x .blocks) newBlocks (λ c. ap (λ t. t && stoodOn (blocksAfter x packet) packet c) b)
 
   pub view-votes-stay : brings x beat packet ≡ false → inView (after .votes) ≡ inView (x .votes)
-  unfolding shownVote
-  view-votes-stay b = ap inView votes-are ∙ grown-none shownVote (x .votes) (votesAdded .extra) (λ a. ap (λ t. t && any (sameVote a) (packet .votes)) b)
+  view-votes-stay b = ap inView votes-are ∙ grown-none showVote (x .votes) newVotes (λ a. ap (λ t. t && any (sameVote a) (packet .votes)) b)
 
   -- ---- sound
 
@@ -214,16 +200,12 @@ module _ (s : Settings) (pl : Places) (x : Node) (beat : ℕ) (bytes : List ℕ)
 
   grows : Table (beat / 3) (after .blocks)
   grows =
-      rw (blocks-are ∙ show-append shownBlock (x .blocks) (allWaiting (added .extra)))
-      (table-grow (x .clock .seen / 3) (beat / 3) later shownBlock (x .blocks) (show shownBlock (allWaiting (added .extra))) (R .base .good .blocks)
-      (rw (entries-show shownBlock (allWaiting (added .extra)) ∙ entries-waiting (added .extra)) (added .follow)))
+      rw (blocks-are ∙ show-append showBlock (x .blocks) (allWaiting newBlocks))
+      (table-grow (x .clock .seen / 3) (beat / 3) later showBlock (x .blocks) (show showBlock (allWaiting newBlocks)) (R .base .good .blocks)
+      (rw (entries-show showBlock (allWaiting newBlocks) ∙ entries-waiting newBlocks) (added .follow)))
 
   votes-good : (a : Vote) → Cast a (entries (after .votes)) → VoteSound (s .nodes) (beat / 3) (entries (after .blocks)) a
-  votes-good a m = go (stored-votes a m)
-    where
-      go : Cast a (entries (x .votes)) ⊎ Cast a (packet .votes) → VoteSound (s .nodes) (beat / 3) (entries (after .blocks)) a
-      go (inl n) = vote-later later keeps-blocks (R .base .good .votes a n)
-      go (inr n) = vote-ok a n
+  votes-good a m = ⊎-elim (λ n. vote-later later keeps-blocks (R .base .good .votes a n)) (vote-ok a) (stored-votes a m)
 
   closed : (c : Block) → In c (inView (after .blocks)) → Known (inView (after .blocks)) (c .parent)
   closed c m = go (view-from c m)
@@ -249,23 +231,21 @@ module _ (s : Settings) (pl : Places) (x : Node) (beat : ℕ) (bytes : List ℕ)
           zero-or (suc k) = inr (omega arith)
 
   closed-votes : (a : Vote) → Cast a (inView (after .votes)) → Known (inView (after .blocks)) (a .number)
-  closed-votes a m = go (view-votes-from a m)
-    where
-      go : Cast a (inView (x .votes)) ⊎ ((brings x beat packet ≡ true) × Cast a (packet .votes)) → Known (inView (after .blocks)) (a .number)
-      go (inl n) = let k = R .base .good .closed-votes a n in (k .0, keeps-view (k .0) (k .1), k .2)
-      go (inr n) = let o = vote-ok a (n .1) .on in (o .0, brings-block (n .0) (o .0) (o .1) (by-vote a (n .1) (here (sym (o .2)))), o .2)
+  closed-votes a m =
+      ⊎-elim (λ n. let k = R .base .good .closed-votes a n in (k .0, keeps-view (k .0) (k .1), k .2))
+      (λ n. let o = vote-ok a (n .1) .on in (o .0, brings-block (n .0) (o .0) (o .1) (by-vote a (n .1) (here (sym (o .2)))), o .2)) (view-votes-from a m)
 
   pub receive-sound : IsSound s pl after
-  unfolding receiveInto blocksAfter votesAfter
+  unfolding receiveInto votesAfter
   receive-sound = record {
     settings = R .base .good .settings;
     places = R .base .good .places;
-    fit-blocks = omega (arith, R .room-blocks, ap length (sym (stored-are)), sym (length-entries (after .blocks)));
-    fit-votes = omega (arith, R .room-votes, ap length (votes-stored ∙ sym (votesAdded .is)), length-entries (after .votes));
+    fit-blocks = omega (arith, R .room-blocks, ap length (sym (blocks-stored-are)), sym (length-entries (after .blocks)));
+    fit-votes = omega (arith, R .room-votes, ap length votes-stored-are, length-entries (after .votes));
     time = time;
     blocks = grows;
     votes = votes-good;
-    apart = rw votes-stored (votesAdded .apart (R .base .good .apart));
+    apart = rw votes-stored-are (votesAdded .apart (R .base .good .apart));
     closed-blocks = closed;
     closed-votes = closed-votes;
   }

@@ -1,33 +1,25 @@
 -- What Write writes, and the buffer that a Write carried out leaves. Assumes nothing.
-use Prim.Native.Nat.{ℕ, suc, _/_, _%_}
+use Prim.Native.Nat.{ℕ, _/_, _%_}
 use mathlib.Core.Path.{_≡_, refl, sym, ap, _∙_}
-use mathlib.Core.Logic.{_⊎_, inl, inr}
+use mathlib.Core.Logic.{_⊎_, inl, inr, ⊎-map}
 use mathlib.Core.Bool.{Bool, true, not, _&&_}
 use mathlib.Core.List.{List, [], _∷_, _++_, List·Memᴰ·head, List·Memᴰ·tail, List·Memᴰ·not-nil}
-use native.Mathlib.Omega.{arith}
 use lib.ListN.{length, take}
 use lib.Seq.{take-append-seam}
-use lib.Dec.{eqb}
 use borrow.Author.Tests.{eq-eqb, not-false}
 use Rattle.protocol.specs.declared.Block.{Block}
 use Rattle.protocol.specs.declared.Settings.{Settings}
 use Rattle.protocol.specs.Chain.{genesis}
 use Rattle.protocol.specs.Store.{inView, Places, Node}
 use Rattle.protocol.specs.Sound.{sound}
-use Rattle.protocol.specs.Refusal.{first, Verdict, pass, refuse, done}
-use Rattle.protocol.specs.Calls.Write.{lastBlock, afterGenesis, proposedNow, packetOut, over, writeTests, writeUnless, write}
+use Rattle.protocol.specs.Refusal.{first, done}
+use Rattle.protocol.specs.Calls.Write.{lastBlock, afterGenesis, proposedNow, packetOut, over, writeTests, write}
 use Rattle.protocol.proofs.Basics.Tests.{facts, both}
 use Rattle.protocol.proofs.Chain.Relations.{In}
 use Rattle.protocol.proofs.Store.Sound.{IsSound, sound-true}
-use Rattle.protocol.proofs.Calls.Passed.{passed}
+use Rattle.protocol.proofs.Calls.Refusal.{passed, written-done}
 
 -- ---- a Write that was carried out
-
-wrote-pass : (v : Verdict) (bytes buffer : List ℕ) (n : ℕ) → writeUnless v bytes buffer .reply ≡ done n
-    → (v ≡ pass) × (n ≡ length bytes) × (writeUnless v bytes buffer .buffer ≡ over bytes buffer)
-unfolding writeUnless
-wrote-pass pass bytes buffer n e = (refl, cc, refl)
-wrote-pass (refuse k) bytes buffer n e = let z : _≡_ {A = ℕ} 0 1 = cc in absurd (omega arith)
 
 -- the answer is the packet's length, and so many bytes of the buffer are the packet
 pub record Wrote (s : Settings) (pl : Places) (x : Node) (proposal : Bool) (buffer : List ℕ) (n : ℕ) : Type 0 where
@@ -39,14 +31,14 @@ pub record Wrote (s : Settings) (pl : Places) (x : Node) (proposal : Bool) (buff
 pub wrote : (s : Settings) (pl : Places) (x : Node) (proposal : Bool) (buffer : List ℕ) (n : ℕ) → write s pl x proposal buffer .reply ≡ done n → Wrote s pl x proposal buffer n
 unfolding write writeTests over
 wrote s pl x proposal buffer n e =
-    let w = wrote-pass (first (writeTests s pl x proposal buffer)) (packetOut proposal x) buffer n e in
+    let w = written-done (first (writeTests s pl x proposal buffer)) (packetOut proposal x) buffer n e in
     let a = passed 6 (not (sound s pl x)) _ (w .0) in
     let b = passed 19 (proposal && not (proposedNow s x)) _ (a .1) in
     record {
       good = sound-true s pl x (not-false (sound s pl x) (a .0));
       proposes = λ q. not-false (proposedNow s x) (ap (λ o. o && not (proposedNow s x)) (sym q) ∙ b .0);
-      size = w .1;
-      bytes = (λ i. take (w .1 i) (w .2 i)) ∙ take-append-seam (packetOut proposal x) _;
+      size = sym (w .1);
+      bytes = (λ i. take (sym (w .1) i) (w .2 i)) ∙ take-append-seam (packetOut proposal x) _;
     }
 
 -- ---- the proposer
@@ -79,11 +71,7 @@ pub last-in : (xs : List Block) → (lastBlock xs ≡ genesis) ⊎ In (lastBlock
 unfolding lastBlock
 last-in [] = inl refl
 last-in (x ∷ []) = inr (List·Memᴰ·head refl)
-last-in (x ∷ y ∷ xs) = go (last-in (y ∷ xs))
-  where
-    go : (lastBlock (y ∷ xs) ≡ genesis) ⊎ In (lastBlock (y ∷ xs)) (y ∷ xs) → (lastBlock (y ∷ xs) ≡ genesis) ⊎ In (lastBlock (y ∷ xs)) (x ∷ y ∷ xs)
-    go (inl e) = inl e
-    go (inr m) = inr (List·Memᴰ·tail m)
+last-in (x ∷ y ∷ xs) = ⊎-map (λ e. e) (λ m. List·Memᴰ·tail m) (last-in (y ∷ xs))
 
 pub others-in : (xs : List Block) (c : Block) → In c (afterGenesis xs) → In c xs
 unfolding afterGenesis

@@ -2,7 +2,7 @@
 -- Assumes nothing.
 use Prim.Native.Nat.{ℕ, _/_, _≤_}
 use mathlib.Core.Path.{_≡_, refl, sym, ap}
-use mathlib.Core.Logic.{_⊎_, inl, inr}
+use mathlib.Core.Logic.{_⊎_, inl, inr, ⊎-elim, ⊎-map}
 use mathlib.Core.Bool.{Bool, true, false, _||_, cond}
 use mathlib.Core.List.{List, [], _∷_, _++_, List·Memᴰ·head, List·Memᴰ·tail, List·Memᴰ·cases-cons, List·Memᴰ·append-cases, List·Memᴰ·eq-of-singleton, Memᴰ·append-left, Memᴰ·append-right}
 use native.Mathlib.Omega.{arith}
@@ -26,8 +26,9 @@ use Rattle.protocol.proofs.Chain.Find.{find-in}
 use Rattle.protocol.proofs.Chain.Relations.{In, Sound}
 use Rattle.protocol.proofs.Filters.Relations.{Cast}
 use Rattle.protocol.proofs.Store.Growth.{Added, added-blocks}
+use Rattle.protocol.proofs.Store.New.{blocks-keep, blocks-cases}
 use Rattle.protocol.proofs.Store.Sound.{VoteSound, vote-holds, vote-later}
-use Rattle.protocol.proofs.Store.Tables.{blockFollows, allFollow, Follows, follows-true, found-holds}
+use Rattle.protocol.proofs.Store.Follow.{blockFollows, allFollow, Follows, follows-true, found-holds}
 use Rattle.protocol.proofs.Store.Views.{same-block}
 use Rattle.protocol.proofs.Exchange.Sendable.{Sendable, sending, sendable-sound, sent-in, sent-cases}
 
@@ -62,13 +63,9 @@ module _ (F : Block → Type 0) (one : (c d : Block) → F c → F d → c .numb
 
   add-from : (known : List Block) (b : Block) (t : Bool) → ((c : Block) → In c known → F c) → F b → (c : Block) → In c (cond t known (known ++ (b ∷ []))) → F c
   add-from known b true g h c m = g c m
-  add-from known b false g h c m = go (List·Memᴰ·append-cases known m)
-    where
-      go : In c known ⊎ In c (b ∷ []) → F c
-      go (inl n) = g c n
-      go (inr n) = rw (List·Memᴰ·eq-of-singleton n) h
+  add-from known b false g h c m = ⊎-elim (g c) (λ n. let q : c ≡ b = List·Memᴰ·eq-of-singleton n in rw q h) (List·Memᴰ·append-cases known m)
 
-  pub blocks-allowed : (e known bs : List Block) → ((c : Block) → In c e → In c known) → ((c : Block) → In c known → F c) → ((c : Block) → In c bs → F c)
+  blocks-allowed : (e known bs : List Block) → ((c : Block) → In c e → In c known) → ((c : Block) → In c known → F c) → ((c : Block) → In c bs → F c)
       → allFollow slot e bs ≡ true → blocksAllowed later known bs ≡ true
   unfolding allFollow blocksAllowed addBlock
   blocks-allowed e known [] f g h w = refl
@@ -98,18 +95,10 @@ module _ (F : Block → Type 0) (one : (c d : Block) → F c → F d → c .numb
       A = added-blocks later (entries (x .blocks)) (p .blocks) S ok
 
       all : (c : Block) → In c (addBlocks (entries (x .blocks)) (p .blocks)) → F c
-      all c m = go (List·Memᴰ·append-cases (entries (x .blocks)) (rw (A .is) at m))
-        where
-          go : In c (entries (x .blocks)) ⊎ In c (A .extra) → F c
-          go (inl n) = g c n
-          go (inr n) = h c (A .from c n)
+      all c m = ⊎-elim (g c) (h c) (blocks-cases (entries (x .blocks)) (p .blocks) c m)
 
       has : (c : Block) → In c (genesis ∷ p .blocks) → In c (addBlocks (entries (x .blocks)) (p .blocks))
-      has c m = rw (A .is) (go (List·Memᴰ·cases-cons m))
-        where
-          go : (c ≡ genesis) ⊎ In c (p .blocks) → In c (entries (x .blocks) ++ A .extra)
-          go (inl q) = rw q (Memᴰ·append-left (A .extra) (S .start))
-          go (inr n) = A .has c n
+      has c m = ⊎-elim (λ q. rw q (blocks-keep (entries (x .blocks)) (p .blocks) genesis (S .start))) (A .has c) (List·Memᴰ·cases-cons m)
 
 -- ---- a packet that meets all the rules is refused only for want of places
 
@@ -134,7 +123,7 @@ module _ (s : Settings) (pl : Places) (y : Node) (beat : ℕ) (bytes : List ℕ)
 abbrev pub Agree : List Block → List Block → Type 0
 Agree xs ys = (c d : Block) → In c xs → In d ys → c .number ≡ d .number → c ≡ d
 
--- the packet is allowed, and afterwards the stock has the blocks of both
+-- the packet is allowed, and afterwards the store has the blocks of both
 pub record Welcome (n slot : ℕ) (y : Node) (bs : List Block) (p : Packet) : Type 0 where
   pub allowed : packetAllowed n slot y p ≡ true
   pub old : (c : Block) → In c (entries (y .blocks)) → In c (blocksAfter y p)
@@ -158,15 +147,7 @@ module _ {n slot : ℕ} {bs : List Block} {vs : List Vote} (D : Sendable n slot 
       let N = added-blocks later (entries (y .blocks)) (afterGenesis bs) S (and-left (blocksAllowed later (entries (y .blocks)) (afterGenesis bs)) _ ok) in
       record {
         allowed = ok;
-        old = λ c m. rw (N .is) (Memᴰ·append-left (N .extra) m);
-        new = λ c m. rw (N .is) (new N c (sent-cases D c m));
-        only = λ c m. only N c (List·Memᴰ·append-cases (entries (y .blocks)) (rw (N .is) at m));
+        old = blocks-keep (entries (y .blocks)) (afterGenesis bs);
+        new = λ c m. ⊎-elim (λ q. rw q (blocks-keep (entries (y .blocks)) (afterGenesis bs) genesis (S .start))) (N .has c) (sent-cases D c m);
+        only = λ c m. ⊎-map (λ k. k) (sent-in D c) (blocks-cases (entries (y .blocks)) (afterGenesis bs) c m);
       }
-    where
-      new : (N : Added later (entries (y .blocks)) (afterGenesis bs)) → (c : Block) → (c ≡ genesis) ⊎ In c (afterGenesis bs) → In c (entries (y .blocks) ++ N .extra)
-      new N c (inl q) = rw q (Memᴰ·append-left (N .extra) (S .start))
-      new N c (inr m) = N .has c m
-
-      only : (N : Added later (entries (y .blocks)) (afterGenesis bs)) → (c : Block) → In c (entries (y .blocks)) ⊎ In c (N .extra) → In c (entries (y .blocks)) ⊎ In c bs
-      only N c (inl m) = inl m
-      only N c (inr m) = inr (sent-in D c (N .from c m))

@@ -1,9 +1,9 @@
--- The gossip and the proposal of a sound node fit their bytes, and are refused at a sound node of the same n only for want of places,
--- if no number names two blocks. Assumes nothing.
+-- The gossip and the proposal of a sound node fit their bytes, and are allowed at a sound node of the same n, if no number names two blocks.
+-- Assumes nothing.
 use Prim.Native.Nat.{ℕ, _/_, _^_, _≤_, _<_}
 use mathlib.Core.Path.{_≡_, refl, ap}
-use mathlib.Core.Logic.{_⊎_, inl, inr}
-use mathlib.Core.Bool.{true, false, _&&_, cond}
+use mathlib.Core.Logic.{⊎-elim}
+use mathlib.Core.Bool.{true, _&&_}
 use native.Mathlib.Omega.{arith}
 use lib.Dec.{eqb}
 use borrow.Author.Tests.{eq-eqb}
@@ -13,19 +13,17 @@ use Rattle.protocol.specs.Limits.{limits}
 use Rattle.protocol.specs.Chain.{genesis}
 use Rattle.protocol.specs.Store.{entries, inView, Places, Node}
 use Rattle.protocol.specs.Packet.{headerFormed}
-use Rattle.protocol.specs.Refusal.{pass, refuse, first}
-use Rattle.protocol.specs.Calls.Receive.{headerAllowed, receiveTests}
-use Rattle.protocol.specs.Calls.Write.{afterGenesis, lastBlock, gossipOf, proposalOf, proposedNow, packetOut}
+use Rattle.protocol.specs.Calls.Receive.{headerAllowed}
+use Rattle.protocol.specs.Calls.Write.{afterGenesis, lastBlock, gossipOf, proposalOf, proposedNow}
 use Rattle.protocol.specs.RoundTrip.{NumbersBelow}
 use Rattle.protocol.proofs.Basics.Members.{any-holds}
 use Rattle.protocol.proofs.Basics.Tests.{both}
 use Rattle.protocol.proofs.Chain.Relations.{In}
-use Rattle.protocol.proofs.Store.Sound.{IsSound, sound-holds, ranges, places-few, store-sound, slot-seen}
+use Rattle.protocol.proofs.Store.Sound.{IsSound, ranges, places-few, store-sound, slot-seen}
 use Rattle.protocol.proofs.Store.Views.{length-entries, view-length, view-stored}
-use Rattle.protocol.proofs.Packet.Bytes.{round-trip, written-well}
 use Rattle.protocol.proofs.Packet.Ranges.{FieldsFit, InRange}
 use Rattle.protocol.proofs.Calls.Write.{IsProposer, proposer-true, last-in}
-use Rattle.protocol.proofs.Exchange.Acceptance.{lacking, verdict, Agree, Welcome, welcome}
+use Rattle.protocol.proofs.Exchange.Acceptance.{Agree, Welcome, welcome}
 use Rattle.protocol.proofs.Exchange.Sendable.{store-sendable, view-sendable, sendable-fits, sent-cases}
 
 module _ {s : Settings} {pl : Places} {x : Node} (G : IsSound s pl x) where
@@ -35,7 +33,7 @@ module _ {s : Settings} {pl : Places} {x : Node} (G : IsSound s pl x) where
 
   -- ---- gossip
 
-  pub gossip-fits : (w : ℕ) → NumbersBelow (256 ^ w) x → FieldsFit w (gossipOf x)
+  gossip-fits : (w : ℕ) → NumbersBelow (256 ^ w) x → FieldsFit w (gossipOf x)
   unfolding gossipOf
   gossip-fits w N =
       let r = places-few pl (G .places) in
@@ -52,16 +50,12 @@ module _ {s : Settings} {pl : Places} {x : Node} (G : IsSound s pl x) where
   tip = lastBlock (inView (x .blocks))
 
   tip-fits : (w : ℕ) → NumbersBelow (256 ^ w) x → (tip .slot < 2 ^ 32) × (tip .number < 256 ^ w)
-  tip-fits w N = go tip (last-in (inView (x .blocks)))
+  tip-fits w N = ⊎-elim (λ e. rw e (known genesis (store-sound G .start))) (λ m. known tip (view-stored (x .blocks) tip m)) (last-in (inView (x .blocks)))
     where
       known : (b : Block) → In b (entries (x .blocks)) → (b .slot < 2 ^ 32) × (b .number < 256 ^ w)
       known b m = (omega (arith, slot-seen G b m, G .time .limited), number-fits w N b m)
 
-      go : (b : Block) → (b ≡ genesis) ⊎ In b (inView (x .blocks)) → (b .slot < 2 ^ 32) × (b .number < 256 ^ w)
-      go b (inl e) = rw e (known genesis (store-sound G .start))
-      go b (inr m) = known b (view-stored (x .blocks) b m)
-
-  pub proposal-fits : (w : ℕ) → NumbersBelow (256 ^ w) x → FieldsFit w (proposalOf x)
+  proposal-fits : (w : ℕ) → NumbersBelow (256 ^ w) x → FieldsFit w (proposalOf x)
   unfolding proposalOf
   proposal-fits w N =
       let r = places-few pl (G .places) in
@@ -75,21 +69,13 @@ module _ {s : Settings} {pl : Places} {x : Node} (G : IsSound s pl x) where
 
   module _ (now : proposedNow s x ≡ true) where
     tip-in : In tip (afterGenesis (inView (x .blocks)))
-    tip-in = go (last-in (inView (x .blocks)))
+    tip-in = ⊎-elim (λ e. absurd (late e)) (λ m. ⊎-elim (λ e. absurd (late e)) (λ n. n) (sent-cases (view-sendable G) tip m)) (last-in (inView (x .blocks)))
       where
         r : IsProposer s x
         r = proposer-true s x now
 
         late : tip ≡ genesis → ⊥
         late e = omega (arith, ap (λ o. o .slot) e, r .last, r .now, r .phase, G .time .merged-done)
-
-        other : (tip ≡ genesis) ⊎ In tip (afterGenesis (inView (x .blocks))) → In tip (afterGenesis (inView (x .blocks)))
-        other (inl e) = absurd (late e)
-        other (inr m) = m
-
-        go : (tip ≡ genesis) ⊎ In tip (inView (x .blocks)) → In tip (afterGenesis (inView (x .blocks)))
-        go (inl e) = absurd (late e)
-        go (inr m) = other (sent-cases (view-sendable G) tip m)
 
     pub proposal-header : headerAllowed (proposalOf x) ≡ true
     unfolding headerAllowed proposalOf
@@ -106,23 +92,9 @@ module _ {s : Settings} {pl : Places} {x : Node} (G : IsSound s pl x) {s' : Sett
   unfolding gossipOf headerAllowed
   gossip-welcome = welcome (store-sendable G) (beat / 3) (omega arith) y (store-sound R) A 0 0 0 refl
 
-  pub gossip-verdict : NumbersBelow (2 ^ 64) x → first (receiveTests s' pl' y beat (packetOut false x)) ≡ cond (lacking pl' y (gossipOf x)) (refuse 10) pass
-  unfolding packetOut
-  gossip-verdict N =
-      let I = gossip-in-range G N in
-      verdict s' pl' y beat (packetOut false x) (gossipOf x) (round-trip (gossipOf x) I) (sound-holds R) after-y last (written-well (gossipOf x) I)
-      (rw same (gossip-welcome .allowed))
-
   module _ (now : proposedNow s x ≡ true) where
     pub proposal-welcome : Welcome (s .nodes) (beat / 3) y (inView (x .blocks)) (proposalOf x)
     unfolding proposalOf
     proposal-welcome =
         welcome (view-sendable G) (beat / 3) (omega arith) y (store-sound R) (λ c d m n. A c d m (view-stored (x .blocks) d n))
         1 (lastBlock (inView (x .blocks)) .slot) (lastBlock (inView (x .blocks)) .number) (proposal-header G now)
-
-    pub proposal-verdict : NumbersBelow (2 ^ 64) x → first (receiveTests s' pl' y beat (packetOut true x)) ≡ cond (lacking pl' y (proposalOf x)) (refuse 10) pass
-    unfolding packetOut
-    proposal-verdict N =
-        let I = proposal-in-range G N in
-        verdict s' pl' y beat (packetOut true x) (proposalOf x) (round-trip (proposalOf x) I) (sound-holds R) after-y last (written-well (proposalOf x) I)
-        (rw same (proposal-welcome .allowed))

@@ -1,9 +1,9 @@
 -- How the tables grow by what a packet brings: in order, each entry once. Assumes nothing.
 use Prim.Native.Nat.{ℕ, _≤_, _<_}
 use mathlib.Core.Path.{_≡_, refl, sym, ap, _∙_}
-use mathlib.Core.Logic.{_⊎_, inl, inr}
-use mathlib.Core.Bool.{Bool, true, false, not, _&&_, _||_, cond}
-use mathlib.Core.List.{List, [], _∷_, _++_, List·Memᴰ·head, List·Memᴰ·tail, List·Memᴰ·cases-cons, List·Memᴰ·append-cases, List·Memᴰ·eq-of-singleton, List·Memᴰ·not-nil, Memᴰ·append-left, Memᴰ·append-right, append-assoc, append-nil}
+use mathlib.Core.Logic.{_⊎_, inl, inr, ⊎-elim}
+use mathlib.Core.Bool.{Bool, true, false, not, _||_, cond}
+use mathlib.Core.List.{List, [], _∷_, _++_, List·Memᴰ·head, List·Memᴰ·cases-cons, List·Memᴰ·append-cases, List·Memᴰ·eq-of-singleton, List·Memᴰ·not-nil, Memᴰ·append-left, Memᴰ·append-right}
 use native.Mathlib.Omega.{arith}
 use lib.Dec.{leb, ltb}
 use borrow.Author.Tests.{not-true}
@@ -14,27 +14,27 @@ use Rattle.protocol.specs.Chain.{genesis, Found, found, missing, find, f
 use Rattle.protocol.specs.Store.{inView, Marked, entries, show, sameBlock, sameVote}
 use Rattle.protocol.specs.Sound.{between}
 use Rattle.protocol.specs.Calls.Receive.{addBlock, addBlocks, addVote, addVotes, knownAs, blockAllowed, blocksAllowed}
-use Rattle.protocol.proofs.Basics.Members.{any-true, any-holds}
-use Rattle.protocol.proofs.Basics.Tests.{facts, both, and-left, and-right, or-left, not-passes, clashing}
+use Rattle.protocol.proofs.Basics.Tests.{facts, both, and-left, and-right, or-left, or-right, not-passes, clashing}
 use Rattle.protocol.proofs.Chain.Find.{find-in}
 use Rattle.protocol.proofs.Chain.Relations.{In, Sound}
 use Rattle.protocol.proofs.Filters.Relations.{Cast}
-use Rattle.protocol.proofs.Store.Tables.{blockFollows, allFollow, Table, follows-true, follows-sound, follow-append, follow-later}
+use Rattle.protocol.proofs.Store.Follow.{blockFollows, allFollow, follows-true, follows-sound, follow-append, follow-later}
+use Rattle.protocol.proofs.Store.Tables.{Table}
+use Rattle.protocol.proofs.Store.New.{newOf, newBlocksOf, blocks-keep, votes-keep, apart, knowsVote}
+use Rattle.protocol.proofs.Basics.Members.{any-true, any-holds}
 use Rattle.protocol.proofs.Store.Views.{view-append, show-keeps, entries-append, entries-show, block-same, vote-same, same-vote}
 
 -- ---- blocks
 
-pub record Added (slot : ℕ) (known bs : List Block) : Type 0 where
-  pub extra : List Block
-  pub is : addBlocks known bs ≡ known ++ extra
-  pub follow : allFollow slot known extra ≡ true
-  pub has : (b : Block) → In b bs → In b (known ++ extra)
-  pub from : (b : Block) → In b extra → In b bs
+-- blocks that are allowed: the new ones follow, and each is there afterwards
+pub record Added (slot : ℕ) (old bs : List Block) : Type 0 where
+  pub follow : allFollow slot old (newBlocksOf old bs) ≡ true
+  pub has : (b : Block) → In b bs → In b (addBlocks old bs)
   pub real : (b : Block) → In b bs → (0 < b .slot) × (b .slot ≤ slot)
 
 -- one block that is allowed: known already, or it follows
 module _ (slot : ℕ) (known : List Block) (b : Block) (ok : blockAllowed slot known b ≡ true) where
-  pub allowed-slot : (0 < b .slot) × (b .slot ≤ slot)
+  allowed-slot : (0 < b .slot) × (b .slot ≤ slot)
   unfolding blockAllowed between
   allowed-slot =
       let x : 1 ≤ b .slot = search facts in
@@ -55,140 +55,74 @@ module _ (slot : ℕ) (known : List Block) (b : Block) (ok : blockAllowed slot k
       let y : leb (b .slot) slot ≡ true = search facts in
       both (ap (λ f. not (foundWith (λ c. true) f)) q) (both y x)
 
-pub added-blocks : (slot : ℕ) (known bs : List Block) → Sound known → blocksAllowed slot known bs ≡ true → Added slot known bs
-unfolding blocksAllowed addBlocks addBlock allFollow foundWith
-added-blocks slot known [] S e = record {
-  extra = [];
-  is = sym (append-nil known);
-  follow = refl;
-  has = λ b m. absurd (List·Memᴰ·not-nil m);
-  from = λ b m. m;
-  real = λ b m. absurd (List·Memᴰ·not-nil m);
-}
-added-blocks slot known (b ∷ bs) S e = go (find known (b .number)) refl (and-right (blockAllowed slot known b) _ e) (λ k R h. added-blocks slot k bs R h)
+pub added-blocks : (slot : ℕ) (old bs : List Block) → Sound old → blocksAllowed slot old bs ≡ true → Added slot old bs
+unfolding blocksAllowed addBlocks addBlock allFollow foundWith newOf
+added-blocks slot old [] S e = record { follow = refl; has = λ b m. absurd (List·Memᴰ·not-nil m); real = λ b m. absurd (List·Memᴰ·not-nil m) }
+added-blocks slot old (b ∷ bs) S e = go (find old (b .number)) refl (and-right (blockAllowed slot old b) _ e) (λ k R h. added-blocks slot k bs R h)
   where
-    ok : blockAllowed slot known b ≡ true
-    ok = and-left (blockAllowed slot known b) _ e
+    ok : blockAllowed slot old b ≡ true
+    ok = and-left (blockAllowed slot old b) _ e
 
-    real : Added slot known bs ⊎ Added slot (known ++ (b ∷ [])) bs → (c : Block) → In c (b ∷ bs) → (0 < c .slot) × (c .slot ≤ slot)
-    real r c m = pick r (List·Memᴰ·cases-cons m)
-      where
-        pick : Added slot known bs ⊎ Added slot (known ++ (b ∷ [])) bs → (c ≡ b) ⊎ In c bs → (0 < c .slot) × (c .slot ≤ slot)
-        pick o (inl q) = let s : c .slot ≡ b .slot = ap (λ x. x .slot) q in let l = allowed-slot slot known b ok in (omega (arith, l .0), omega (arith, l .1))
-        pick (inl a) (inr n) = a .real c n
-        pick (inr a) (inr n) = a .real c n
+    real : ((c : Block) → In c bs → (0 < c .slot) × (c .slot ≤ slot)) → (c : Block) → In c (b ∷ bs) → (0 < c .slot) × (c .slot ≤ slot)
+    real r c m =
+        ⊎-elim (λ q.
+        let s : c .slot ≡ b .slot = ap (λ x. x .slot) q in
+        let l = allowed-slot slot old b ok in
+        (omega (arith, l .0), omega (arith, l .1))) (r c) (List·Memᴰ·cases-cons m)
 
-    old : In b known → (A : Added slot known bs) → (c : Block) → (c ≡ b) ⊎ In c bs → In c (known ++ (A .extra))
-    old k A c (inl q) = rw q (Memᴰ·append-left (A .extra) k)
-    old k A c (inr n) = A .has c n
-
-    new : (A : Added slot (known ++ (b ∷ [])) bs) → (c : Block) → (c ≡ b) ⊎ In c bs → In c (known ++ (b ∷ A .extra))
-    new A c (inl q) = Memᴰ·append-right known (List·Memᴰ·head q)
-    new A c (inr n) = rw (append-assoc known (b ∷ []) (A .extra)) at (A .has c n)
-
-    came : (A : Added slot (known ++ (b ∷ [])) bs) → (c : Block) → (c ≡ b) ⊎ In c (A .extra) → In c (b ∷ bs)
-    came A c (inl q) = List·Memᴰ·head q
-    came A c (inr n) = List·Memᴰ·tail (A .from c n)
-
-    go : (f : Found) → find known (b .number) ≡ f → blocksAllowed slot (cond (foundWith (λ c. true) (find known (b .number))) known (known ++ (b ∷ []))) bs ≡ true
-        → ((k : List Block) → Sound k → blocksAllowed slot k bs ≡ true → Added slot k bs) → Added slot known (b ∷ bs)
+    go : (f : Found) → find old (b .number) ≡ f → blocksAllowed slot (cond (foundWith (λ c. true) (find old (b .number))) old (old ++ (b ∷ []))) bs ≡ true
+        → ((k : List Block) → Sound k → blocksAllowed slot k bs ≡ true → Added slot k bs) → Added slot old (b ∷ bs)
     go (found c) q h rec =
-        let A = rec known S (rw q at h) in
+        let A = rec old S (rw q at h) in
         record {
-          extra = A .extra;
-          is = ap (λ f. addBlocks (cond (foundWith (λ o. true) f) known (known ++ (b ∷ []))) bs) q ∙ A .is;
-          follow = A .follow;
-          has = λ d m. old (allowed-old slot known b ok c q) A d (List·Memᴰ·cases-cons m);
-          from = λ d m. List·Memᴰ·tail (A .from d m);
-          real = real (inl A);
+          follow = rw q (A .follow);
+          has = λ d m. rw q (⊎-elim (λ r. rw r (blocks-keep old bs b (allowed-old slot old b ok c q))) (A .has d) (List·Memᴰ·cases-cons m));
+          real = real (A .real);
         }
     go missing q h rec =
-        let f = allowed-new slot known b ok q in
-        let A = rec (known ++ (b ∷ [])) (follows-sound slot known b S (follows-true slot known b f)) (rw q at h) in
+        let f = allowed-new slot old b ok q in
+        let A = rec (old ++ (b ∷ [])) (follows-sound slot old b S (follows-true slot old b f)) (rw q at h) in
         record {
-          extra = b ∷ A .extra;
-          is = ap (λ f. addBlocks (cond (foundWith (λ o. true) f) known (known ++ (b ∷ []))) bs) q ∙ A .is ∙ append-assoc known (b ∷ []) (A .extra);
-          follow = both f (A .follow);
-          has = λ d m. new A d (List·Memᴰ·cases-cons m);
-          from = λ d m. came A d (List·Memᴰ·cases-cons m);
-          real = real (inr A);
+          follow = rw q (both f (A .follow));
+          has = λ d m. rw q (⊎-elim (λ r. rw r (blocks-keep (old ++ (b ∷ [])) bs b (Memᴰ·append-right old (List·Memᴰ·head refl)))) (A .has d) (List·Memᴰ·cases-cons m));
+          real = real (A .real);
         }
 
 -- ---- votes
 
 -- no vote stands twice
-unfoldable pub distinct : List Vote → Bool
-distinct [] = true
-distinct (a ∷ rest) = not (any (sameVote a) rest) && distinct rest
+abbrev pub distinct : List Vote → Bool
+distinct = apart knowsVote
 
-pub record AddedVotes (known vs : List Vote) : Type 0 where
-  pub extra : List Vote
-  pub is : addVotes known vs ≡ known ++ extra
-  pub has : (a : Vote) → Cast a vs → Cast a (known ++ extra)
-  pub from : (a : Vote) → Cast a extra → Cast a vs
-  pub apart : distinct known ≡ true → distinct (known ++ extra) ≡ true
+-- each vote is there afterwards, and none twice
+pub record AddedVotes (old vs : List Vote) : Type 0 where
+  pub has : (a : Vote) → Cast a vs → Cast a (addVotes old vs)
+  pub apart : distinct old ≡ true → distinct (addVotes old vs) ≡ true
 
 pub distinct-end : (vs : List Vote) (a : Vote) → distinct vs ≡ true → any (sameVote a) vs ≡ false → distinct (vs ++ (a ∷ [])) ≡ true
-unfolding distinct any
+unfolding apart any
 distinct-end [] a d n = refl
 distinct-end (b ∷ vs) a d n =
     both (ap not (not-passes (λ h. go (List·Memᴰ·append-cases vs (any-true (sameVote b) (vs ++ (a ∷ [])) h .1)) (any-true (sameVote b) (vs ++ (a ∷ [])) h .2))))
-    (distinct-end vs a (and-right (not (any (sameVote b) vs)) _ d) (not-passes (λ h. clashing (or-right-of h) n)))
+    (distinct-end vs a (and-right (not (any (sameVote b) vs)) _ d) (not-passes (λ h. clashing (or-right (sameVote a b) (any (sameVote a) vs) h) n)))
   where
-    or-right-of : any (sameVote a) vs ≡ true → (sameVote a b || any (sameVote a) vs) ≡ true
-    or-right-of h = go2 (sameVote a b) h
-      where
-        go2 : (t : Bool) → any (sameVote a) vs ≡ true → (t || any (sameVote a) vs) ≡ true
-        go2 true h = refl
-        go2 false h = h
-
     go : {c : Vote} → Cast c vs ⊎ Cast c (a ∷ []) → sameVote b c ≡ true → ⊥
     go {c} (inl m) q = clashing (any-holds (sameVote b) c m q) (not-true (any (sameVote b) vs) (and-left (not (any (sameVote b) vs)) _ d))
     go {c} (inr m) q = clashing (or-left (sameVote a b) (any (sameVote a) vs) (same-vote a b (sym (vote-same b c q ∙ List·Memᴰ·eq-of-singleton m)))) n
 
-pub added-votes : (known vs : List Vote) → AddedVotes known vs
+pub added-votes : (old vs : List Vote) → AddedVotes old vs
 unfolding addVotes addVote
-added-votes known [] = record {
-  extra = [];
-  is = sym (append-nil known);
-  has = λ a m. absurd (List·Memᴰ·not-nil m);
-  from = λ a m. m;
-  apart = λ d. rw (append-nil known) d;
-}
-added-votes known (a ∷ vs) = go (any (sameVote a) known) refl (λ k. added-votes k vs)
+added-votes old [] = record { has = λ a m. absurd (List·Memᴰ·not-nil m); apart = λ d. d }
+added-votes old (a ∷ vs) = go (any (sameVote a) old) refl (added-votes old vs) (added-votes (old ++ (a ∷ [])) vs)
   where
-    old : Cast a known → (A : AddedVotes known vs) → (c : Vote) → (c ≡ a) ⊎ Cast c vs → Cast c (known ++ (A .extra))
-    old k A c (inl q) = rw q (Memᴰ·append-left (A .extra) k)
-    old k A c (inr n) = A .has c n
-
-    new : (A : AddedVotes (known ++ (a ∷ [])) vs) → (c : Vote) → (c ≡ a) ⊎ Cast c vs → Cast c (known ++ (a ∷ A .extra))
-    new A c (inl q) = Memᴰ·append-right known (List·Memᴰ·head q)
-    new A c (inr n) = rw (append-assoc known (a ∷ []) (A .extra)) at (A .has c n)
-
-    came : (A : AddedVotes (known ++ (a ∷ [])) vs) → (c : Vote) → (c ≡ a) ⊎ Cast c (A .extra) → Cast c (a ∷ vs)
-    came A c (inl q) = List·Memᴰ·head q
-    came A c (inr n) = List·Memᴰ·tail (A .from c n)
-
-    go : (t : Bool) → any (sameVote a) known ≡ t → ((k : List Vote) → AddedVotes k vs) → AddedVotes known (a ∷ vs)
-    go true q rec =
-        let A = rec known in
-        let w = any-true (sameVote a) known q in
+    go : (t : Bool) → any (sameVote a) old ≡ t → AddedVotes old vs → AddedVotes (old ++ (a ∷ [])) vs → AddedVotes old (a ∷ vs)
+    go true q A B =
+        let w = any-true (sameVote a) old q in
         record {
-          extra = A .extra;
-          is = rw q (A .is);
-          has = λ c m. old (rw (vote-same a (w .0) (w .2)) (w .1)) A c (List·Memᴰ·cases-cons m);
-          from = λ c m. List·Memᴰ·tail (A .from c m);
-          apart = A .apart;
+          has = λ c m. rw q (⊎-elim (λ r. rw r (votes-keep old vs a (rw (vote-same a (w .0) (w .2)) (w .1)))) (A .has c) (List·Memᴰ·cases-cons m));
+          apart = λ d. rw q (A .apart d);
         }
-    go false q rec =
-        let A = rec (known ++ (a ∷ [])) in
-        record {
-          extra = a ∷ A .extra;
-          is = rw q (A .is ∙ append-assoc known (a ∷ []) (A .extra));
-          has = λ c m. new A c (List·Memᴰ·cases-cons m);
-          from = λ c m. came A c (List·Memᴰ·cases-cons m);
-          apart = λ d. rw (append-assoc known (a ∷ []) (A .extra)) at (A .apart (distinct-end known a d q));
-        }
+    go false q A B = record { has = λ c m. rw q (⊎-elim (λ r. rw r (votes-keep (old ++ (a ∷ [])) vs a (Memᴰ·append-right old (List·Memᴰ·head refl)))) (B .has c) (List·Memᴰ·cases-cons m)); apart = λ d. rw q (B .apart (distinct-end old a d q)) }
 
 -- ---- the table of blocks with marks
 

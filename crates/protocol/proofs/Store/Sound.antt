@@ -1,8 +1,9 @@
 -- A sound node as a record of facts, and back. Assumes nothing.
+use Rattle.protocol.proofs.Store.New.{apart}
 use Prim.Native.Nat.{ℕ, _+_, _*_, _/_, _≤_, _<_}
 use mathlib.Core.Path.{_≡_, refl, sym, ap, _∙_}
 use mathlib.Core.Logic.{_⊎_, inl, inr}
-use mathlib.Core.Bool.{Bool, true, false, not, _||_, cond, false≢true}
+use mathlib.Core.Bool.{Bool, true, false, not, _||_}
 use mathlib.Core.List.{List, [], _∷_, List·Memᴰ·head, List·Memᴰ·tail, List·Memᴰ·cases-cons, List·Memᴰ·not-nil, List·Memᴰ·eq-of-singleton}
 use native.Mathlib.Omega.{arith}
 use lib.Dec.{leb, ltb}
@@ -22,8 +23,9 @@ use Rattle.protocol.proofs.Basics.Tests.{facts, both, and-left, and-rig
 use Rattle.protocol.proofs.Chain.Relations.{In, Known, Sound}
 use Rattle.protocol.proofs.Filters.Relations.{Cast}
 use Rattle.protocol.proofs.Store.Growth.{distinct}
-use Rattle.protocol.proofs.Store.Tables.{allFollow, Table, table-true, table-holds, table-sound, table-slot, found-true, found-known, known-found, found-holds}
-use Rattle.protocol.proofs.Store.Views.{view-stored}
+use Rattle.protocol.proofs.Store.Follow.{allFollow, found-true, found-known, known-found, found-holds}
+use Rattle.protocol.proofs.Store.Tables.{Table, table-true, table-holds, table-sound, table-slot}
+use Rattle.protocol.proofs.Store.Views.{view-cases, view-here, view-there, view-stored}
 
 -- vote a is for a known block of no later slot
 pub record VoteSound (n slot : ℕ) (bs : List Block) (a : Vote) : Type 0 where
@@ -96,20 +98,20 @@ time-holds c t =
     (both (le-leb (c .done) (c .seen) (t .done-seen)) (both (le-leb (c .merged * 3 + 2) (c .done) (t .merged-done)) (le-leb (c .proposed) (c .seen / 3) (t .proposed-seen))))
 
 -- the votes, with their marks
-pub record VotesSound (n slot : ℕ) (bs : List (Marked Block)) (ms : List (Marked Vote)) : Type 0 where
-  pub each : (a : Vote) → Cast a (entries ms) → VoteSound n slot (entries bs) a
-  pub apart : distinct (entries ms) ≡ true
-  pub closed : (a : Vote) → Cast a (inView ms) → Known (inView bs) (a .number)
+record VotesSound (n slot : ℕ) (bs : List (Marked Block)) (ms : List (Marked Vote)) : Type 0 where
+  each : (a : Vote) → Cast a (entries ms) → VoteSound n slot (entries bs) a
+  apart : distinct (entries ms) ≡ true
+  closed : (a : Vote) → Cast a (inView ms) → Known (inView bs) (a .number)
 
 votes-true : (n slot : ℕ) (bs : List (Marked Block)) (ms : List (Marked Vote)) → votesSound n slot bs ms ≡ true → VotesSound n slot bs ms
-unfolding votesSound entries inView distinct
-votes-true n slot bs [] e = record { each = λ a m. absurd (List·Memᴰ·not-nil m); apart = refl; closed = λ a m. absurd (List·Memᴰ·not-nil m) }
+unfolding votesSound entries apart
+votes-true n slot bs [] e = unfold inView in (record { each = λ a m. absurd (List·Memᴰ·not-nil m); apart = refl; closed = λ a m. absurd (List·Memᴰ·not-nil m) })
 votes-true n slot bs (m ∷ ms) e =
     let V0 = votes-true n slot bs ms (and-right (not (any (sameVote (m .entry)) (entries ms))) _ (and-right (voteSound n slot bs m) _ e)) in
     record {
       each = λ a k. each V0 a (List·Memᴰ·cases-cons k);
       apart = both (and-left (not (any (sameVote (m .entry)) (entries ms))) _ (and-right (voteSound n slot bs m) _ e)) (V0 .apart);
-      closed = λ a k. shown V0 a (m .shown) refl k;
+      closed = λ a k. closed V0 a (view-cases m ms a k);
     }
   where
     each : VotesSound n slot bs ms → (a : Vote) → (a ≡ m .entry) ⊎ Cast a (entries ms) → VoteSound n slot (entries bs) a
@@ -129,32 +131,20 @@ votes-true n slot bs (m ∷ ms) e =
         let q : (not (m .shown) || foundWith (λ b. true) (find (inView bs) (m .entry .number))) ≡ true = search facts in
         known-found (inView bs) (m .entry .number) (rw s at q))
 
-    front : VotesSound n slot bs ms → m .shown ≡ true → (a : Vote) → (a ≡ m .entry) ⊎ Cast a (inView ms) → Known (inView bs) (a .number)
-    front o s a (inl q) = rw q (seen s)
-    front o s a (inr k) = o .closed a k
-
-    shown : VotesSound n slot bs ms → (a : Vote) → (t : Bool) → m .shown ≡ t → Cast a (cond t (m .entry ∷ inView ms) (inView ms)) → Known (inView bs) (a .number)
-    shown o a true s k = front o s a (List·Memᴰ·cases-cons k)
-    shown o a false s k = o .closed a k
+    closed : VotesSound n slot bs ms → (a : Vote) → ((a ≡ m .entry) × (m .shown ≡ true)) ⊎ Cast a (inView ms) → Known (inView bs) (a .number)
+    closed o a (inl q) = rw (q .0) (seen (q .1))
+    closed o a (inr k) = o .closed a k
 
 votes-holds : (n slot : ℕ) (bs : List (Marked Block)) → Sound (entries bs) → (ms : List (Marked Vote)) → VotesSound n slot bs ms → votesSound n slot bs ms ≡ true
-unfolding votesSound entries inView distinct
+unfolding votesSound entries apart
 votes-holds n slot bs S [] o = refl
 votes-holds n slot bs S (m ∷ ms) o =
     both one (both (and-left (not (any (sameVote (m .entry)) (entries ms))) _ (o .apart))
-    (votes-holds n slot bs S ms (record { each = λ a k. o .each a (List·Memᴰ·tail k); apart = and-right (not (any (sameVote (m .entry)) (entries ms))) _ (o .apart); closed = λ a k. o .closed a (more (m .shown) a k) })))
+    (votes-holds n slot bs S ms (record { each = λ a k. o .each a (List·Memᴰ·tail k); apart = and-right (not (any (sameVote (m .entry)) (entries ms))) _ (o .apart); closed = λ a k. o .closed a (view-there m ms a k) })))
   where
-    more : (t : Bool) (a : Vote) → Cast a (inView ms) → Cast a (cond t (m .entry ∷ inView ms) (inView ms))
-    more true a k = List·Memᴰ·tail k
-    more false a k = k
-
     mark : (t : Bool) → m .shown ≡ t → (not t || foundWith (λ b. true) (find (inView bs) (m .entry .number))) ≡ true
     mark false s = refl
-    mark true s = found-known (inView bs) (m .entry .number) (o .closed (m .entry) (shows (m .shown) s))
-      where
-        shows : (t : Bool) → t ≡ true → Cast (m .entry) (cond t (m .entry ∷ inView ms) (inView ms))
-        shows true s = List·Memᴰ·head refl
-        shows false s = absurd (false≢true s)
+    mark true s = found-known (inView bs) (m .entry .number) (o .closed (m .entry) (view-here m ms (m .entry) refl s))
 
     one : voteSound n slot bs m ≡ true
     one = unfold voteSound voteAllowed in (
@@ -187,14 +177,11 @@ module _ (s : Settings) (pl : Places) (x : Node) where
       }
 
 module _ {s : Settings} {pl : Places} {x : Node} (G : IsSound s pl x) where
-  pub table : Table (x .clock .seen / 3) (x .blocks)
-  table = G .blocks
-
   pub store-sound : Sound (entries (x .blocks))
-  store-sound = table-sound table
+  store-sound = table-sound (G .blocks)
 
   pub start-shown : In genesis (inView (x .blocks))
-  start-shown = table .shown
+  start-shown = G .blocks .shown
 
   pub view-sound : Sound (inView (x .blocks))
   view-sound = record {
@@ -208,7 +195,7 @@ module _ {s : Settings} {pl : Places} {x : Node} (G : IsSound s pl x) where
   }
 
   pub slot-seen : (c : Block) → In c (entries (x .blocks)) → c .slot ≤ x .clock .seen / 3
-  slot-seen c m = table-slot table c m
+  slot-seen c m = table-slot (G .blocks) c m
 
   pub sound-holds : sound s pl x ≡ true
   unfolding sound
@@ -219,7 +206,7 @@ module _ {s : Settings} {pl : Places} {x : Node} (G : IsSound s pl x) where
 
 -- a fresh node is sound
 pub fresh-sound : (s : Settings) (pl : Places) → settingsSound s ≡ true → placesSound pl ≡ true → IsSound s pl fresh
-unfolding placesSound between entries inView allFollow distinct
+unfolding placesSound between entries inView allFollow apart
 fresh-sound s pl a b =
     let x : 1 ≤ pl .blocks = search facts in
     record {

@@ -1,11 +1,12 @@
 -- Tables of marked entries by their members: what is stored, what is in view, and what comes into view. Assumes nothing.
-use Prim.Native.Nat.{suc, _≤_}
+use Prim.Native.Nat.{ℕ, suc, _≤_}
 use mathlib.Core.Path.{_≡_, refl, sym, ap, _∙_}
-use mathlib.Core.Logic.{_⊎_, inl, inr}
-use mathlib.Core.Bool.{Bool, true, false, _||_, cond, or-true, or-false, false≢true}
+use mathlib.Core.Logic.{_⊎_, inl, inr, ⊎-elim, ⊎-map}
+use mathlib.Core.Bool.{Bool, true, false, _&&_, _||_, cond, or-true, or-false, false≢true}
 use mathlib.Core.List.{List, [], _∷_, _++_, List·Memᴰ, List·Memᴰ·head, List·Memᴰ·tail, List·Memᴰ·cases-cons, List·Memᴰ·not-nil, append-nil}
 use native.Mathlib.Omega.{arith}
-use lib.ListN.{length, drop}
+use lib.Dec.{eqb}
+use lib.ListN.{length}
 use borrow.Author.Tests.{eq-eqb}
 use Rattle.protocol.specs.declared.Block.{Block}
 use Rattle.protocol.specs.declared.Vote.{Vote}
@@ -50,7 +51,7 @@ module _ {A : Type 0} where
   view-append (m ∷ ms) ns =
       ap (λ l. cond (m .shown) (m .entry ∷ l) l) (view-append ms ns) ∙ append-cond (m .shown) (m .entry) (inView ms) (inView ns)
 
-  pub view-waiting : (xs : List A) → inView (allWaiting xs) ≡ []
+  view-waiting : (xs : List A) → inView (allWaiting xs) ≡ []
   unfolding inView allWaiting
   view-waiting [] = refl
   view-waiting (a ∷ rest) = view-waiting rest
@@ -71,106 +72,100 @@ module _ {A : Type 0} where
   show-none p f [] = refl
   show-none p f (m ∷ ms) = rw (f (m .entry), or-false (m .shown), show-none p f ms)
 
-  pub view-none : (p : A → Bool) → ((a : A) → p a ≡ false) → (ms : List (Marked A)) → inView (show p ms) ≡ inView ms
+  view-none : (p : A → Bool) → ((a : A) → p a ≡ false) → (ms : List (Marked A)) → inView (show p ms) ≡ inView ms
   view-none p f ms = ap inView (show-none p f ms)
 
-  -- one more entry in front, as it is shown or not
-  cons-in : (b : Bool) (a c : A) (xs : List A) → List·Memᴰ c (cond b (a ∷ xs) xs) → ((c ≡ a) × (b ≡ true)) ⊎ List·Memᴰ c xs
-  cons-in true a c xs m = go (List·Memᴰ·cases-cons m)
-    where
-      go : (c ≡ a) ⊎ List·Memᴰ c xs → ((c ≡ a) × (true ≡ true)) ⊎ List·Memᴰ c xs
-      go (inl e) = inl (e, refl)
-      go (inr n) = inr n
-  cons-in false a c xs m = inr m
+  -- the view with one more entry in front
+  cons-cases : (b : Bool) (a c : A) (xs : List A) → List·Memᴰ c (cond b (a ∷ xs) xs) → ((c ≡ a) × (b ≡ true)) ⊎ List·Memᴰ c xs
+  cons-cases true a c xs m = ⊎-map (λ e. (e, refl)) (λ n. n) (List·Memᴰ·cases-cons m)
+  cons-cases false a c xs m = inr m
 
-  cons-hit : (b : Bool) (a c : A) (xs : List A) → c ≡ a → b ≡ true → List·Memᴰ c (cond b (a ∷ xs) xs)
-  cons-hit true a c xs e h = List·Memᴰ·head e
-  cons-hit false a c xs e h = absurd (false≢true h)
+  cons-here : (b : Bool) (a c : A) (xs : List A) → c ≡ a → b ≡ true → List·Memᴰ c (cond b (a ∷ xs) xs)
+  cons-here true a c xs e h = List·Memᴰ·head e
+  cons-here false a c xs e h = absurd (false≢true h)
 
-  cons-miss : (b : Bool) (a c : A) (xs : List A) → List·Memᴰ c xs → List·Memᴰ c (cond b (a ∷ xs) xs)
-  cons-miss true a c xs m = List·Memᴰ·tail m
-  cons-miss false a c xs m = m
+  cons-there : (b : Bool) (a c : A) (xs : List A) → List·Memᴰ c xs → List·Memᴰ c (cond b (a ∷ xs) xs)
+  cons-there true a c xs m = List·Memᴰ·tail m
+  cons-there false a c xs m = m
+
+  pub view-cases : (m : Marked A) (ms : List (Marked A)) (c : A) → List·Memᴰ c (inView (m ∷ ms)) → ((c ≡ m .entry) × (m .shown ≡ true)) ⊎ List·Memᴰ c (inView ms)
+  unfolding inView
+  view-cases m ms c n = cons-cases (m .shown) (m .entry) c (inView ms) n
+
+  pub view-here : (m : Marked A) (ms : List (Marked A)) (c : A) → c ≡ m .entry → m .shown ≡ true → List·Memᴰ c (inView (m ∷ ms))
+  unfolding inView
+  view-here m ms c e h = cons-here (m .shown) (m .entry) c (inView ms) e h
+
+  pub view-there : (m : Marked A) (ms : List (Marked A)) (c : A) → List·Memᴰ c (inView ms) → List·Memᴰ c (inView (m ∷ ms))
+  unfolding inView
+  view-there m ms c n = cons-there (m .shown) (m .entry) c (inView ms) n
 
   -- what is in view is stored
   pub view-stored : (ms : List (Marked A)) (c : A) → List·Memᴰ c (inView ms) → List·Memᴰ c (entries ms)
   unfolding inView entries
-  view-stored [] c m = absurd (List·Memᴰ·not-nil m)
-  view-stored (a ∷ ms) c m = go (cons-in (a .shown) (a .entry) c (inView ms) m) (λ h. view-stored ms c h)
-    where
-      go : ((c ≡ a .entry) × (a .shown ≡ true)) ⊎ List·Memᴰ c (inView ms) → (List·Memᴰ c (inView ms) → List·Memᴰ c (entries ms)) → List·Memᴰ c (a .entry ∷ entries ms)
-      go (inl e) rec = List·Memᴰ·head (e .0)
-      go (inr n) rec = List·Memᴰ·tail (rec n)
+  view-stored [] c m = m
+  view-stored (a ∷ ms) c m = ⊎-elim (λ e. List·Memᴰ·head (e .0)) (λ n. List·Memᴰ·tail (view-stored ms c n)) (view-cases a ms c m)
+
+  -- one entry with the mark that `show` gives it
+  abbrev marked : (A → Bool) → Marked A → Marked A
+  marked p a = record { entry = a .entry; shown = a .shown || p (a .entry) }
 
   -- what is in view stays in view
   pub show-keeps : (p : A → Bool) (ms : List (Marked A)) (c : A) → List·Memᴰ c (inView ms) → List·Memᴰ c (inView (show p ms))
-  unfolding inView show
+  unfolding show
   show-keeps p [] c m = m
-  show-keeps p (a ∷ ms) c m = go (cons-in (a .shown) (a .entry) c (inView ms) m) (λ h. show-keeps p ms c h)
-    where
-      go : ((c ≡ a .entry) × (a .shown ≡ true)) ⊎ List·Memᴰ c (inView ms) → (List·Memᴰ c (inView ms) → List·Memᴰ c (inView (show p ms)))
-          → List·Memᴰ c (cond (a .shown || p (a .entry)) (a .entry ∷ inView (show p ms)) (inView (show p ms)))
-      go (inl e) rec = cons-hit (a .shown || p (a .entry)) (a .entry) c (inView (show p ms)) (e .0) (or-left (a .shown) (p (a .entry)) (e .1))
-      go (inr n) rec = cons-miss (a .shown || p (a .entry)) (a .entry) c (inView (show p ms)) (rec n)
+  show-keeps p (a ∷ ms) c m =
+      ⊎-elim (λ e. view-here (marked p a) (show p ms) c (e .0) (or-left (a .shown) (p (a .entry)) (e .1))) (λ n. view-there (marked p a) (show p ms) c (show-keeps p ms c n)) (view-cases a ms c m)
 
   -- what passes comes into view
-  pub show-brings : (p : A → Bool) (ms : List (Marked A)) (c : A) → List·Memᴰ c (entries ms) → p c ≡ true → List·Memᴰ c (inView (show p ms))
-  unfolding inView show entries
-  show-brings p [] c m h = m
-  show-brings p (a ∷ ms) c m h = go (List·Memᴰ·cases-cons m) (λ n. show-brings p ms c n h)
-    where
-      go : (c ≡ a .entry) ⊎ List·Memᴰ c (entries ms) → (List·Memᴰ c (entries ms) → List·Memᴰ c (inView (show p ms)))
-          → List·Memᴰ c (cond (a .shown || p (a .entry)) (a .entry ∷ inView (show p ms)) (inView (show p ms)))
-      go (inl e) rec = cons-hit (a .shown || p (a .entry)) (a .entry) c (inView (show p ms)) e (or-right (a .shown) (p (a .entry)) (ap p (sym e) ∙ h))
-      go (inr n) rec = cons-miss (a .shown || p (a .entry)) (a .entry) c (inView (show p ms)) (rec n)
+  show-brings : (p : A → Bool) (ms : List (Marked A)) (c : A) → List·Memᴰ c (entries ms) → p c ≡ true → List·Memᴰ c (inView (show p ms))
+  unfolding show entries
+  show-brings p [] c m h = absurd (List·Memᴰ·not-nil m)
+  show-brings p (a ∷ ms) c m h =
+      ⊎-elim (λ e. view-here (marked p a) (show p ms) c e (or-right (a .shown) (p (a .entry)) (ap p (sym e) ∙ h))) (λ n. view-there (marked p a) (show p ms) c (show-brings p ms c n h)) (List·Memᴰ·cases-cons m)
 
   -- and nothing else
-  pub show-from : (p : A → Bool) (ms : List (Marked A)) (c : A) → List·Memᴰ c (inView (show p ms)) → List·Memᴰ c (inView ms) ⊎ (List·Memᴰ c (entries ms) × (p c ≡ true))
-  unfolding inView show entries
+  show-from : (p : A → Bool) (ms : List (Marked A)) (c : A) → List·Memᴰ c (inView (show p ms)) → List·Memᴰ c (inView ms) ⊎ (List·Memᴰ c (entries ms) × (p c ≡ true))
+  unfolding show entries
   show-from p [] c m = inl m
-  show-from p (a ∷ ms) c m = go (cons-in (a .shown || p (a .entry)) (a .entry) c (inView (show p ms)) m) (λ h. show-from p ms c h)
-    where
-      wider : List·Memᴰ c (inView ms) ⊎ (List·Memᴰ c (entries ms) × (p c ≡ true)) → List·Memᴰ c (cond (a .shown) (a .entry ∷ inView ms) (inView ms)) ⊎ (List·Memᴰ c (a .entry ∷ entries ms) × (p c ≡ true))
-      wider (inl n) = inl (cons-miss (a .shown) (a .entry) c (inView ms) n)
-      wider (inr n) = inr (List·Memᴰ·tail (n .0), n .1)
-
-      now : c ≡ a .entry → (a .shown ≡ true) ⊎ (p (a .entry) ≡ true) → List·Memᴰ c (cond (a .shown) (a .entry ∷ inView ms) (inView ms)) ⊎ (List·Memᴰ c (a .entry ∷ entries ms) × (p c ≡ true))
-      now e (inl h) = inl (cons-hit (a .shown) (a .entry) c (inView ms) e h)
-      now e (inr h) = inr (List·Memᴰ·head e, ap p e ∙ h)
-
-      go : ((c ≡ a .entry) × ((a .shown || p (a .entry)) ≡ true)) ⊎ List·Memᴰ c (inView (show p ms))
-          → (List·Memᴰ c (inView (show p ms)) → List·Memᴰ c (inView ms) ⊎ (List·Memᴰ c (entries ms) × (p c ≡ true))) → List·Memᴰ c (cond (a .shown) (a .entry ∷ inView ms) (inView ms)) ⊎ (List·Memᴰ c (a .entry ∷ entries ms) × (p c ≡ true))
-      go (inl e) rec = now (e .0) (either (a .shown) (p (a .entry)) (e .1))
-      go (inr n) rec = wider (rec n)
+  show-from p (a ∷ ms) c m =
+      ⊎-elim (λ e. ⊎-map (λ h. view-here a ms c (e .0) h) (λ h. (List·Memᴰ·head (e .0), ap p (e .0) ∙ h)) (either (a .shown) (p (a .entry)) (e .1)))
+      (λ n. ⊎-map (λ k. view-there a ms c k) (λ k. (List·Memᴰ·tail (k .0), k .1)) (show-from p ms c n)) (view-cases (marked p a) (show p ms) c m)
 
 -- ---- equal entries
+
+module _ (a b c d e f : ℕ) where
+  three-true : (eqb a d && (eqb b e && eqb c f)) ≡ true → (a ≡ d) × (b ≡ e) × (c ≡ f)
+  three-true h =
+      let x : a ≡ d = search facts in
+      let y : b ≡ e = search facts in
+      let z : c ≡ f = search facts in
+      (x, y, z)
+
+  three-holds : a ≡ d → b ≡ e → c ≡ f → (eqb a d && (eqb b e && eqb c f)) ≡ true
+  three-holds x y z = both (eq-eqb a d x) (both (eq-eqb b e y) (eq-eqb c f z))
 
 pub block-same : (a b : Block) → sameBlock a b ≡ true → a ≡ b
 unfolding sameBlock
 block-same a b e =
-    let x : a .number ≡ b .number = search facts in
-    let y : a .parent ≡ b .parent = search facts in
-    let z : a .slot ≡ b .slot = search facts in
-    λ i. record { number = x i; parent = y i; slot = z i }
+    let t = three-true (a .number) (a .parent) (a .slot) (b .number) (b .parent) (b .slot) e in
+    λ i. record { number = t .0 i; parent = t .1 i; slot = t .2 i }
 
 pub same-block : (a b : Block) → a ≡ b → sameBlock a b ≡ true
 unfolding sameBlock
 same-block a b e =
-    both (eq-eqb (a .number) (b .number) (ap (λ o. o .number) e))
-    (both (eq-eqb (a .parent) (b .parent) (ap (λ o. o .parent) e)) (eq-eqb (a .slot) (b .slot) (ap (λ o. o .slot) e)))
+    three-holds (a .number) (a .parent) (a .slot) (b .number) (b .parent) (b .slot) (ap (λ o. o .number) e) (ap (λ o. o .parent) e) (ap (λ o. o .slot) e)
 
 pub vote-same : (a b : Vote) → sameVote a b ≡ true → a ≡ b
 unfolding sameVote
 vote-same a b e =
-    let x : a .voter ≡ b .voter = search facts in
-    let y : a .slot ≡ b .slot = search facts in
-    let z : a .number ≡ b .number = search facts in
-    λ i. record { voter = x i; slot = y i; number = z i }
+    let t = three-true (a .voter) (a .slot) (a .number) (b .voter) (b .slot) (b .number) e in
+    λ i. record { voter = t .0 i; slot = t .1 i; number = t .2 i }
 
 pub same-vote : (a b : Vote) → a ≡ b → sameVote a b ≡ true
 unfolding sameVote
 same-vote a b e =
-    both (eq-eqb (a .voter) (b .voter) (ap (λ o. o .voter) e))
-    (both (eq-eqb (a .slot) (b .slot) (ap (λ o. o .slot) e)) (eq-eqb (a .number) (b .number) (ap (λ o. o .number) e)))
+    three-holds (a .voter) (a .slot) (a .number) (b .voter) (b .slot) (b .number) (ap (λ o. o .voter) e) (ap (λ o. o .slot) e) (ap (λ o. o .number) e)
 
 -- a table that grows by waiting entries, of which some come into view
 module _ {A : Type 0} (p : A → Bool) (ms : List (Marked A)) (xs : List A) where
@@ -187,11 +182,8 @@ module _ {A : Type 0} (p : A → Bool) (ms : List (Marked A)) (xs : List A) wher
   grown-brings c m h = show-brings p (ms ++ allWaiting xs) c (rw (entries-append ms (allWaiting xs) ∙ ap (λ l. entries ms ++ l) (entries-waiting xs)) m) h
 
   pub grown-from : (c : A) → List·Memᴰ c (inView (show p (ms ++ allWaiting xs))) → List·Memᴰ c (inView ms) ⊎ (List·Memᴰ c (entries ms ++ xs) × (p c ≡ true))
-  grown-from c m = go (show-from p (ms ++ allWaiting xs) c m)
-    where
-      go : List·Memᴰ c (inView (ms ++ allWaiting xs)) ⊎ (List·Memᴰ c (entries (ms ++ allWaiting xs)) × (p c ≡ true)) → List·Memᴰ c (inView ms) ⊎ (List·Memᴰ c (entries ms ++ xs) × (p c ≡ true))
-      go (inl n) = inl (rw view-more at n)
-      go (inr n) = inr (rw (entries-append ms (allWaiting xs) ∙ ap (λ l. entries ms ++ l) (entries-waiting xs)) at (n .0), n .1)
+  grown-from c m =
+      ⊎-map (λ n. rw view-more at n) (λ n. (rw (entries-append ms (allWaiting xs) ∙ ap (λ l. entries ms ++ l) (entries-waiting xs)) at (n .0), n .1)) (show-from p (ms ++ allWaiting xs) c m)
 
   pub grown-none : ((a : A) → p a ≡ false) → inView (show p (ms ++ allWaiting xs)) ≡ inView ms
   grown-none f = view-none p f (ms ++ allWaiting xs) ∙ view-more

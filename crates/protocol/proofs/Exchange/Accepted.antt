@@ -1,0 +1,89 @@
+-- What an honest node writes is accepted by a sound node of the same n, at a beat that both allow and where no number names two blocks:
+-- it is refused only if places are short, by 10. Assumes nothing.
+use Prim.Native.Nat.{ℕ, _/_, _^_, _≤_, _<_}
+use mathlib.Core.Path.{_≡_, refl, sym, ap, _∙_}
+use mathlib.Core.Logic.{_⊎_, ⊎-map}
+use mathlib.Core.Bool.{Bool, true, false, cond}
+use mathlib.Core.List.{List}
+use native.Mathlib.Omega.{arith}
+use lib.ListN.{length, take}
+use lib.Dec.{ltb}
+use borrow.Author.Tests.{ltb-true}
+use Rattle.protocol.specs.declared.Settings.{Settings}
+use Rattle.protocol.specs.Limits.{limits}
+use Rattle.protocol.specs.Store.{entries, Places, Node}
+use Rattle.protocol.specs.Packet.{Packet, packetOf, wellFormed}
+use Rattle.protocol.specs.Refusal.{pass, refuse, refused, done, first}
+use Rattle.protocol.specs.Calls.Receive.{blocksAfter, votesAfter, packetAllowed, brings, receivedOf, receiveInto, receiveTests, receive}
+use Rattle.protocol.specs.Calls.Write.{gossipOf, proposalOf, proposedNow, packetOut, write}
+use Rattle.protocol.specs.RoundTrip.{NumbersBelow}
+use Rattle.protocol.proofs.Basics.Tests.{either}
+use Rattle.protocol.proofs.Store.Sound.{IsSound, sound-holds}
+use Rattle.protocol.proofs.Packet.Bytes.{round-trip, written-well}
+use Rattle.protocol.proofs.Calls.Refusal.{unless-refused}
+use Rattle.protocol.proofs.Calls.Write.{Wrote, wrote}
+use Rattle.protocol.proofs.Exchange.Acceptance.{lacking, verdict, accepted, Agree}
+use Rattle.protocol.proofs.Exchange.Sending.{gossip-in-range, gossip-welcome, proposal-in-range, proposal-welcome}
+
+-- Sender x and receiver y: the receiver is sound and of the same n, both allow the beat, and no number names two blocks.
+pub record Meet (s : Settings) (x : Node) (s' : Settings) (pl' : Places) (y : Node) (beat : ℕ) : Type 0 where
+  pub numbers : NumbersBelow (2 ^ 64) x
+  pub good : IsSound s' pl' y
+  pub nodes : s' .nodes ≡ s .nodes
+  pub sender : x .clock .seen ≤ beat
+  pub receiver : y .clock .seen ≤ beat
+  pub within : beat / 3 ≤ limits .slot
+  pub agree : Agree (entries (y .blocks)) (entries (x .blocks))
+
+module _ (s : Settings) (pl : Places) (x : Node) (proposal : Bool) (buffer : List ℕ) (n : ℕ) (d : write s pl x proposal buffer .reply ≡ done n)
+    (s' : Settings) (pl' : Places) (y : Node) (beat : ℕ) (M : Meet s x s' pl' y beat) where
+  -- the bytes that were written, and the packet that they are
+  abbrev bytes : List ℕ
+  bytes = take n (write s pl x proposal buffer .buffer)
+
+  abbrev sent : Packet
+  sent = cond proposal (proposalOf x) (gossipOf x)
+
+  W : Wrote s pl x proposal buffer n
+  W = wrote s pl x proposal buffer n d
+
+  -- what Receive asks of a packet
+  record Arrives (b : Bool) : Type 0 where
+    read : packetOf (packetOut b x) ≡ cond b (proposalOf x) (gossipOf x)
+    formed : wellFormed (packetOut b x) ≡ true
+    allowed : packetAllowed (s' .nodes) (beat / 3) y (cond b (proposalOf x) (gossipOf x)) ≡ true
+
+  arrives : (b : Bool) → (b ≡ true → proposedNow s x ≡ true) → Arrives b
+  unfolding packetOut
+  arrives false h =
+      let I = gossip-in-range (W .good) (M .numbers) in
+      let G = gossip-welcome (W .good) (M .good) (M .nodes) beat (M .sender) (M .receiver) (M .within) (M .agree) in
+      record { read = round-trip (gossipOf x) I; formed = written-well (gossipOf x) I; allowed = rw (M .nodes) (G .allowed) }
+  arrives true h =
+      let I = proposal-in-range (W .good) (M .numbers) in
+      let P = proposal-welcome (W .good) (M .good) (M .nodes) beat (M .sender) (M .receiver) (M .within) (M .agree) (h refl) in
+      record { read = round-trip (proposalOf x) I; formed = written-well (proposalOf x) I; allowed = rw (M .nodes) (P .allowed) }
+
+  here : Arrives proposal
+  here = arrives proposal (W .proposes)
+
+  pub sent-verdict : first (receiveTests s' pl' y beat bytes) ≡ cond (lacking pl' y sent) (refuse 10) pass
+  sent-verdict =
+      verdict s' pl' y beat bytes sent (ap packetOf (W .bytes) ∙ here .read) (sound-holds (M .good)) (M .receiver) (M .within)
+      (ap wellFormed (W .bytes) ∙ here .formed) (here .allowed)
+
+  pub sent-accepted : length (blocksAfter y sent) ≤ pl' .blocks → length (votesAfter y sent) ≤ pl' .votes
+      → receive s' pl' y beat bytes ≡ record { reply = done (receivedOf y beat sent); node = receiveInto (brings y beat sent) beat y sent }
+  sent-accepted =
+      accepted s' pl' y beat bytes sent (ap packetOf (W .bytes) ∙ here .read) (sound-holds (M .good)) (M .receiver) (M .within)
+      (ap wellFormed (W .bytes) ∙ here .formed) (here .allowed)
+
+  pub sent-refused : (k : ℕ) → receive s' pl' y beat bytes .reply ≡ refused k
+      → (k ≡ 10) × ((pl' .blocks < length (blocksAfter y sent)) ⊎ (pl' .votes < length (votesAfter y sent)))
+  unfolding receive
+  sent-refused k e = go (lacking pl' y sent) refl (sym sent-verdict ∙ unless-refused (first (receiveTests s' pl' y beat bytes)) y _ _ k e .0)
+    where
+      go : (b : Bool) → lacking pl' y sent ≡ b → cond b (refuse 10) pass ≡ refuse k
+          → (k ≡ 10) × ((pl' .blocks < length (blocksAfter y sent)) ⊎ (pl' .votes < length (votesAfter y sent)))
+      go true q h = (cc, ⊎-map (ltb-true (pl' .blocks) (length (blocksAfter y sent))) (ltb-true (pl' .votes) (length (votesAfter y sent))) (either (ltb (pl' .blocks) (length (blocksAfter y sent))) _ q))
+      go false q h = let z : _≡_ {A = ℕ} 0 1 = cc in absurd (omega arith)

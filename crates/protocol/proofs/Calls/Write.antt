@@ -2,8 +2,9 @@
 use Prim.Native.Nat.{ℕ, _/_, _%_}
 use mathlib.Core.Path.{_≡_, refl, sym, ap, _∙_}
 use mathlib.Core.Logic.{_⊎_, inl, inr, ⊎-map}
-use mathlib.Core.Bool.{Bool, true, not, _&&_}
+use mathlib.Core.Bool.{Bool, true, false, not, _&&_, cond, true≢false}
 use mathlib.Core.List.{List, [], _∷_, _++_, List·Memᴰ·head, List·Memᴰ·tail, List·Memᴰ·not-nil}
+use lib.Dec.{ltb}
 use lib.ListN.{length, take}
 use lib.Seq.{take-append-seam}
 use borrow.Author.Tests.{eq-eqb, not-false}
@@ -12,7 +13,7 @@ use Rattle.protocol.specs.declared.Settings.{Settings}
 use Rattle.protocol.specs.Chain.{genesis}
 use Rattle.protocol.specs.Store.{inView, Places, Node}
 use Rattle.protocol.specs.Sound.{sound}
-use Rattle.protocol.specs.Refusal.{first, done}
+use Rattle.protocol.specs.Refusal.{first, test, pass, refuse, done}
 use Rattle.protocol.specs.Calls.Write.{lastBlock, afterGenesis, proposedNow, packetOut, over, writeTests, write}
 use Rattle.protocol.proofs.Basics.Tests.{facts, both}
 use Rattle.protocol.proofs.Chain.Relations.{In}
@@ -40,6 +41,26 @@ wrote s pl x proposal buffer n e =
       size = sym (w .1);
       bytes = (λ i. take (sym (w .1) i) (w .2 i)) ∙ take-append-seam (packetOut proposal x) _;
     }
+
+-- ---- the verdict of a Write on sound tables: refused only for want of buffer
+
+last-test : (a b c : Bool) → a ≡ false → b ≡ false → first (test 6 a ∷ test 19 b ∷ test 18 c ∷ []) ≡ cond c (refuse 18) pass
+unfolding first
+last-test true b c p q = absurd (true≢false p)
+last-test false true c p q = absurd (true≢false q)
+last-test false false c p q = refl
+
+may-propose : (proposal now : Bool) → (proposal ≡ true → now ≡ true) → (proposal && not now) ≡ false
+may-propose false now f = refl
+may-propose true now f = ap not (f refl)
+
+pub write-verdict : (s : Settings) (pl : Places) (x : Node) (proposal : Bool) (buffer : List ℕ) → sound s pl x ≡ true
+    → (proposal ≡ true → proposedNow s x ≡ true)
+    → first (writeTests s pl x proposal buffer) ≡ cond (ltb (length buffer) (length (packetOut proposal x))) (refuse 18) pass
+unfolding writeTests
+write-verdict s pl x proposal buffer S f =
+    last-test (not (sound s pl x)) (proposal && not (proposedNow s x)) (ltb (length buffer) (length (packetOut proposal x))) (ap not S)
+    (may-propose proposal (proposedNow s x) f)
 
 -- ---- the proposer
 

@@ -1,0 +1,133 @@
+-- What an honest node sends, the others have when they next wake: a packet that is sent arrives, and owed gossip brings over the sender's store.
+-- Assumes nothing.
+use Prim.Native.Nat.{ℕ, suc, _/_, _≤_, _<_}
+use mathlib.Core.Path.{_≡_, sym, ap, _∙_}
+use mathlib.Core.Logic.{_⊎_, inl, inr}
+use mathlib.Core.Bool.{true, false, false≢true}
+use mathlib.Core.List.{List, _∷_, _++_, List·Memᴰ·cases-cons, append-assoc}
+use native.Mathlib.Omega.{arith}
+use Rattle.protocol.specs.declared.Block.{Block}
+use Rattle.protocol.specs.declared.Vote.{Vote}
+use Rattle.protocol.specs.Limits.{limits}
+use Rattle.protocol.specs.Chain.{genesis}
+use Rattle.protocol.specs.Store.{entries, Node}
+use Rattle.protocol.specs.Packet.{Packet, packetBytes}
+use Rattle.protocol.specs.Calls.Write.{gossipOf, packetOut}
+use Rattle.protocol.proofs.Chain.Relations.{In}
+use Rattle.protocol.proofs.Filters.Relations.{Cast}
+use Rattle.protocol.proofs.Store.Sound.{store-sound}
+use Rattle.protocol.proofs.Packet.Bytes.{round-trip}
+use Rattle.protocol.proofs.Calls.Passed.{Receives}
+use Rattle.protocol.proofs.Calls.Receive.{stores-blocks, stores-votes}
+use Rattle.protocol.proofs.Exchange.Sendable.{store-sendable}
+use Rattle.resilience.specs.Run.{Network, settings, isHonest, Receive, Event, woke, sent, given, owesGossip, step}
+use Rattle.resilience.specs.Resilience.{Delivered}
+use Rattle.resilience.proofs.Steps.Effect.{receivedNode}
+use Rattle.resilience.proofs.Runs.Trace.{at}
+use Rattle.resilience.proofs.Runs.Execution.{Execution, world, log, receiver-honest}
+use Rattle.resilience.proofs.Runs.History.{beat-mono, log-later, since-log}
+use Rattle.resilience.proofs.Runs.Lasting.{grows}
+use Rattle.resilience.proofs.Invariants.Soundness.{sound-tables}
+use Rattle.resilience.proofs.Invariants.Clock.{seen-beat}
+use Rattle.resilience.proofs.Delivery.Owed.{Sending, sends-before}
+use Rattle.resilience.proofs.Delivery.Written.{written}
+use Rattle.resilience.proofs.Delivery.Acceptance.{Acceptable, outgoing-acceptable, accepts, accepts-node}
+
+-- the store of x is part of that of y
+pub record StoreWithin (x y : Node) : Type 0 where
+  pub blocks : (c : Block) → In c (entries (x .blocks)) → In c (entries (y .blocks))
+  pub votes : (a : Vote) → Cast a (entries (x .votes)) → Cast a (entries (y .votes))
+
+module _ {N : Network} (X : Execution N) where
+  -- ---- waking: the call of j at index m is in the log
+
+  abbrev pub Woken : ℕ → ℕ → Type 0
+  Woken m j = (newer : List Event) × (log X ≡ newer ++ (woke (world X m .beat) j ∷ world X m .log))
+
+  pub woken : (m j : ℕ) → m < X .end → (es : List Event) → step N (world X m) (X .steps m) .log ≡ es ++ (woke (world X m .beat) j ∷ world X m .log) → Woken m j
+  unfolding at
+  woken m j l es q =
+      let r = log-later X (suc m) (X .end) l in
+      (r .0 ++ es, r .1 ∙ ap (λ o. r .0 ++ o) q ∙ sym (append-assoc (r .0) es (woke (world X m .beat) j ∷ world X m .log)))
+
+  -- ---- a packet sent at index g is given to j, before it wakes at index m
+
+  pub record Arrival (g m j : ℕ) (bytes : List ℕ) : Type 0 where
+    pub when : ℕ
+    pub after : g < when
+    pub before : when < m
+    pub is : X .steps when ≡ Receive j bytes
+    pub early : world X when .beat < world X m .beat
+
+  module _ (from : ℕ) (del : Delivered from (log X)) where
+    pub arrives : (g m i j : ℕ) (bytes : List ℕ) → g < m → step N (world X g) (X .steps g) .log ≡ sent (world X g .beat) i bytes ∷ world X g .log → Woken m j
+        → from ≤ world X g .beat → world X g .beat < world X m .beat → (i ≡ j → ⊥) → Arrival g m j bytes
+    unfolding at Delivered
+    arrives g m i j bytes l e w f b ne =
+        let r = log-later X (suc g) m l in
+        let d = del j (world X m .beat) (w .0) (world X m .log) (w .1) i (world X g .beat) bytes (r .0) (world X g .log) (r .1 ∙ ap (λ o. r .0 ++ o) e) f b ne in
+        let s = since-log X (suc g) m l (r .0) (r .1) (given (d .0) j bytes (d .1 .1)) (d .1 .2) in
+        let G = s .3 in
+        record { when = s .0; after = s .1; before = s .2; is = G .is; early = omega (arith, G .beat, d .1 .0) }
+
+  -- an acceptable packet that arrives is in the store when j wakes
+  module _ (g m j slot : ℕ) (p : Packet) (O : Acceptable X slot p) (lm : m < X .end) (A : Arrival g m j (packetBytes p))
+      (early : slot ≤ world X (A .when) .beat / 3) (within : world X m .beat / 3 ≤ limits .slot) where
+    soon : world X (A .when) .beat / 3 ≤ limits .slot
+    soon = omega (arith, A .early)
+
+    pub arrival-tests : Receives (settings N j) (N .places j) (world X (A .when) .node j) (world X (A .when) .beat) (packetBytes p)
+    arrival-tests = accepts X (A .when) (omega (arith, A .before)) j slot p O (A .is) early soon
+
+    pub arrival-node : world X (suc (A .when)) .node j ≡ receivedNode N (world X (A .when)) j (packetBytes p)
+    arrival-node = accepts-node X (A .when) (omega (arith, A .before)) j slot p O (A .is) early soon
+
+    pub arrived-block : (c : Block) → In c (genesis ∷ p .blocks) → In c (entries (world X m .node j .blocks))
+    arrived-block c n = go (List·Memᴰ·cases-cons n)
+      where
+        go : (c ≡ genesis) ⊎ In c (p .blocks) → In c (entries (world X m .node j .blocks))
+        go (inl e) = rw e (store-sound (sound-tables X m j (receiver-honest X (A .when) (omega (arith, A .before)) j (packetBytes p) (A .is))) .start)
+        go (inr k) =
+            grows X j (suc (A .when)) m (A .before) (omega arith) .blocks c (rw arrival-node
+            (stores-blocks (settings N j) (N .places j) (world X (A .when) .node j) (world X (A .when) .beat) (packetBytes p) arrival-tests c
+            (rw (round-trip p (O .fits)) k)))
+
+    pub arrived-vote : (a : Vote) → Cast a (p .votes) → Cast a (entries (world X m .node j .votes))
+    arrived-vote a n =
+        grows X j (suc (A .when)) m (A .before) (omega arith) .votes a (rw arrival-node
+        (stores-votes (settings N j) (N .places j) (world X (A .when) .node j) (world X (A .when) .beat) (packetBytes p) arrival-tests a
+        (rw (round-trip p (O .fits)) n)))
+
+  -- ---- gossip that i owes at index a has reached j when it wakes at a later beat
+
+  module _ (from : ℕ) (del : Delivered from (log X)) (a m i j : ℕ) (l : a ≤ m) (lm : m < X .end) (hi : isHonest N i ≡ true)
+      (o : owesGossip (world X a .turn i) ≡ true)
+      (w : Woken m j) (f : from ≤ world X a .beat) (b : world X a .beat < world X m .beat) (within : world X m .beat / 3 ≤ limits .slot) (ne : i ≡ j → ⊥) where
+    s : Sending X i hi false a o m
+    s = sends-before X i hi false a o m (omega arith) b l
+
+    acceptable : Acceptable X (world X (s .when) .node i .clock .seen / 3) (gossipOf (world X (s .when) .node i))
+    acceptable = outgoing-acceptable X (s .when) (omega (arith, s .before)) i hi false (λ e. absurd (false≢true e))
+
+    arrival : Arrival (s .when) m j (packetBytes (gossipOf (world X (s .when) .node i)))
+    unfolding packetOut
+    arrival =
+        arrives from del (s .when) m i j (packetBytes (gossipOf (world X (s .when) .node i))) (s .before)
+        (written X (s .when) (omega (arith, s .before)) false i (s .buffer) (s .is) (λ e. absurd (false≢true e))) w (omega (arith, s .beat))
+        (omega (arith, s .beat)) ne
+
+    early : world X (s .when) .node i .clock .seen / 3 ≤ world X (arrival .when) .beat / 3
+    early = omega (arith, seen-beat X (s .when) i hi, beat-mono X (s .when) (arrival .when) (omega (arith, arrival .after)))
+
+    pub gossip-arrives : StoreWithin (world X a .node i) (world X m .node j)
+    unfolding gossipOf
+    gossip-arrives = record {
+      blocks =
+          λ c n. arrived-block (s .when) m j (world X (s .when) .node i .clock .seen / 3)
+          (gossipOf (world X (s .when) .node i)) acceptable lm arrival early within c
+          (rw (store-sendable (sound-tables X (s .when) i hi) .root) at (grows X i a (s .when) (s .after) (omega (arith, s .before)) .blocks c n));
+      votes =
+          λ v n. arrived-vote (s .when) m j (world X (s .when) .node i .clock .seen / 3)
+          (gossipOf (world X (s .when) .node i)) acceptable lm arrival early within v
+          (grows X i a (s .when) (s .after) (omega (arith, s .before)) .votes v n);
+    }

@@ -1,0 +1,62 @@
+-- A node that merged a slot has all honest votes of that slot in view. Assumes nothing.
+use Prim.Native.Nat.{ℕ, suc, _/_, _≤_, _<_}
+use mathlib.Core.Path.{_≡_, refl, sym, ap, _∙_, subst}
+use mathlib.Core.Bool.{Bool, true, false}
+use mathlib.Core.List.{[]}
+use native.Mathlib.Nat.{le-refl}
+use native.Mathlib.Omega.{arith}
+use lib.Dec.{eqb}
+use borrow.Author.Tests.{eqb-true, eqb-false}
+use Rattle.protocol.specs.declared.Vote.{Vote}
+use Rattle.protocol.specs.Store.{entries, inView}
+use Rattle.protocol.proofs.Filters.Relations.{Cast}
+use Rattle.protocol.proofs.Store.Views.{view-all}
+use Rattle.resilience.specs.Run.{Network, isHonest, owes, owesGossip}
+use Rattle.resilience.specs.Resilience.{Delivered}
+use Rattle.resilience.proofs.Steps.Change.{votes, turn-after}
+use Rattle.resilience.proofs.Runs.Trace.{at}
+use Rattle.resilience.proofs.Runs.Execution.{Execution, world, log}
+use Rattle.resilience.proofs.Runs.History.{beat-before}
+use Rattle.resilience.proofs.Runs.Lasting.{grows}
+use Rattle.resilience.proofs.Invariants.Clock.{Merged, merged-when}
+use Rattle.resilience.proofs.Invariants.Votes.{Ballot, own-stored}
+use Rattle.resilience.proofs.Delivery.Arrival.{woken, gossip-arrives}
+
+module _ {N : Network} (X : Execution N) where
+  -- what was stored at the Merge is in view afterwards
+  pub merged-vote : (k i q : ℕ) → k ≤ X .end → (M : Merged X i q) → M .when < k → (v : Vote) → Cast v (entries (world X (M .when) .node i .votes))
+      → Cast v (inView (world X k .node i .votes))
+  merged-vote k i q l M b v m =
+      grows X i (suc (M .when)) k b l .view-votes v (rw (M .after) (rw (view-all (world X (M .when) .node i .votes)) m))
+
+  -- ---- an honest vote is stored by a node that merges its slot, and in its view afterwards
+
+  module _ (from : ℕ) (del : Delivered from (log X)) (b u x : ℕ) (A : Ballot X b u x) (f : from ≤ b) (k i : ℕ) (l : k ≤ X .end) where
+    abbrev cast : Vote
+    cast = record { voter = u; slot = b / 3; number = x }
+
+    ballot-stored : (M : Merged X i (b / 3)) → M .when < k → Cast cast (entries (world X (M .when) .node i .votes))
+    unfolding at
+    ballot-stored M o = go (eqb u i) refl
+      where
+        before : A .when < M .when
+        before = beat-before X (A .when) (M .when) (omega (arith, A .beat, A .by .beat, M .beat))
+
+        beat : world X (suc (A .when)) .beat ≡ b
+        beat = ap (λ o. o .beat) (A .by .result) ∙ sym (A .by .beat)
+
+        go : (t : Bool) → eqb u i ≡ t → Cast cast (entries (world X (M .when) .node i .votes))
+        go true q =
+            subst (λ (o : ℕ). Cast cast (entries (world X (M .when) .node o .votes))) (eqb-true u i q)
+            (own-stored X b u x A (M .when) before (omega arith))
+        go false q =
+            gossip-arrives X from del (suc (A .when)) (M .when) u i before (omega arith) (A .honest)
+            (ap owesGossip (turn-after N (world X (A .when)) (X .steps (A .when)) u (owes true false) (ap (λ o. o .turn) (A .by .result))))
+            (woken X (M .when) i (omega arith) [] (M .log)) (omega (arith, beat)) (omega (arith, beat, A .beat, M .beat))
+            (M .tests .base .within) (eqb-false u i q) .votes
+            cast (own-stored X b u x A (suc (A .when)) (le-refl (suc (A .when))) (A .before))
+
+    pub ballot-in-view : isHonest N i ≡ true → world X k .node i .clock .merged ≡ b / 3 → Cast cast (inView (world X k .node i .votes))
+    ballot-in-view h e =
+        let r = merged-when X k i (b / 3) h (omega (arith, A .by .tests .joined, A .by .beat)) e in
+        merged-vote k i (b / 3) l (r .0) (r .1) cast (ballot-stored (r .0) (r .1))

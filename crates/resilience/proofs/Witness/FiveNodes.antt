@@ -1,0 +1,155 @@
+-- A run of five nodes that meets every premise of reorg resilience, and what the theorem says of it. So the premises do not
+-- contradict one another, and the conclusion speaks of votes and blocks that there are. Assumes nothing.
+use Prim.Native.Nat.{ℕ}
+use mathlib.Core.Path.{_≡_, refl}
+use mathlib.Core.Bool.{true, false, _&&_, cond}
+use mathlib.Core.List.{List, [], _∷_, _++_, List·Memᴰ, List·Memᴰ·head}
+use native.Mathlib.Omega.{arith}
+use lib.Dec.{eqb}
+use Rattle.protocol.specs.Lists.{all}
+use Rattle.protocol.specs.Packet.{Packet, packetBytes, packetOf}
+use Rattle.resilience.specs.Run.{Network, World, start, Event, voted, built, given}
+use Rattle.resilience.specs.Resilience.{AtOrAbove, Stays}
+use Rattle.resilience.proofs.Witness.Runs.{runs}
+use Rattle.resilience.proofs.Witness.Acts.{network, butOne, ten, Act, together, begin, awake, proposes, lateGossip, gossip, proposal, exchange, packet, blockWith, voteBy, gossipWith, proposalWith}
+use Rattle.resilience.proofs.Witness.Events.{row, occurs, only, only-in}
+use Rattle.resilience.proofs.Witness.Tests.{others, voters}
+use Rattle.resilience.proofs.Witness.Premises.{meetsTest, meets}
+
+-- Node 1 is dishonest. Votes expire after two slots.
+abbrev pub five : Network
+five = network 5 2 butOne ten
+
+-- ---- the dishonest packets
+
+-- an empty gossip
+abbrev pub empty : Packet
+empty = gossipWith [] []
+
+-- two proposals of slot 1
+abbrev pub proposal-11 : Packet
+proposal-11 = proposalWith 1 11 (blockWith 11 0 1 ∷ [])
+
+abbrev pub proposal-12 : Packet
+proposal-12 = proposalWith 1 12 (blockWith 12 0 1 ∷ [])
+
+-- two votes of slot 2
+abbrev pub vote-12 : Packet
+vote-12 = gossipWith [] (voteBy 1 2 12 ∷ [])
+
+abbrev pub vote-21 : Packet
+vote-21 = gossipWith [] (voteBy 1 2 21 ∷ [])
+
+-- a block whose parent nobody knows
+abbrev pub orphan : Packet
+orphan = gossipWith (blockWith 14 13 1 ∷ []) []
+
+-- ---- the run
+
+-- Before the first beat node 0 receives an empty gossip. Then it sleeps until the merge beat of slot 2.
+-- In slot 1 node 1 proposes block 12 to node 2 and block 11 to nodes 3 and 4. Each votes for the block that it saw, and of these packets
+-- none arrives. At the merge beat the three hear of one another's blocks and votes.
+slot-1 : List Act
+slot-1 =
+    packet empty 0
+    ∷ begin ∷ packet proposal-12 2 ∷ packet proposal-11 3 ∷ packet proposal-11 4
+    ∷ begin ∷ awake 2 ∷ awake 3 ∷ awake 4
+    ∷ begin ∷ awake 2 ∷ awake 3 ∷ awake 4 ∷ exchange (2 ∷ 3 ∷ 4 ∷ [])
+    ∷ []
+
+-- Node 2 proposes block 21, on 11, against its own vote. Node 3 has its proposal before its gossip, node 4 the other way round. They vote for 21,
+-- node 3 after it received node 2's vote. In the same beat node 1 votes for 12 at node 2 and for 21 at node 3.
+-- Node 0, asleep, receives the proposal at once, and in the vote beat all else that was sent since the merge beat, the latest first. It
+-- wakes for the merge. Node 4 falls asleep before it.
+slot-2 : List Act
+slot-2 =
+    begin ∷ proposes 2 21 ∷ proposal 2 3 ∷ gossip 2 3 ∷ gossip 2 4 ∷ proposal 2 4 ∷ proposal 2 0
+    ∷ begin ∷ awake 2 ∷ gossip 2 3 ∷ awake 3 ∷ packet vote-12 2 ∷ packet vote-21 3 ∷ awake 4 ∷ exchange (4 ∷ 3 ∷ 2 ∷ [])
+    ∷ gossip 4 0 ∷ gossip 3 0 ∷ gossip 2 0 ∷ lateGossip 6 2 0 ∷ lateGossip 5 4 0 ∷ lateGossip 5 3 0 ∷ lateGossip 5 2 0
+    ∷ begin ∷ awake 0 ∷ awake 2 ∷ awake 3 ∷ exchange (0 ∷ 2 ∷ 3 ∷ [])
+    ∷ []
+
+-- Node 3 refuses the orphan block and proposes block 31. Node 4 receives what it missed and is awake again for the vote, but it is not joined:
+-- its Vote is refused, and its vote of slot 2 makes it one of the two against whom the three are counted. Nodes 0, 2 and 3 vote for 31, and all four merge.
+slot-3 : List Act
+slot-3 =
+    begin ∷ packet orphan 3 ∷ proposes 3 31 ∷ proposal 3 0 ∷ gossip 3 0 ∷ gossip 3 2 ∷ proposal 3 2
+    ∷ proposal 3 4 ∷ gossip 3 4 ∷ lateGossip 8 0 4 ∷ lateGossip 8 2 4 ∷ lateGossip 8 3 4
+    ∷ begin ∷ awake 4 ∷ awake 0 ∷ awake 2 ∷ awake 3 ∷ exchange (0 ∷ 2 ∷ 3 ∷ 4 ∷ [])
+    ∷ begin ∷ awake 3 ∷ awake 4 ∷ awake 2 ∷ awake 0 ∷ exchange (4 ∷ 3 ∷ 2 ∷ 0 ∷ [])
+    ∷ []
+
+-- Node 4 proposes block 41, all four vote for it, and the vote beat is over.
+slot-4 : List Act
+slot-4 =
+    begin ∷ proposes 4 41 ∷ gossip 4 0 ∷ proposal 4 0 ∷ proposal 4 2 ∷ gossip 4 2 ∷ gossip 4 3 ∷ proposal 4 3
+    ∷ begin ∷ awake 0 ∷ awake 2 ∷ awake 3 ∷ awake 4
+    ∷ begin
+    ∷ []
+
+pub acts : List Act
+unfolding slot-1 slot-2 slot-3 slot-4
+acts = slot-1 ++ (slot-2 ++ (slot-3 ++ slot-4))
+
+abbrev pub end : World
+end = runs five (start five) (together acts)
+
+-- ---- what happens in it
+
+-- the kinds of the packets that node j was given at beat b: 0 gossip, 1 proposal
+pub arrivals : ℕ → ℕ → List Event → List ℕ
+arrivals b j [] = []
+arrivals b j (e ∷ log) =
+    cond (eqb (row e .kind) 4 && (eqb (row e .beat) b && eqb (row e .node) j))
+    (packetOf (row e .bytes) .kind ∷ arrivals b j log)
+    (arrivals b j log)
+
+-- In each list the latest comes first.
+pub record Happened : Type 0 where
+  pub votes : only 1 (end .log)
+      ≡ voted 13 4 41 ∷ voted 13 3 41 ∷ voted 13 2 41 ∷ voted 13 0 41
+      ∷ voted 10 3 31 ∷ voted 10 2 31 ∷ voted 10 0 31
+      ∷ voted 7 4 21 ∷ voted 7 3 21 ∷ voted 7 2 21
+      ∷ voted 4 4 11 ∷ voted 4 3 11 ∷ voted 4 2 12 ∷ []
+  pub blocks : only 2 (end .log) ≡ built 12 4 41 31 ∷ built 9 3 31 21 ∷ built 6 2 21 11 ∷ []
+  pub lies : all (λ e. occurs e (end .log))
+      (given 2 0 (packetBytes empty) true
+      ∷ given 3 2 (packetBytes proposal-12) true ∷ given 3 3 (packetBytes proposal-11) true
+      ∷ given 7 2 (packetBytes vote-12) true ∷ given 7 3 (packetBytes vote-21) true
+      ∷ given 9 3 (packetBytes orphan) false ∷ []) ≡ true
+  pub counts-3 : (others five end 3 ≡ 2) × (voters five end 3 ≡ 3)
+  pub at-node-3 : arrivals 6 3 (end .log) ≡ 0 ∷ 1 ∷ []
+  pub at-node-4 : arrivals 6 4 (end .log) ≡ 1 ∷ 0 ∷ []
+
+pub happened : Happened
+unfolding meetsTest acts arrivals
+happened = record { votes = refl; blocks = refl; lies = refl; counts-3 = (refl, refl); at-node-3 = refl; at-node-4 = refl }
+
+-- ---- what the theorem says of it: block 21 stays
+
+pub record Conclusion : Type 0 where
+  pub votes-2 : (i x : ℕ) → List·Memᴰ (voted 7 i x) (end .log) → x ≡ 21
+  pub votes-3 : (i x : ℕ) → List·Memᴰ (voted 10 i x) (end .log) → AtOrAbove (end .log) 21 x
+  pub votes-4 : (i x : ℕ) → List·Memᴰ (voted 13 i x) (end .log) → AtOrAbove (end .log) 21 x
+  pub base-3 : (i x y : ℕ) → List·Memᴰ (built 9 i x y) (end .log) → AtOrAbove (end .log) 21 y
+  pub base-4 : (i x y : ℕ) → List·Memᴰ (built 12 i x y) (end .log) → AtOrAbove (end .log) 21 y
+
+met : meetsTest five acts 6 2 21 11 ≡ true
+unfolding meetsTest acts
+met = refl
+
+pub witness-holds : Conclusion
+witness-holds =
+    let s : Stays 6 21 end = meets five acts 6 2 21 11 met in
+    record {
+      votes-2 = λ i x m. s .0 7 i x m refl;
+      votes-3 = λ i x m. s .1 .0 10 i x m (omega arith);
+      votes-4 = λ i x m. s .1 .0 13 i x m (omega arith);
+      base-3 = λ i x y m. s .1 .1 9 i x y m (omega arith);
+      base-4 = λ i x y m. s .1 .1 12 i x y m (omega arith);
+    }
+
+-- the last vote is one of those
+pub last-vote : AtOrAbove (end .log) 21 41
+last-vote =
+    witness-holds .votes-4 4 41 (only-in 1 (end .log) (voted 13 4 41) (rw (happened .votes) (List·Memᴰ·head refl)))

@@ -1,4 +1,4 @@
--- Laws of tests, members of lists, and counts. Assumes nothing.
+-- Tests as equations, members of lists, counts: what every other folder uses. Assumes nothing.
 pub mod Tests
 pub mod Members
 pub mod Counting

@@ -1,4 +1,4 @@
--- Laws. Assumes nothing.
+-- The laws, in folders as the definitions are. Assumes nothing.
 pub mod Basics
 pub mod Chain
 pub mod Filters

@@ -1,4 +1,4 @@
--- The laws of a node's tables: views, order, growth, soundness. Assumes nothing.
+-- Laws of specs/Store and specs/Sound: entries, views, sound tables and how they grow. Assumes nothing.
 pub mod Views
 pub mod Follow
 pub mod Tables

@@ -1,0 +1,90 @@
+use borrow.Author.Needs.{needs}
+use borrow.Author.Tests.{ltb-true, ltb-false}
+use native.Mathlib.Omega.{arith}
+use Prim.Native.Nat.{_<_}
+use mathlib.Core.Path.{ap, sym, _∙_}
+use Rattle.ballots.proofs.Turns.{out-turn, old-turn, new-turn}
+use Rattle.ballots.proofs.latest_next.Statement.{statement}
+use Rattle.ballots.proofs.latest_next.Tie as tie
+
+-- the voter of the row read has a place
+voter : (v : tie.After-vote-at) → v .vote-at .result .vote .voter < 64
+voter v =
+    let s = v .before .before .before .before in
+    omega (arith, s .pre .1 (s .args .i) (omega arith), ap (λ o. o .entry .voter) (v .vote-at .ensures))
+
+vote-at-requires : tie.Need-vote-at-requires
+vote-at-requires c κs = search needs
+
+counts-requires : tie.Need-counts-requires
+counts-requires c κs = search needs
+
+mul-is-later : tie.Need-mul-is-later
+mul-is-later c = omega (arith, voter (c .before .before))
+
+slice-read-is-later : tie.Need-slice-read-is-later
+slice-read-is-later c = omega (arith, voter (c .before .before .before))
+
+is-later-requires : tie.Need-is-later-requires
+is-later-requires c κs = search needs
+
+mul-slots : tie.Need-mul-slots
+mul-slots c = omega (arith, voter (c .before .before .before .before .before))
+
+slice-write-slots : tie.Need-slice-write-slots
+slice-write-slots c = omega (arith, voter (c .before .before .before .before .before))
+
+mul-numbers : tie.Need-mul-numbers
+mul-numbers c = omega (arith, voter (c .before .before .before .before .before))
+
+slice-write-numbers : tie.Need-slice-write-numbers
+slice-write-numbers c = omega (arith, voter (c .before .before .before .before .before))
+
+same-length : tie.Need-same-length
+same-length c = search needs
+
+same-length-2 : tie.Need-same-length-2
+same-length-2 c = search needs
+
+returns : tie.Need-returns
+returns c =
+    let i = c .before .before .before in
+    let d = i .before in
+    let v = d .before in
+    let s = v .before .before .before .before in
+    let h = voter v in
+    new-turn _ _ _ _ (v .vote-at .ensures) _ _ (s .pre .4) (sym (d .counts .ensures) ∙ i .if1 .taken) (ltb-true _ _ (sym (c .before .is-later .ensures) ∙ c .if2 .taken)) (omega arith) (omega arith)
+
+returns-2 : tie.Need-returns-2
+returns-2 c =
+    let i = c .before .before .before in
+    let d = i .before in
+    let v = d .before in
+    let s = v .before .before .before .before in
+    old-turn _ _ _ _ (v .vote-at .ensures) _ _ (s .pre .4) (sym (d .counts .ensures) ∙ i .if1 .taken) (ltb-false _ _ (sym (c .before .is-later .ensures) ∙ c .if2 .left))
+
+returns-3 : tie.Need-returns-3
+returns-3 c =
+    let d = c .before in
+    let v = d .before in
+    let s = v .before .before .before .before in
+    out-turn _ _ _ _ (v .vote-at .ensures) _ _ (s .pre .4) (sym (d .counts .ensures) ∙ c .if1 .left)
+
+pub latest-next-spec : {M : Type 1} → statement M
+latest-next-spec =
+    tie.close
+    (tie.spec
+    vote-at-requires
+    counts-requires
+    mul-is-later
+    slice-read-is-later
+    is-later-requires
+    mul-slots
+    slice-write-slots
+    mul-numbers
+    slice-write-numbers
+    same-length
+    same-length-2
+    returns
+    returns-2
+    returns-3)

@@ -1,0 +1,2 @@
+-- What the filters leave of a table of votes. Assumes nothing.
+pub mod Latest

@@ -1,0 +1,3 @@
+-- Laws of one turn of each loop. Assumes nothing.
+pub mod Show
+pub mod Zeros

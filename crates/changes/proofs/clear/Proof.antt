@@ -1,0 +1,35 @@
+-- `clear` meets its contract. Assumes nothing.
+use borrow.Author.Needs.{needs}
+use Prim.Native.Nat.{ℕ}
+use mathlib.Core.List.{List}
+use mathlib.Core.Path.{ap, _∙_}
+use denote.Ref.{now}
+use lib.ListN.{length}
+use Rattle.protocol.specs.Chain.{genesis}
+use Rattle.protocol.specs.Store.{visible}
+use Rattle.protocol.specs.Lent.{blockRow}
+use Rattle.rows.specs.Rows.{putRow}
+use Rattle.changes.proofs.Zeros.{put-first}
+use Rattle.changes.proofs.clear.Statement.{statement}
+use Rattle.changes.proofs.clear.Tie as tie
+
+returns : tie.Need-returns
+returns c =
+    let p = c .before .before in
+    let v = p .before .before .before .before in
+    let b = v .before .before .before .before in
+    let a = b .before .before .before .before .args in (
+      p .put-block .ensures ∙ ap (λ (w : List ℕ). putRow w 0 (blockRow (visible genesis))) (b .zero .ensures) ∙ put-first (length (now (a .blocks))),
+      v .zero2 .ensures,
+    )
+
+pub clear-spec : {M : Type 1} → statement M
+clear-spec =
+    tie.close
+    (tie.spec
+    (λ c κs. search needs)
+    (λ c κs. search needs)
+    (λ c κs. search needs)
+    (λ c. search needs)
+    (λ c. search needs)
+    returns)

@@ -1,0 +1,122 @@
+// Changes of lent tables. Each says what all words of a table are at its end, unused places included.
+// No function keeps an array: the largest call takes less than 1 KB of stack.
+use protocol::Block;
+use protocol::Vote;
+use rows::BlockRow;
+use rows::VoteRow;
+ghost use mathlib.Core.Bool.{true};
+ghost use mathlib.Core.List.{_++_, _∷_, []};
+ghost use mathlib.Core.Path.{_≡_};
+ghost use Prim.Native.Nat.{_+_, _-_, _*_, _≤_};
+ghost use lib.ListN.{length, replicate};
+ghost use Rattle.protocol.specs.Store.{showAll, fresh};
+ghost use Rattle.protocol.specs.Lent.{rowsOf, wordsOf, stored, makeBlock, makeVote, blockRow, voteRow, marksSound};
+
+// One block more, at the end.
+pub fn append_block(blocks: &mut [u64], used: &mut usize, block: Block, shown: bool)
+    requires { ⌜ (4 * (now used + 1) ≤ length (now blocks)) × (marksSound (now blocks) (now used) ≡ true) ⌝ }
+    ensures { λ r. ⌜ (now (blocks .exit) ≡ stored blockRow (rowsOf makeBlock (now (blocks .entry)) (now (used .entry)) ++ (record { entry = block; shown = shown } ∷ [])) (now (blocks .entry)))
+        × (now (used .exit) ≡ now (used .entry) + 1) ⌝ }
+{
+    let place = *used;
+    rows::put_block(
+        blocks,
+        place,
+        BlockRow {
+            block: block,
+            shown: shown,
+        },
+    );
+    *used = place + 1;
+}
+
+// One vote more, at the end.
+pub fn append_vote(votes: &mut [u64], used: &mut usize, vote: Vote, shown: bool)
+    requires { ⌜ (4 * (now used + 1) ≤ length (now votes)) × (marksSound (now votes) (now used) ≡ true) ⌝ }
+    ensures { λ r. ⌜ (now (votes .exit) ≡ stored voteRow (rowsOf makeVote (now (votes .entry)) (now (used .entry)) ++ (record { entry = vote; shown = shown } ∷ [])) (now (votes .entry)))
+        × (now (used .exit) ≡ now (used .entry) + 1) ⌝ }
+{
+    let place = *used;
+    rows::put_vote(
+        votes,
+        place,
+        VoteRow {
+            vote: vote,
+            shown: shown,
+        },
+    );
+    *used = place + 1;
+}
+
+// Every block comes into view.
+pub fn show_all_blocks(blocks: &mut [u64], used: usize)
+    requires { ⌜ 4 * used ≤ length (now blocks) ⌝ }
+    ensures { λ r. ⌜ now (blocks .exit) ≡ stored blockRow (showAll (rowsOf makeBlock (now (blocks .entry)) used)) (now (blocks .entry)) ⌝ }
+{
+    let mut i: usize = 0;
+    while i < used {
+        let row = rows::block_at(blocks, i);
+        let block = row.block;
+        rows::put_block(
+            blocks,
+            i,
+            BlockRow {
+                block: block,
+                shown: true,
+            },
+        );
+        i += 1;
+    }
+}
+
+// Every vote comes into view.
+pub fn show_all_votes(votes: &mut [u64], used: usize)
+    requires { ⌜ 4 * used ≤ length (now votes) ⌝ }
+    ensures { λ r. ⌜ now (votes .exit) ≡ stored voteRow (showAll (rowsOf makeVote (now (votes .entry)) used)) (now (votes .entry)) ⌝ }
+{
+    let mut place: usize = 0;
+    while place < used {
+        let row = rows::vote_at(votes, place);
+        let vote = row.vote;
+        rows::put_vote(
+            votes,
+            place,
+            VoteRow {
+                vote: vote,
+                shown: true,
+            },
+        );
+        place += 1;
+    }
+}
+
+// Every word becomes zero.
+pub fn zero(words: &mut [u64])
+    ensures { λ r. ⌜ now (words .exit) ≡ replicate (length (now (words .entry))) 0 ⌝ }
+{
+    for i in 0..words.len() {
+        words[i] = 0;
+    }
+}
+
+// The tables of a fresh node: block 0 alone, in view, and every other place zero.
+pub fn clear(blocks: &mut [u64], votes: &mut [u64])
+    requires { ⌜ 4 ≤ length (now blocks) ⌝ }
+    ensures { λ r. ⌜ (now (blocks .exit) ≡ wordsOf blockRow (fresh .blocks) ++ replicate (length (now (blocks .entry)) - 4) 0)
+        × (now (votes .exit) ≡ replicate (length (now (votes .entry))) 0) ⌝ }
+{
+    zero(blocks);
+    zero(votes);
+    rows::put_block(
+        blocks,
+        0,
+        BlockRow {
+            block: Block {
+                number: 0,
+                parent: 0,
+                slot: 0,
+            },
+            shown: true,
+        },
+    );
+}

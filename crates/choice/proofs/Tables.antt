@@ -1,0 +1,151 @@
+-- What a sound node's tables give: its blocks by places, voters that fit a word, votes for known blocks; and the weights of the words. Assumes nothing.
+use Prim.Native.Nat.{ℕ, _+_, _*_, _/_, _%_, _≤_, _<_}
+use mathlib.Core.Bool.{Bool, true, false, cond}
+use mathlib.Core.List.{List}
+use mathlib.Core.Path.{_≡_, refl, ap, sym, _∙_}
+use native.Mathlib.Numerals.{add-one}
+use native.Mathlib.Omega.{arith}
+use lib.Dec.{eqb}
+use lib.ListN.{length}
+use Rattle.protocol.specs.declared.Settings.{Settings}
+use Rattle.protocol.specs.declared.Block.{Block}
+use Rattle.protocol.specs.declared.Vote.{Vote}
+use Rattle.protocol.specs.Store.{entries, inView, Node}
+use Rattle.protocol.specs.Lent.{Lent, rowsOf, makeBlock, makeVote, placesIn, placesOf, nodeOf, marksSound, lentSound}
+use Rattle.protocol.specs.Chain.{genesis}
+use Rattle.protocol.specs.Filters.{chosen, kept}
+use Rattle.protocol.specs.Walk.{walk, weightAt, head, base}
+use Rattle.protocol.proofs.Basics.Members.{same-refl}
+use Rattle.protocol.proofs.Basics.Tests.{and-right}
+use Rattle.protocol.proofs.Chain.Relations.{Known, Sound}
+use Rattle.protocol.proofs.Filters.Kept.{kept-is}
+use Rattle.protocol.proofs.Filters.Relations.{Cast}
+use Rattle.protocol.proofs.Store.Sound.{IsSound, VoteSound, sound-true, ranges, places-few}
+use Rattle.protocol.proofs.Store.Tables.{table-holds}
+use Rattle.protocol.proofs.Store.Views.{view-stored}
+use Rattle.protocol.proofs.Walk.Best.{walk-is, walk-one, walk-known}
+use Rattle.protocol.proofs.Walk.Sameness.{walk-to}
+use Rattle.rows.specs.Rows.{rowAt}
+use Rattle.rows.proofs.Rows.{length-rowsOf}
+use Rattle.ballots.specs.Latest.{selected, votesIn, VotersFit, Kept}
+use Rattle.subtrees.specs.Places.{blockAt, blocksIn, BlocksSound}
+use Rattle.subtrees.specs.Subtrees.{Subtrees}
+use Rattle.choice.specs.Walks.{weightAtPlace, weightIn}
+use Rattle.choice.specs.Tables.{TablesSound, Weighed}
+use Rattle.ballots.proofs.Selected.{entry-in}
+use Rattle.choice.proofs.Held.{Held, held, isIn, Stands, listed, place-is, by-number}
+use Rattle.choice.proofs.Weights.{place-weight}
+
+module _ {s : Settings} {bw : List ℕ} {bu : ℕ} {vw : List ℕ} {vu : ℕ} (T : TablesSound s bw bu vw vu) where
+  abbrev node : Node
+  node = record { blocks = rowsOf makeBlock bw bu; votes = rowsOf makeVote vw vu; clock = T .clock }
+
+  good : IsSound s (T .places) node
+  good = sound-true s (T .places) node (T .is-sound)
+
+  -- ---- blocks
+
+  pub blocks-sound : BlocksSound bw bu
+  blocks-sound = (T .clock .seen / 3, table-holds (T .clock .seen / 3) (rowsOf makeBlock bw bu) (good .blocks) (good .closed-blocks))
+
+  pub blocks-held : (w : Bool) → Held w bw bu
+  blocks-held w = held w bw bu blocks-sound
+
+  pub few : (bu ≤ 2048) × (s .nodes ≤ 64) × (1 ≤ s .nodes)
+  few =
+      let r = ranges s (good .settings) in
+      let p = places-few (T .places) (good .places) in
+      let l = good .fit-blocks in
+      let e = length-rowsOf makeBlock bw bu in
+      (omega (arith, p .0), r .few, r .some)
+
+  -- ---- votes
+
+  vote-sound : (w : Bool) (a : Vote) → Cast a (votesIn w vw vu) → VoteSound (s .nodes) (T .clock .seen / 3) (entries (rowsOf makeBlock bw bu)) a
+  unfolding selected
+  vote-sound true a m = good .votes a m
+  vote-sound false a m = good .votes a (view-stored (rowsOf makeVote vw vu) a m)
+
+  -- votes are for selected blocks
+  vote-known : (w : Bool) (a : Vote) → Cast a (votesIn w vw vu) → Known (blocksIn w bw bu) (a .number)
+  unfolding selected
+  vote-known true a m = let o = good .votes a m .on in (o .0, o .1, o .2)
+  vote-known false a m = good .closed-votes a m
+
+  pub vote-real : (w : Bool) (a : Vote) → Cast a (votesIn w vw vu) → 0 < a .slot
+  vote-real w a m = vote-sound w a m .real
+
+  pub voters-fit : VotersFit vw vu
+  voters-fit i l = omega (arith, vote-sound true (rowAt makeVote vw i .entry) (entry-in makeVote true vw vu i l refl) .voter, few .1)
+
+  kept-known : (w : Bool) (E t v x : ℕ) → kept (votesIn w vw vu) E t v ≡ chosen x → Known (blocksIn w bw bu) x × (v < s .nodes)
+  kept-known w E t v x e =
+      let k = kept-is (votesIn w vw vu) E t v x e in
+      let a = k .1 in
+      let n = vote-known w (a .0) (a .1 .mem) in
+      ((n .0, n .1, n .2 ∙ a .2), omega (arith, vote-sound w (a .0) (a .1 .mem) .voter, a .1 .by))
+
+  -- ---- weights
+
+  pub words-weigh : (w : Bool) (E t : ℕ) {slots numbers masks : List ℕ} → Kept (votesIn w vw vu) E t slots numbers → Subtrees bw bu slots numbers 1 masks
+      → Weighed w bw bu vw vu (s .nodes) E t masks
+  unfolding weightAt
+  words-weigh w E t K S = record {
+    each = λ j l. place-weight (blocks-held w) (λ v. kept (votesIn w vw vu) E t v) (s .nodes) S (λ v h. K .each v h) (few .1) (λ v x e. kept-known w E t v x e) j l;
+  }
+
+  -- the walk by the words is the walk by the weights
+  pub walk-weighed : (w : Bool) (n E t lim : ℕ) {masks : List ℕ} → Weighed w bw bu vw vu n E t masks
+      → walk (weightIn bw bu masks) (blocksIn w bw bu) lim ≡ walk (weightAt (blocksIn w bw bu) (votesIn w vw vu) n E t) (blocksIn w bw bu) lim
+  walk-weighed w n E t lim {masks} W =
+      walk-one (weightAt (blocksIn w bw bu) (votesIn w vw vu) n E t) S lim
+      (walk-to (same-refl Block (blocksIn w bw bu)) (λ c m. one c (listed w bw bu c m)) (walk-is (weightIn bw bu masks) S lim))
+      (walk-is (weightAt (blocksIn w bw bu) (votesIn w vw vu) n E t) S lim)
+    where
+      S : Sound (blocksIn w bw bu)
+      S = blocks-held w .sound
+
+      one : (c : Block) → Stands w bw bu c → weightIn bw bu masks (c .number) ≡ weightAt (blocksIn w bw bu) (votesIn w vw vu) n E t (c .number)
+      one c (i, l, q, e) =
+          rw e (ap (weightAtPlace masks) (place-is (blocks-held w) i l) ∙ W .each i l)
+
+-- the leaf of a walk is selected
+pub leaf-in : {w : Bool} {ws : List ℕ} {n : ℕ} → Held w ws n → (W : ℕ → ℕ) (lim a : ℕ) → a < n → blockAt ws a .number ≡ walk W (blocksIn w ws n) lim → isIn w ws a ≡ true
+leaf-in H W lim a h e =
+    let k = walk-known (genesis, H .sound .start, refl) (walk-is W (H .sound) lim) in
+    by-number H (k .0) a (k .1) h (k .2 ∙ sym e) .1
+
+-- ---- as the definitions have it
+
+pub head-number : (bw : List ℕ) (bu : ℕ) (vw : List ℕ) (vu n E t : ℕ) {r : ℕ} → r ≡ walk (weightAt (blocksIn false bw bu) (votesIn false vw vu) n E t) (blocksIn false bw bu) (t + 1)
+    → r ≡ head (inView (rowsOf makeBlock bw bu)) (inView (rowsOf makeVote vw vu)) n E t
+unfolding selected head
+head-number bw bu vw vu n E t e = e ∙ rw (add-one t)
+
+pub base-number : (bw : List ℕ) (bu : ℕ) (vw : List ℕ) (vu n E t : ℕ) {r : ℕ} → r ≡ walk (weightAt (blocksIn true bw bu) (votesIn true vw vu) n E t) (blocksIn true bw bu) t
+    → r ≡ base (entries (rowsOf makeBlock bw bu)) (entries (rowsOf makeVote vw vu)) n E t
+unfolding selected base
+base-number bw bu vw vu n E t e = e
+
+-- ---- from the test that the node makes
+
+places-fit : (ws : List ℕ) (n : ℕ) → n ≤ placesIn ws → 4 * n ≤ length ws
+unfolding placesIn
+places-fit ws n h = go (eqb (length ws % 4) 0) h
+  where
+    go : (b : Bool) → n ≤ cond b (length ws / 4) 0 → 4 * n ≤ length ws
+    go true l = omega arith
+    go false l = omega arith
+
+pub lent-tables : (s : Settings) (m : Lent) → lentSound s m ≡ true → TablesSound s (m .blocks) (m .blocksUsed) (m .votes) (m .votesUsed)
+unfolding lentSound nodeOf placesOf
+lent-tables s m e =
+    let a = and-right (marksSound (m .votes) (m .votesUsed)) _ (and-right (marksSound (m .blocks) (m .blocksUsed)) _ e) in
+    let G = sound-true s (placesOf m) (nodeOf m) a in
+    record {
+      places = placesOf m;
+      clock = m .clock;
+      blocks-fit = places-fit (m .blocks) (m .blocksUsed) (rw (length-rowsOf makeBlock (m .blocks) (m .blocksUsed)) at (G .fit-blocks));
+      votes-fit = places-fit (m .votes) (m .votesUsed) (rw (length-rowsOf makeVote (m .votes) (m .votesUsed)) at (G .fit-votes));
+      is-sound = a;
+    }

@@ -1,0 +1,118 @@
+-- The voters of a place's word are those that support the block there, so the word's weight is the block's weight. Assumes nothing.
+use Prim.Native.Nat.{ℕ, zero, suc, _≤_, _<_}
+use mathlib.Core.Bool.{Bool, true, false, not, _&&_, cond}
+use mathlib.Core.List.{List}
+use mathlib.Core.Logic.{_⊎_, inl, inr}
+use mathlib.Core.Path.{_≡_, refl, ap, sym, _∙_}
+use native.Mathlib.Omega.{arith}
+use lib.Dec.{eqb, leb, ltb}
+use lib.ListN.{getD}
+use borrow.Author.Tests.{eqb-true, eq-eqb, leb-true, le-leb, ltb-true, ltb-false}
+use Rattle.protocol.specs.Chain.{above}
+use Rattle.protocol.specs.Filters.{last, none, Choice, chosen, nothing, choiceOf}
+use Rattle.protocol.specs.Walk.{count, supports, weight}
+use Rattle.protocol.proofs.Basics.Counting.{count-ext}
+use Rattle.protocol.proofs.Basics.Tests.{and-left, and-right, either, both, or-left, or-right, same-test}
+use Rattle.protocol.proofs.Chain.Above.{above-cast, above-true, above-holds}
+use Rattle.protocol.proofs.Chain.Relations.{Known, Above, here, up}
+use Rattle.masks.specs.Masks.{bitOf}
+use Rattle.masks.proofs.Masks.{bit-mask}
+use Rattle.ballots.specs.Latest.{lastAt}
+use Rattle.subtrees.specs.Places.{blockAt, blocksIn, lastPlace, parentPlace}
+use Rattle.subtrees.specs.Subtrees.{upTo, reaches, Subtrees}
+use Rattle.choice.specs.Walks.{weightAtPlace}
+use Rattle.choice.proofs.Held.{Held, isIn, Stands, listed, lists, place-is, parent-is, number-pos, place-pos, parent-in, by-number}
+
+module _ {w : Bool} {ws : List ℕ} {n : ℕ} (H : Held w ws n) where
+  -- ---- by places, and by parents
+
+  up-above : (f x j : ℕ) → x < n → isIn w ws x ≡ true → upTo (λ y. parentPlace ws y) f 1 j x ≡ true → Above (blocksIn w ws n) (blockAt ws j .number) (blockAt ws x .number)
+  unfolding upTo
+  up-above zero x j l s e = here (ap (λ (y : ℕ). blockAt ws y .number) (eqb-true x j e))
+  up-above (suc f) x j l s e =
+      go (either (eqb x j) (leb 1 x && upTo (λ y. parentPlace ws y) f 1 j (parentPlace ws x)) e) (λ a b c. up-above f (parentPlace ws x) j a b c)
+    where
+      go : (eqb x j ≡ true) ⊎ ((leb 1 x && upTo (λ y. parentPlace ws y) f 1 j (parentPlace ws x)) ≡ true)
+          → (parentPlace ws x < n → isIn w ws (parentPlace ws x) ≡ true → upTo (λ y. parentPlace ws y) f 1 j (parentPlace ws x) ≡ true
+          → Above (blocksIn w ws n) (blockAt ws j .number) (blockAt ws (parentPlace ws x) .number))
+          → Above (blocksIn w ws n) (blockAt ws j .number) (blockAt ws x .number)
+      go (inl q) rec = here (ap (λ (y : ℕ). blockAt ws y .number) (eqb-true x j q))
+      go (inr q) rec =
+          let z = leb-true 1 x (and-left (leb 1 x) _ q) in
+          let p = parent-is H x z l in
+          up (blockAt ws x) (lists w ws n x l s) refl (number-pos H x l z)
+          (above-cast (p .1) (rec (omega (arith, p .0)) (parent-in H x z l s) (and-right (leb 1 x) _ q)))
+
+  above-up : {b y : ℕ} → Above (blocksIn w ws n) b y → (f x j : ℕ) → blockAt ws x .number ≡ y → blockAt ws j .number ≡ b → x < n → j < n → x ≤ f
+      → upTo (λ y. parentPlace ws y) f 1 j x ≡ true
+  unfolding upTo
+  above-up (here q) zero x j e g l m h = eq-eqb x j (H .differ x j l m (e ∙ q ∙ sym g))
+  above-up (here q) (suc f) x j e g l m h = or-left (eqb x j) _ (eq-eqb x j (H .differ x j l m (e ∙ q ∙ sym g)))
+  above-up (up c k q z r) zero x j e g l m h = absurd (omega (arith, place-pos H x (rw (sym e) at z)))
+  above-up (up c k q z r) (suc f) x j e g l m h =
+      let t : 0 < x = place-pos H x (rw (sym e) at z) in
+      let p = parent-is H x t l in
+      let o = by-number H c x k l (q ∙ sym e) in
+      or-right (eqb x j) _ (both (le-leb 1 x t)
+      (above-up r f (parentPlace ws x) j (p .1 ∙ ap (λ o. o .parent) (sym (o .0))) g (omega (arith, p .0)) m (omega (arith, p .0))))
+
+  -- the places that lead to j are those of the blocks at or above the block there
+  up-is : (x j : ℕ) → Known (blocksIn w ws n) x → j < n → upTo (λ y. parentPlace ws y) n 1 j (lastPlace ws n x) ≡ above (blocksIn w ws n) x (blockAt ws j .number)
+  up-is x j k l = go (listed w ws n (k .0) (k .1))
+    where
+      go : Stands w ws n (k .0) → upTo (λ y. parentPlace ws y) n 1 j (lastPlace ws n x) ≡ above (blocksIn w ws n) x (blockAt ws j .number)
+      go (i, h, s, e) =
+          let a : blockAt ws i .number ≡ x = ap (λ o. o .number) (sym e) ∙ k .2 in
+          let p : lastPlace ws n x ≡ i = ap (lastPlace ws n) (sym a) ∙ place-is H i h in
+          rw p (same-test (upTo (λ y. parentPlace ws y) n 1 j i) (above (blocksIn w ws n) x (blockAt ws j .number))
+          (λ t. above-holds (H .sound) (above-cast a (up-above n i j h s t)))
+          (λ t. above-up (above-true (H .sound) x (blockAt ws j .number) t) n i j a refl h l (omega arith)))
+
+  -- ---- voters
+
+  pub reaches-supports : (slots numbers : List ℕ) (j v : ℕ) → j < n
+      → ((x : ℕ) → choiceOf (lastAt slots numbers v) ≡ chosen x → Known (blocksIn w ws n) x)
+      → reaches ws n slots numbers 1 j v ≡ supports (blocksIn w ws n) (choiceOf (lastAt slots numbers v)) (blockAt ws j .number)
+  unfolding lastAt choiceOf supports
+  reaches-supports slots numbers j v l K = go (eqb (getD slots v 0) 0) refl
+    where
+      go : (b : Bool) → eqb (getD slots v 0) 0 ≡ b
+          → (not b && upTo (λ y. parentPlace ws y) n 1 j (lastPlace ws n (getD numbers v 0)))
+          ≡ supports (blocksIn w ws n) (choiceOf (cond b none (last (record { voter = v; slot = getD slots v 0; number = getD numbers v 0 })))) (blockAt ws j .number)
+      go true e = refl
+      go false e = up-is (getD numbers v 0) j (K (getD numbers v 0) (rw e)) l
+
+-- ---- weights
+
+-- no voter from n on: the count goes no further
+count-wide : (p : ℕ → Bool) (n m : ℕ) → n ≤ m → ((v : ℕ) → n ≤ v → v < m → p v ≡ false) → count p m ≡ count p n
+unfolding count
+count-wide p n zero h f = let e : n ≡ 0 = omega arith in rw e
+count-wide p n (suc m) h f = go (ltb m n) refl (λ q. count-wide p n m q (λ v a b. f v a (omega arith)))
+  where
+    go : (b : Bool) → ltb m n ≡ b → (n ≤ m → count p m ≡ count p n) → cond (p m) (suc (count p m)) (count p m) ≡ count p n
+    go true e rec = let l = ltb-true m n e in let q : n ≡ suc m = omega arith in rw q
+    go false e rec = let l = ltb-false m n e in rw (f m l (omega arith)) (rec l)
+
+module _ {w : Bool} {ws : List ℕ} {n : ℕ} (H : Held w ws n) (k : ℕ → Choice) (voters : ℕ) {slots numbers masks : List ℕ} where
+  -- the weight of a place's word
+  pub place-weight : Subtrees ws n slots numbers 1 masks → ((v : ℕ) → v < 64 → choiceOf (lastAt slots numbers v) ≡ k v) → voters ≤ 64
+      → ((v x : ℕ) → k v ≡ chosen x → Known (blocksIn w ws n) x × (v < voters))
+      → (j : ℕ) → j < n → weightAtPlace masks j ≡ weight (blocksIn w ws n) k voters (blockAt ws j .number)
+  unfolding weight
+  place-weight S K m kn j l =
+      count-ext (bitOf (getD masks j 0)) (λ v. supports (blocksIn w ws n) (k v) (blockAt ws j .number)) 64 (λ v h. one v h)
+      ∙ count-wide (λ v. supports (blocksIn w ws n) (k v) (blockAt ws j .number)) voters 64 m (λ v a b. none-from v a)
+    where
+      one : (v : ℕ) → v < 64 → bitOf (getD masks j 0) v ≡ supports (blocksIn w ws n) (k v) (blockAt ws j .number)
+      one v h =
+          ap (λ (x : ℕ). bitOf x v) (S .each j l) ∙ bit-mask 64 (λ u. reaches ws n slots numbers 1 j u) v h
+          ∙ reaches-supports H slots numbers j v l (λ x e. kn v x (sym (K v h) ∙ e) .0)
+          ∙ ap (λ (o : Choice). supports (blocksIn w ws n) o (blockAt ws j .number)) (K v h)
+
+      none-from : (v : ℕ) → voters ≤ v → supports (blocksIn w ws n) (k v) (blockAt ws j .number) ≡ false
+      none-from v a = go (k v) refl
+        where
+          go : (o : Choice) → k v ≡ o → supports (blocksIn w ws n) o (blockAt ws j .number) ≡ false
+          go nothing e = unfold supports in refl
+          go (chosen x) e = absurd (omega (arith, kn v x e .1))

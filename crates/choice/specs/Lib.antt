@@ -1,0 +1,3 @@
+-- Weights and best children by places, and what the functions ask of the tables. Assumes nothing.
+pub mod Walks
+pub mod Tables

@@ -1,0 +1,163 @@
+-- Three quarters of the voters back only blocks of one chain, and on a chain the last place is the highest block. Assumes nothing.
+use Prim.Native.Nat.{ℕ, zero, suc, _+_, _*_, _≤_, _<_}
+use mathlib.Core.Bool.{Bool, true, false, _&&_, cond}
+use mathlib.Core.List.{List}
+use mathlib.Core.Logic.{_⊎_, inl, inr}
+use mathlib.Core.Path.{_≡_, refl, ap, sym, _∙_}
+use native.Mathlib.Decide.{decLt}
+use native.Mathlib.Omega.{arith}
+use lib.Dec.{leb}
+use Rattle.protocol.specs.declared.Block.{Block}
+use Rattle.protocol.specs.declared.Vote.{Vote}
+use Rattle.protocol.specs.Chain.{Found, found, missing}
+use Rattle.protocol.specs.Filters.{Choice, chosen, nothing, kept}
+use Rattle.protocol.specs.Store.{Marked, inView}
+use Rattle.protocol.specs.Lent.{rowsOf, makeBlock, makeVote}
+use Rattle.protocol.specs.Walk.{supports, weight, weightAt}
+use Rattle.protocol.specs.Confirm.{validVote, quorum, height, highest, numberIn, fast}
+use Rattle.protocol.proofs.Basics.Counting.{count-ext}
+use Rattle.protocol.proofs.Basics.Tests.{clashing}
+use Rattle.protocol.proofs.Chain.Relations.{Above, here, up}
+use Rattle.protocol.proofs.Confirm.Quorum.{quorum-compare}
+use Rattle.protocol.proofs.Filters.Relations.{Cast}
+use Rattle.rows.specs.Rows.{rowAt}
+use Rattle.ballots.specs.Latest.{selected, votesIn}
+use Rattle.ballots.proofs.Kept.{valid-kept}
+use Rattle.subtrees.specs.Places.{blockAt, blocksIn, parentPlace}
+use Rattle.choice.specs.Walks.{weightAtPlace}
+use Rattle.choice.specs.Tables.{Weighed}
+use Rattle.choice.proofs.Held.{Held, isIn, Stands, listed, lists, parent-is, place-pos, by-number}
+use Rattle.confirm.specs.Top.{topChoice}
+use Rattle.confirm.proofs.Height.{height-above, IsHighest, HighestIs, highest-is}
+
+-- a block above another stands after it
+above-place : {w : Bool} {ws : List ℕ} {n : ℕ} → Held w ws n → {b y : ℕ} → Above (blocksIn w ws n) b y → (i j : ℕ) → i < n → j < n → blockAt ws i .number ≡ b → blockAt ws j .number ≡ y → i ≤ j
+above-place H (here q) i j a b e f = let z : i ≡ j = H .differ i j a b (e ∙ sym q ∙ sym f) in omega arith
+above-place {w} {ws} {n} H (up c m q z r) i j a b e f =
+    let t : 0 < j = place-pos H j (rw (sym f) at z) in
+    let p = parent-is H j t b in
+    let o = by-number H c j m b (q ∙ sym f) in
+    let l : i ≤ parentPlace ws j = above-place H r i (parentPlace ws j) a (omega (arith, p .0)) e (p .1 ∙ ap (λ o. o .parent) (sym (o .0))) in
+    omega (arith, p .0)
+
+-- what the search from the last row down finds among the first k rows
+pub record IsTop (p : ℕ → Bool) (ws : List ℕ) (k j : ℕ) : Type 0 where
+  pub inside : j < k
+  pub shown : isIn false ws j ≡ true
+  pub passes : p j ≡ true
+  pub last : (i : ℕ) → j < i → i < k → isIn false ws i ≡ true → p i ≡ false
+
+abbrev TopIs : (ℕ → Bool) → List ℕ → ℕ → Choice → Type 0
+TopIs p ws k nothing = (i : ℕ) → i < k → isIn false ws i ≡ true → p i ≡ false
+TopIs p ws k (chosen x) = (j : ℕ) × IsTop p ws k j × (x ≡ blockAt ws j .number)
+
+abbrev passesAt : List ℕ → ℕ → ℕ → Bool
+passesAt masks n j = leb (3 * n) (4 * weightAtPlace masks j)
+
+-- the search, one row at a time: row k was read as m
+module _ (ws masks : List ℕ) (n i k : ℕ) (m : Marked Block) (read : m ≡ rowAt makeBlock ws k) (e : i ≡ suc k) where
+  top-by : (x y : Bool) → m .shown ≡ x → passesAt masks n k ≡ y → topChoice ws masks n i ≡ cond (x && y) (chosen (m .entry .number)) (topChoice ws masks n k)
+  unfolding topChoice
+  top-by x y p q =
+      ap (topChoice ws masks n) e ∙ rw q (ap (λ (r : Marked Block). cond (r .shown && y) (chosen (r .entry .number)) (topChoice ws masks n k)) (sym read) ∙ rw p)
+
+  pub top-hit : m .shown ≡ true → passesAt masks n k ≡ true → topChoice ws masks n i ≡ chosen (m .entry .number)
+  top-hit p q = top-by true true p q
+
+  pub top-light : m .shown ≡ true → passesAt masks n k ≡ false → topChoice ws masks n i ≡ topChoice ws masks n k
+  top-light p q = top-by true false p q
+
+  pub top-hidden : m .shown ≡ false → topChoice ws masks n i ≡ topChoice ws masks n k
+  top-hidden p = top-by false (passesAt masks n k) p refl
+
+pub top-end : (ws masks : List ℕ) (n i : ℕ) → i ≤ 0 → topChoice ws masks n i ≡ nothing
+unfolding topChoice
+top-end ws masks n zero h = refl
+top-end ws masks n (suc k) h = absurd (omega arith)
+
+top-is : (ws masks : List ℕ) (n k : ℕ) → TopIs (passesAt masks n) ws k (topChoice ws masks n k)
+unfolding topChoice
+top-is ws masks n zero = λ i l s. absurd (omega arith)
+top-is ws masks n (suc k) = go (rowAt makeBlock ws k .shown) refl (passesAt masks n k) refl (topChoice ws masks n k) (top-is ws masks n k)
+  where
+    -- row k does not pass
+    skip : (isIn false ws k ≡ true → passesAt masks n k ≡ false) → (o : Choice) → TopIs (passesAt masks n) ws k o → TopIs (passesAt masks n) ws (suc k) o
+    skip h nothing r = λ i l s. one i l s (decLt i k)
+      where
+        one : (i : ℕ) → i < suc k → isIn false ws i ≡ true → Dec (i < k) → passesAt masks n i ≡ false
+        one i l s (yes q) = r i q s
+        one i l s (no q) = let e : i ≡ k = omega arith in rw e (h (rw e at s))
+    skip h (chosen x) (j, t, e) = (j, record { inside = omega (arith, t .inside); shown = t .shown; passes = t .passes; last = λ i a b s. one i a b s (decLt i k) }, e)
+      where
+        one : (i : ℕ) → j < i → i < suc k → isIn false ws i ≡ true → Dec (i < k) → passesAt masks n i ≡ false
+        one i a b s (yes q) = t .last i a q s
+        one i a b s (no q) = let e : i ≡ k = omega arith in rw e (h (rw e at s))
+
+    go : (x : Bool) → rowAt makeBlock ws k .shown ≡ x → (y : Bool) → passesAt masks n k ≡ y → (o : Choice) → TopIs (passesAt masks n) ws k o
+        → TopIs (passesAt masks n) ws (suc k) (cond (x && y) (chosen (blockAt ws k .number)) o)
+    go true s true q o r = (k, record { inside = omega arith; shown = s; passes = q; last = λ i a b t. absurd (omega arith) }, refl)
+    go true s false q o r = skip (λ t. q) o r
+    go false s y q o r = skip (λ t. absurd (clashing t s)) o r
+
+module _ {bw : List ℕ} {bu : ℕ} {vw : List ℕ} {vu n : ℕ} (t : ℕ) {masks : List ℕ} (H : Held false bw bu) (some : 0 < n)
+    (real : (a : Vote) → Cast a (votesIn false vw vu) → 0 < a .slot) (W : Weighed false bw bu vw vu n 1 (t + 1) masks) where
+  -- the test at a place is the test of its block
+  passes-is : (j : ℕ) → j < bu → passesAt masks n j ≡ quorum (blocksIn false bw bu) (votesIn false vw vu) n t (blockAt bw j .number)
+  unfolding quorum weightAt weight
+  passes-is j l =
+      ap (λ (x : ℕ). leb (3 * n) (4 * x)) (W .each j l
+      ∙ count-ext (λ v. supports (blocksIn false bw bu) (kept (votesIn false vw vu) 1 (t + 1) v) (blockAt bw j .number))
+      (λ v. supports (blocksIn false bw bu) (validVote (votesIn false vw vu) t v) (blockAt bw j .number)) n
+      (λ v h. ap (λ (o : Choice). supports (blocksIn false bw bu) o (blockAt bw j .number)) (sym (valid-kept (votesIn false vw vu) t v real))))
+
+  -- a block that passes stands below the last place that does
+  pub fast-is : topChoice bw masks n bu ≡ fast (blocksIn false bw bu) (votesIn false vw vu) n t
+  unfolding fast numberIn
+  fast-is =
+      go (topChoice bw masks n bu) (top-is bw masks n bu)
+      (highest (quorum (blocksIn false bw bu) (votesIn false vw vu) n t) (blocksIn false bw bu) (blocksIn false bw bu))
+      (highest-is (quorum (blocksIn false bw bu) (votesIn false vw vu) n t) (blocksIn false bw bu) (blocksIn false bw bu))
+    where
+      -- the highest block is at the last place
+      same : (j : ℕ) → IsTop (passesAt masks n) bw bu j → (d : Block) → IsHighest (quorum (blocksIn false bw bu) (votesIn false vw vu) n t) (blocksIn false bw bu) (blocksIn false bw bu) d
+          → Stands false bw bu d → d ≡ blockAt bw j
+      same j T d D (i, l, s, e) = at (decLt i j) (decLt j i)
+        where
+          hi : quorum (blocksIn false bw bu) (votesIn false vw vu) n t (blockAt bw i .number) ≡ true
+          hi = ap (λ o. quorum (blocksIn false bw bu) (votesIn false vw vu) n t (o .number)) (sym e) ∙ D .passes
+
+          hj : quorum (blocksIn false bw bu) (votesIn false vw vu) n t (blockAt bw j .number) ≡ true
+          hj = sym (passes-is j (T .inside)) ∙ T .passes
+
+          top : height (blocksIn false bw bu) (blockAt bw j .number) ≤ height (blocksIn false bw bu) (blockAt bw i .number)
+          top = rw e at (D .top (blockAt bw j) (lists false bw bu j (T .inside) (T .shown)) hj)
+
+          below : Above (blocksIn false bw bu) (blockAt bw i .number) (blockAt bw j .number) ⊎ Above (blocksIn false bw bu) (blockAt bw j .number) (blockAt bw i .number) → i < j → ⊥
+          below (inl a) k = at-or (height-above (H .sound) a)
+            where
+              at-or : (blockAt bw j .number ≡ blockAt bw i .number) ⊎ (height (blocksIn false bw bu) (blockAt bw i .number) < height (blocksIn false bw bu) (blockAt bw j .number)) → ⊥
+              at-or (inl z) = let y = H .differ j i (T .inside) l z in omega arith
+              at-or (inr z) = omega (arith, top)
+          below (inr a) k = let y = above-place H a j i (T .inside) l refl refl in omega arith
+
+          at : Dec (i < j) → Dec (j < i) → d ≡ blockAt bw j
+          at (yes k) o = absurd (below (quorum-compare (H .sound) (votesIn false vw vu) n t (blockAt bw i .number) (blockAt bw j .number) some hi hj) k)
+          at (no k) (yes o) = absurd (clashing (passes-is i l ∙ hi) (T .last i o l s))
+          at (no k) (no o) = let z : i ≡ j = omega arith in e ∙ ap (blockAt bw) z
+
+      go : (o : Choice) → TopIs (passesAt masks n) bw bu o → (f : Found)
+          → HighestIs (quorum (blocksIn false bw bu) (votesIn false vw vu) n t) (blocksIn false bw bu) (blocksIn false bw bu) f → o ≡ numberIn f
+      go nothing r missing h = unfold numberIn in refl
+      go nothing r (found d) h = absurd (none (listed false bw bu d (h .mem)))
+        where
+          none : Stands false bw bu d → ⊥
+          none (i, l, s, e) = clashing (passes-is i l ∙ ap (λ o. quorum (blocksIn false bw bu) (votesIn false vw vu) n t (o .number)) (sym e) ∙ h .passes) (r i l s)
+      go (chosen x) (j, T, e) missing h =
+          absurd (clashing (sym (passes-is j (T .inside)) ∙ T .passes) (h (blockAt bw j) (lists false bw bu j (T .inside) (T .shown))))
+      go (chosen x) (j, T, e) (found d) h =
+          unfold numberIn in (ap chosen (e ∙ ap (λ o. o .number) (sym (same j T d h (listed false bw bu d (h .mem))))))
+
+-- as the definition has it
+pub fast-view : (bw : List ℕ) (bu : ℕ) (vw : List ℕ) (vu n t : ℕ) → fast (blocksIn false bw bu) (votesIn false vw vu) n t ≡ fast (inView (rowsOf makeBlock bw bu)) (inView (rowsOf makeVote vw vu)) n t
+unfolding selected
+fast-view bw bu vw vu n t = refl

@@ -1,0 +1,4 @@
+-- The laws of the deep and of the fast block, and the proofs of the functions. Assumes nothing.
+pub mod Descent
+pub mod Height
+pub mod Candidates

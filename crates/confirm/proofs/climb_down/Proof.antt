@@ -1,0 +1,62 @@
+use native.Mathlib.Omega.{arith}
+use mathlib.Core.Bool.{false}
+use mathlib.Core.Path.{refl}
+use Rattle.subtrees.specs.Places.{blockAt}
+use Rattle.choice.proofs.Held.{held}
+use Rattle.confirm.proofs.Descent.{Down, down-end, down-on}
+use Rattle.confirm.proofs.climb_down.Statement.{statement}
+use Rattle.confirm.proofs.climb_down.Tie as tie
+
+abbrev Inv-loop : tie.InvT-loop
+Inv-loop blocks used from m i₀ i =
+    Down blocks used m (blockAt blocks from .number) i
+
+abbrev μ-loop : tie.MeasureT-loop
+μ-loop blocks used from m i₀ i =
+    i
+
+loop-holds : tie.Need-loop-holds Inv-loop μ-loop
+loop-holds c =
+    let s = c .before in
+    record { inside = s .pre .2; shown = s .pre .3; is = refl }
+
+block-at-requires : tie.Need-block-at-requires Inv-loop μ-loop
+block-at-requires c κs =
+    omega (arith, c .loop .inv .inside)
+
+last-place-requires : tie.Need-last-place-requires Inv-loop μ-loop
+last-place-requires c κs =
+    omega (arith, c .before .before .before .loop .inv .inside)
+
+loop-less : tie.Need-loop-less Inv-loop μ-loop
+loop-less c =
+    let i = c .before in
+    let r = i .before .before in
+    let s = r .before .before .before in
+    down-on (held false _ _ (s .pre .1)) (s .args .m) (r .before .loop .inv) _ _ (r .block-at .ensures) (i .if1 .left) (c .last-place .ensures) .0
+
+loop-again : tie.Need-loop-again Inv-loop μ-loop
+loop-again c =
+    let i = c .before in
+    let r = i .before .before in
+    let s = r .before .before .before in
+    down-on (held false _ _ (s .pre .1)) (s .args .m) (r .before .loop .inv) _ _ (r .block-at .ensures) (i .if1 .left) (c .last-place .ensures) .1
+
+returns : tie.Need-returns Inv-loop μ-loop
+returns c =
+    let r = c .before .before in
+    let s = r .before .before .before in
+    down-end (held false _ _ (s .pre .1)) (s .args .m) (r .before .loop .inv) _ (r .block-at .ensures) (c .if1 .taken)
+
+pub climb-down-spec : {M : Type 1} → statement M
+climb-down-spec =
+    tie.close
+    (tie.spec
+    Inv-loop
+    μ-loop
+    loop-holds
+    block-at-requires
+    last-place-requires
+    loop-less
+    loop-again
+    returns)

@@ -1,0 +1,2 @@
+-- The fast block by places. Assumes nothing.
+pub mod Top

@@ -1,0 +1,129 @@
+// The two confirmations, over lent tables: the deep block and the fast block.
+use protocol::Settings;
+ghost use mathlib.Core.Bool.{true, false};
+ghost use mathlib.Core.Path.{_≡_};
+ghost use Prim.Native.Nat.{_+_, _-_, _*_, _^_, _<_, _≤_};
+ghost use lib.Dec.{leb};
+ghost use lib.ListN.{length};
+ghost use Rattle.protocol.specs.Store.{inView};
+ghost use Rattle.protocol.specs.Lent.{rowsOf, makeBlock, makeVote};
+ghost use Rattle.protocol.specs.Walk.{count};
+ghost use Rattle.protocol.specs.Confirm.{deepFrom, deep, fast};
+ghost use Rattle.rows.specs.Rows.{rowAt};
+ghost use Rattle.masks.specs.Masks.{bitOf};
+ghost use Rattle.subtrees.specs.Places.{blockAt, blocksIn, BlocksSound};
+ghost use Rattle.choice.specs.Tables.{TablesSound};
+ghost use Rattle.confirm.specs.Top.{choiceIn, topChoice};
+
+// A block's number, or none.
+pub enum Answer {
+    Chosen(u64),
+    Nothing,
+}
+
+// The number of the first block of a slot of at most m, from the block at a place down by the parents.
+// Each parent is looked up from its child down: at most one turn for each row in all.
+pub fn climb_down(blocks: &[u64], used: usize, from: usize, m: u64) -> u64
+    requires { ⌜ (4 * used ≤ length (now blocks)) × BlocksSound (now blocks) used × (from < used) × (rowAt makeBlock (now blocks) from .shown ≡ true) ⌝ }
+    ensures { λ r. ⌜ r ≡ deepFrom (blocksIn false (now (blocks .entry)) used) m (blockAt (now (blocks .entry)) from .number) ⌝ }
+{
+    let mut i: usize = from;
+    loop {
+        let row = rows::block_at(blocks, i);
+        if row.block.slot <= m {
+            break row.block.number;
+        }
+        i = subtrees::last_place(blocks, i, row.block.parent);
+    }
+}
+
+// Slot t less the depth, and 0 where the depth is more.
+pub fn slot_before(t: u64, depth: u64) -> u64
+    ensures { λ r. ⌜ r ≡ t - depth ⌝ }
+{
+    if depth < t {
+        return t - depth;
+    }
+    0
+}
+
+// The deep block of slot t, over the view. The head's cost, and at most one turn for each row.
+pub fn deep(
+    settings: Settings,
+    blocks: &[u64],
+    blocks_used: usize,
+    votes: &[u64],
+    votes_used: usize,
+    t: u64,
+) -> u64
+    requires { ⌜ TablesSound settings (now blocks) «blocks_used» (now votes) «votes_used» × (t + 1 < 2 ^ 64) ⌝ }
+    ensures { λ r. ⌜ r ≡ deep (inView (rowsOf makeBlock (now (blocks .entry)) «blocks_used»)) (inView (rowsOf makeVote (now (votes .entry)) «votes_used»))
+        (settings .nodes) (settings .expiry) (settings .depth) t ⌝ }
+{
+    let a = choice::heaviest_leaf(
+        settings,
+        blocks,
+        blocks_used,
+        votes,
+        votes_used,
+        false,
+        t,
+        t + 1,
+    );
+    climb_down(blocks, blocks_used, a, slot_before(t, settings.depth))
+}
+
+// Whether a set has three quarters of n voters.
+pub fn is_quorum(n: u64, mask: u64) -> bool
+    requires { ⌜ n ≤ 64 ⌝ }
+    ensures { λ r. ⌜ r ≡ leb (3 * n) (4 * count (bitOf mask) 64) ⌝ }
+{
+    3 * n <= 4 * (masks::weight(mask) as u64)
+}
+
+// The last block in view with three quarters of n voters. The blocks with as many are on one chain, so it is the highest of them.
+pub fn top(blocks: &[u64], used: usize, masks: &[u64], n: u64) -> Answer
+    requires { ⌜ (4 * used ≤ length (now blocks)) × (used ≤ length (now masks)) × (n ≤ 64) ⌝ }
+    ensures { λ r. ⌜ choiceIn r ≡ topChoice (now (blocks .entry)) (now (masks .entry)) n used ⌝ }
+{
+    let mut i: usize = used;
+    while 0 < i {
+        i -= 1;
+        let row = rows::block_at(blocks, i);
+        if row.shown {
+            if is_quorum(n, masks[i]) {
+                return Answer::Chosen(row.block.number);
+            }
+        }
+    }
+    Answer::Nothing
+}
+
+// The fast block of slot t, over the view: the weights are those of the votes of slot t.
+// The cost of the weights, and one turn for each row. Stack: 16 KB for the words of 2048 blocks, and those of the functions it calls.
+pub fn fast(
+    settings: Settings,
+    blocks: &[u64],
+    blocks_used: usize,
+    votes: &[u64],
+    votes_used: usize,
+    t: u64,
+) -> Answer
+    requires { ⌜ TablesSound settings (now blocks) «blocks_used» (now votes) «votes_used» × (t + 1 < 2 ^ 64) ⌝ }
+    ensures { λ r. ⌜ choiceIn r ≡ fast (inView (rowsOf makeBlock (now (blocks .entry)) «blocks_used»)) (inView (rowsOf makeVote (now (votes .entry)) «votes_used»))
+        (settings .nodes) t ⌝ }
+{
+    let mut masks = [0u64; 2048];
+    choice::weigh(
+        settings,
+        blocks,
+        blocks_used,
+        votes,
+        votes_used,
+        false,
+        1,
+        t + 1,
+        &mut masks,
+    );
+    top(blocks, blocks_used, &masks, settings.nodes)
+}

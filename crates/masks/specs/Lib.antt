@@ -1,0 +1,2 @@
+-- Sets of voters as words. Assumes nothing.
+pub mod Masks

@@ -1,0 +1,79 @@
+-- `packet_cases::show` meets its contract. Assumes nothing.
+use mathlib.Core.Path.{ap}
+use native.Mathlib.Nat.{le-of-eq}
+use borrow.Author.Needs.{needs}
+use Rattle.packets.specs.declared.Header.{Header}
+use Rattle.packets.specs.Header.{headerOf}
+use Rattle.packet_cases.proofs.show.Statement.{statement}
+use Rattle.packet_cases.proofs.show.Tie as tie
+
+well-formed-requires : tie.Need-well-formed-requires
+well-formed-requires c κs = search needs
+
+header-of-requires : tie.Need-header-of-requires
+header-of-requires c κs = search needs
+
+slice-aggregate-word : tie.Need-slice-aggregate-word
+slice-aggregate-word c = search needs
+
+word-requires : tie.Need-word-requires
+word-requires c κs = search needs
+
+slice-aggregate-word-2 : tie.Need-slice-aggregate-word-2
+slice-aggregate-word-2 c = search needs
+
+word-requires-2 : tie.Need-word-requires-2
+word-requires-2 c κs = search needs
+
+slice-aggregate-word-3 : tie.Need-slice-aggregate-word-3
+slice-aggregate-word-3 c = search needs
+
+word-requires-3 : tie.Need-word-requires-3
+word-requires-3 c κs = search needs
+
+show-blocks-requires : tie.Need-show-blocks-requires
+unfolding headerOf
+show-blocks-requires c κs = le-of-eq (ap (λ (h : Header). h .blocks) (c .before .before .before .before .before .before .header-of .ensures))
+
+show-votes-requires : tie.Need-show-votes-requires
+unfolding headerOf
+show-votes-requires c κs = le-of-eq (ap (λ (h : Header). h .votes) (c .before .before .before .before .before .before .before .header-of .ensures))
+
+slice-aggregate-write-all : tie.Need-slice-aggregate-write-all
+slice-aggregate-write-all c = search needs
+
+write-all-requires : tie.Need-write-all-requires
+write-all-requires c κs = search needs
+
+returns : tie.Need-returns
+returns c = search needs
+
+slice-aggregate-write-all-2 : tie.Need-slice-aggregate-write-all-2
+slice-aggregate-write-all-2 c = search needs
+
+write-all-requires-2 : tie.Need-write-all-requires-2
+write-all-requires-2 c κs = search needs
+
+returns-2 : tie.Need-returns-2
+returns-2 c = search needs
+
+pub show-spec : {M : Type 1} → statement M
+show-spec =
+    tie.close
+    (tie.spec
+    well-formed-requires
+    header-of-requires
+    slice-aggregate-word
+    word-requires
+    slice-aggregate-word-2
+    word-requires-2
+    slice-aggregate-word-3
+    word-requires-3
+    show-blocks-requires
+    show-votes-requires
+    slice-aggregate-write-all
+    write-all-requires
+    returns
+    slice-aggregate-write-all-2
+    write-all-requires-2
+    returns-2)

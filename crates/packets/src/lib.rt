@@ -1,0 +1,207 @@
+// Packets read: numbers at a place, the reader, the header, the entries, and whether bytes are a packet.
+// Nothing is read past the end: a byte that is not there counts as 0, as in the definitions.
+// Reading a number costs its width; no function here takes longer than a few numbers.
+ghost use mathlib.Core.Path.{_≡_};
+ghost use Prim.Native.Nat.{_+_, _*_, _^_, _≤_, _<_};
+ghost use lib.ListN.{length, getD};
+ghost use Rattle.protocol.specs.Chain.{genesis};
+ghost use Rattle.protocol.specs.Packet.{field, sizeOf, packetOf, wellFormed};
+ghost use Rattle.packets.specs.Reader.{placeAfter, threeOf};
+ghost use Rattle.packets.specs.Header.{noVote, headerOf};
+use protocol::Block;
+use protocol::Vote;
+
+// The bytes and the position of the next one.
+pub struct Reader<'a> {
+    pub bytes: &'a [u8],
+    pub at: usize,
+}
+
+// Three numbers in a row: what a block, a vote and the front of a header are.
+pub struct Three {
+    pub first: u64,
+    pub second: u64,
+    pub third: u64,
+}
+
+// The front of a packet and its two counts.
+pub struct Header {
+    pub kind: u64,
+    pub slot: u64,
+    pub number: u64,
+    pub blocks: u64,
+    pub votes: u64,
+}
+
+// The byte i places behind a place.
+fn byte_at(bytes: &[u8], at: usize, i: usize) -> u64
+    ensures { λ r. ⌜ (r ≡ getD (now (bytes .entry)) (at + i) 0) × (r < 256) ⌝ }
+{
+    if bytes.len() <= at {
+        return 0;
+    }
+    if bytes.len() - at <= i {
+        return 0;
+    }
+    bytes[at + i] as u64
+}
+
+// The number in `width` bytes from a place on, the lowest first.
+pub fn number_at(bytes: &[u8], at: usize, width: usize) -> u64
+    requires { ⌜ width ≤ 8 ⌝ }
+    ensures { λ r. ⌜ (r ≡ field (now (bytes .entry)) at width) × (r < 256 ^ width) ⌝ }
+{
+    let mut sum: u64 = 0;
+    let mut i = width;
+    while 0 < i {
+        i -= 1;
+        sum = sum * 256 + byte_at(bytes, at, i);
+    }
+    sum
+}
+
+// The place n bytes on, or the end.
+fn onward(bytes: &[u8], at: usize, n: usize) -> usize
+    ensures { λ r. ⌜ r ≡ placeAfter (now (bytes .entry)) at n ⌝ }
+{
+    if bytes.len() < n {
+        return bytes.len();
+    }
+    if bytes.len() - n < at {
+        return bytes.len();
+    }
+    at + n
+}
+
+// The bytes of the block section: a count, and so many blocks.
+fn section_bytes(blocks: u64) -> usize
+    requires { ⌜ blocks < 65536 ⌝ }
+    ensures { λ r. ⌜ r ≡ 2 + 20 * blocks ⌝ }
+{
+    (2 + 20 * blocks) as usize
+}
+
+// ---- the reader
+
+pub fn new<'a>(bytes: &'a [u8]) -> Reader<'a>
+    ensures { λ r. ⌜ (r .bytes ≡ bytes .entry) × (r .at ≡ 0) ⌝ }
+{
+    Reader { bytes, at: 0 }
+}
+
+pub fn take<'a>(r: Reader<'a>, width: usize) -> u64
+    requires { ⌜ width ≤ 8 ⌝ }
+    ensures { λ n. ⌜ (n ≡ field (now (r .entry .bytes)) (r .entry .at) width) × (n < 256 ^ width) ⌝ }
+{
+    number_at(r.bytes, r.at, width)
+}
+
+pub fn skip<'a>(r: Reader<'a>, n: usize) -> Reader<'a>
+    ensures { λ q. ⌜ (q .bytes ≡ r .entry .bytes) × (q .at ≡ placeAfter (now (r .entry .bytes)) (r .entry .at) n) ⌝ }
+{
+    let at = onward(r.bytes, r.at, n);
+    Reader { bytes: r.bytes, at }
+}
+
+// Three numbers of the given widths from a place on.
+fn three_at(bytes: &[u8], at: usize, u: usize, v: usize, w: usize) -> Three
+    requires { ⌜ (u ≤ 8) × (v ≤ 8) × (w ≤ 8) ⌝ }
+    ensures { λ r. ⌜ r ≡ threeOf (now (bytes .entry)) at u v w ⌝ }
+{
+    let r = new(bytes);
+    let r1 = skip(r, at);
+    let first = take(r1, u);
+    let r2 = skip(r1, u);
+    let second = take(r2, v);
+    let r3 = skip(r2, v);
+    let third = take(r3, w);
+    Three {
+        first,
+        second,
+        third,
+    }
+}
+
+// ---- packets
+
+pub fn header_of(bytes: &[u8]) -> Header
+    ensures { λ r. ⌜ r ≡ headerOf (now (bytes .entry)) ⌝ }
+{
+    let r = new(bytes);
+    let kind = take(r, 1);
+    let r1 = skip(r, 1);
+    let slot = take(r1, 4);
+    let r2 = skip(r1, 4);
+    let number = take(r2, 8);
+    let r3 = skip(r2, 8);
+    let blocks = take(r3, 2);
+    let n = section_bytes(blocks);
+    let r4 = skip(r3, n);
+    let votes = take(r4, 2);
+    Header {
+        kind,
+        slot,
+        number,
+        blocks,
+        votes,
+    }
+}
+
+// The length of a packet with so many blocks and votes.
+pub fn packet_length(blocks: u64, votes: u64) -> u64
+    requires { ⌜ (blocks < 65536) × (votes < 65536) ⌝ }
+    ensures { λ r. ⌜ r ≡ sizeOf 8 blocks votes ⌝ }
+{
+    17 + 20 * blocks + 13 * votes
+}
+
+// Whether length, kind and zero fields are right.
+pub fn well_formed(bytes: &[u8]) -> bool
+    ensures { λ r. ⌜ r ≡ wellFormed (now (bytes .entry)) ⌝ }
+{
+    let h = header_of(bytes);
+    let length = packet_length(h.blocks, h.votes);
+    if bytes.len() as u64 != length {
+        return false;
+    }
+    if h.kind == 1 {
+        return true;
+    }
+    if h.kind != 0 {
+        return false;
+    }
+    if h.slot != 0 {
+        return false;
+    }
+    if h.number != 0 {
+        return false;
+    }
+    true
+}
+
+// Block i of a packet.
+pub fn block_at(bytes: &[u8], i: usize) -> Block
+    requires { ⌜ i < length (packetOf (now bytes) .blocks) ⌝ }
+    ensures { λ r. ⌜ r ≡ getD (packetOf (now (bytes .entry)) .blocks) i genesis ⌝ }
+{
+    let t = three_at(bytes, 15 + 20 * i, 8, 8, 4);
+    Block {
+        number: t.first,
+        parent: t.second,
+        slot: t.third,
+    }
+}
+
+// Vote i of a packet.
+pub fn vote_at(bytes: &[u8], i: usize) -> Vote
+    requires { ⌜ i < length (packetOf (now bytes) .votes) ⌝ }
+    ensures { λ r. ⌜ r ≡ getD (packetOf (now (bytes .entry)) .votes) i noVote ⌝ }
+{
+    let blocks = number_at(bytes, 13, 2) as usize;
+    let t = three_at(bytes, 17 + 20 * blocks + 13 * i, 1, 4, 8);
+    Vote {
+        voter: t.first,
+        slot: t.second,
+        number: t.third,
+    }
+}

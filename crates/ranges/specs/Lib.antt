@@ -1,0 +1,1 @@
+-- The rules need no definitions of their own. Assumes nothing.

@@ -1,0 +1,97 @@
+// The rules of sound tables that look at numbers alone: settings, clock, places and marks.
+// No function keeps an array: the largest call takes less than 1 KB of stack.
+use protocol::Clock;
+use protocol::Settings;
+ghost use mathlib.Core.Path.{_≡_};
+ghost use Prim.Native.Nat.{_*_, _≤_};
+ghost use lib.ListN.{length};
+ghost use lib.Dec.{leb};
+ghost use Rattle.protocol.specs.Sound.{settingsSound, clockSound, placesSound, between};
+ghost use Rattle.protocol.specs.Lent.{placesIn, marksSound};
+
+pub fn within(low: u64, high: u64, x: u64) -> bool
+    ensures { λ r. ⌜ r ≡ between low high x ⌝ }
+{
+    low <= x && x <= high
+}
+
+pub fn settings_sound(settings: Settings) -> bool
+    ensures { λ r. ⌜ r ≡ settingsSound settings ⌝ }
+{
+    if !within(1, 64, settings.nodes) {
+        return false;
+    }
+    if settings.own >= settings.nodes {
+        return false;
+    }
+    if !within(1, 4096, settings.expiry) {
+        return false;
+    }
+    within(1, 4096, settings.depth)
+}
+
+// No product is formed that could pass the width of a word.
+pub fn clock_sound(clock: Clock) -> bool
+    ensures { λ r. ⌜ r ≡ clockSound clock ⌝ }
+{
+    let slot = clock.seen / 3;
+    if slot > 1000000000 {
+        return false;
+    }
+    if clock.done > clock.seen {
+        return false;
+    }
+    if clock.merged > slot {
+        return false;
+    }
+    if clock.merged * 3 + 2 > clock.done {
+        return false;
+    }
+    clock.proposed <= slot
+}
+
+// How many rows the words can hold.
+pub fn places_in(words: &[u64]) -> usize
+    ensures { λ r. ⌜ r ≡ placesIn (now (words .entry)) ⌝ }
+{
+    let n = words.len();
+    if n % 4 == 0 {
+        return n / 4;
+    }
+    0
+}
+
+// Whether both tables have a number of places that is allowed.
+pub fn places_sound(blocks: &[u64], votes: &[u64]) -> bool
+    ensures { λ r. ⌜ r ≡ placesSound (record { blocks = placesIn (now (blocks .entry)); votes = placesIn (now (votes .entry)) }) ⌝ }
+{
+    let block_places = places_in(blocks) as u64;
+    if !within(1, 2048, block_places) {
+        return false;
+    }
+    let vote_places = places_in(votes) as u64;
+    within(1, 8192, vote_places)
+}
+
+// Whether as many rows as are used can stand in the words.
+pub fn fits(words: &[u64], used: usize) -> bool
+    ensures { λ r. ⌜ r ≡ leb used (placesIn (now (words .entry))) ⌝ }
+{
+    used <= places_in(words)
+}
+
+// Whether the marks of the used rows are 0 or 1.
+pub fn marks_sound(words: &[u64], used: usize) -> bool
+    requires { ⌜ 4 * used ≤ length (now words) ⌝ }
+    ensures { λ r. ⌜ r ≡ marksSound (now (words .entry)) used ⌝ }
+{
+    let mut i: usize = 0;
+    while i < used {
+        let mark = rows::mark_at(words, i);
+        if mark > 1 {
+            return false;
+        }
+        i += 1;
+    }
+    true
+}

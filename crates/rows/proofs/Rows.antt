@@ -1,0 +1,120 @@
+-- Laws of decoded rows, once for every table: their number, row i, a front of them, and one turn of a loop over them.
+-- Assumes nothing.
+use Prim.Native.Nat.{ℕ, zero, suc, _+_, _*_, _≤_, _<_}
+use mathlib.Core.Bool.{Bool, true, false}
+use mathlib.Core.List.{List, [], _∷_, _++_}
+use mathlib.Core.Path.{_≡_, refl, ap, _∙_}
+use native.Mathlib.Nat.{add-zero}
+use native.Mathlib.Numerals.{add-one}
+use native.Mathlib.Omega.{arith}
+use lib.ListN.{length, getD, take, drop, drop-of-length-le}
+use lib.Seq.{getD-drop, drop-drop, drop-cons, take-suc}
+use Rattle.protocol.specs.Lists.{any, all}
+use Rattle.protocol.specs.Lent.{Make, rowsOf}
+use Rattle.rows.specs.Rows.{rowAt, fold}
+
+module _ {A : Type 0} (make : Make A) where
+  -- ---- the rows
+
+  pub length-rowsOf : (ws : List ℕ) (n : ℕ) → length (rowsOf make ws n) ≡ n
+  unfolding rowsOf
+  length-rowsOf ws zero = refl
+  length-rowsOf ws (suc n) = ap suc (length-rowsOf (drop 4 ws) n)
+
+  abbrev pub headRow : List ℕ → A
+  headRow ws = make (getD ws 0 0) (getD ws 1 0) (getD ws 2 0) (getD ws 3 0)
+
+  -- row i is the first row from there on
+  pub head-at : (ws : List ℕ) (i : ℕ) → headRow (drop (4 * i) ws) ≡ rowAt make ws i
+  head-at ws i =
+      rw (getD-drop (4 * i) ws 0 0, getD-drop (4 * i) ws 1 0, getD-drop (4 * i) ws 2 0, getD-drop (4 * i) ws 3 0, add-zero)
+
+  getD-head : (ws : List ℕ) (n i : ℕ) (d : A) → i < n → getD (rowsOf make ws n) i d ≡ headRow (drop (4 * i) ws)
+  unfolding rowsOf
+  getD-head ws zero i d h = absurd (omega arith)
+  getD-head ws (suc n) zero d h = refl
+  getD-head ws (suc n) (suc i) d h =
+      let e : 4 + 4 * i ≡ 4 * suc i = omega arith in
+      getD-head (drop 4 ws) n i d (omega arith) ∙ ap headRow (drop-drop (4 * i) 4 ws ∙ ap (λ (k : ℕ). drop k ws) e)
+
+  pub getD-rowsOf : (ws : List ℕ) (n i : ℕ) (d : A) → i < n → getD (rowsOf make ws n) i d ≡ rowAt make ws i
+  getD-rowsOf ws n i d h = getD-head ws n i d h ∙ head-at ws i
+
+  -- the rows from i on
+  pub drop-rowsOf : (ws : List ℕ) (n i : ℕ) → i < n → drop i (rowsOf make ws n) ≡ rowAt make ws i ∷ drop (i + 1) (rowsOf make ws n)
+  drop-rowsOf ws n i h =
+      let l : i < length (rowsOf make ws n) = omega (arith, length-rowsOf ws n) in
+      rw (add-one i) (drop-cons (rowsOf make ws n) i (headRow []) l ∙ rw (getD-rowsOf ws n i (headRow []) h))
+
+  -- the same where row i was read as a
+  pub drop-read : (ws : List ℕ) (n i : ℕ) {a : A} → i < n → a ≡ rowAt make ws i → drop i (rowsOf make ws n) ≡ a ∷ drop (i + 1) (rowsOf make ws n)
+  drop-read ws n i h e = rw e (drop-rowsOf ws n i h)
+
+  pub drop-end : (ws : List ℕ) (n i : ℕ) → n ≤ i → drop i (rowsOf make ws n) ≡ []
+  drop-end ws n i h =
+      let l : length (rowsOf make ws n) ≤ i = omega (arith, length-rowsOf ws n) in
+      drop-of-length-le (rowsOf make ws n) l
+
+  -- the first i + 1 rows are the first i, and row i
+  pub take-rowsOf : (ws : List ℕ) (n i : ℕ) → i < n → take (i + 1) (rowsOf make ws n) ≡ take i (rowsOf make ws n) ++ (rowAt make ws i ∷ [])
+  take-rowsOf ws n i h =
+      let l : i < length (rowsOf make ws n) = omega (arith, length-rowsOf ws n) in
+      rw (add-one i) (take-suc (rowsOf make ws n) i (headRow []) l ∙ rw (getD-rowsOf ws n i (headRow []) h))
+
+  -- fewer rows are a front of more
+  pub rows-front : (ws : List ℕ) (n i : ℕ) → i ≤ n → take i (rowsOf make ws n) ≡ rowsOf make ws i
+  unfolding rowsOf
+  rows-front ws n zero h = refl
+  rows-front ws zero (suc i) h = absurd (omega arith)
+  rows-front ws (suc n) (suc i) h = ap (λ (r : List A). headRow ws ∷ r) (rows-front (drop 4 ws) n i (omega arith))
+
+  -- ---- one turn of a loop over the rows, where row i was read as a; and its end
+
+  -- a search
+  module _ (p : A → Bool) (ws : List ℕ) (n i : ℕ) where
+    pub any-hit : {a : A} → i < n → a ≡ rowAt make ws i → p a ≡ true → any p (drop i (rowsOf make ws n)) ≡ true
+    unfolding any
+    any-hit h r e = rw (drop-read ws n i h r, e)
+
+    pub any-miss : {a : A} → i < n → a ≡ rowAt make ws i → p a ≡ false → any p (drop i (rowsOf make ws n)) ≡ any p (drop (i + 1) (rowsOf make ws n))
+    unfolding any
+    any-miss h r e = rw (drop-read ws n i h r, e)
+
+    pub any-end : n ≤ i → any p (drop i (rowsOf make ws n)) ≡ false
+    unfolding any
+    any-end h = rw (drop-end ws n i h)
+
+  -- a test of every row
+  module _ (p : A → Bool) (ws : List ℕ) (n i : ℕ) where
+    pub all-pass : {a : A} → i < n → a ≡ rowAt make ws i → p a ≡ true → all p (drop i (rowsOf make ws n)) ≡ all p (drop (i + 1) (rowsOf make ws n))
+    unfolding all
+    all-pass h r e = rw (drop-read ws n i h r, e)
+
+    pub all-fail : {a : A} → i < n → a ≡ rowAt make ws i → p a ≡ false → all p (drop i (rowsOf make ws n)) ≡ false
+    unfolding all
+    all-fail h r e = rw (drop-read ws n i h r, e)
+
+    pub all-end : n ≤ i → all p (drop i (rowsOf make ws n)) ≡ true
+    unfolding all
+    all-end h = rw (drop-end ws n i h)
+
+  -- a loop with a state s, that a step makes s′
+  module _ {S : Type 0} (f : S → A → S) (ws : List ℕ) (n i : ℕ) (s : S) where
+    pub fold-step : {a : A} {s′ : S} → i < n → a ≡ rowAt make ws i → s′ ≡ f s a
+        → fold f s (drop i (rowsOf make ws n)) ≡ fold f s′ (drop (i + 1) (rowsOf make ws n))
+    unfolding fold
+    fold-step h r e = rw (drop-read ws n i h r, e)
+
+    pub fold-end : n ≤ i → fold f s (drop i (rowsOf make ws n)) ≡ s
+    unfolding fold
+    fold-end h = rw (drop-end ws n i h)
+
+  -- the same from the front: the state after the first i + 1 rows
+  pub fold-take : {S : Type 0} (f : S → A → S) (s : S) (ws : List ℕ) (n i : ℕ) → i < n
+      → fold f s (take (i + 1) (rowsOf make ws n)) ≡ f (fold f s (take i (rowsOf make ws n))) (rowAt make ws i)
+  unfolding fold
+  fold-take {S = S} f s ws n i h = rw (take-rowsOf ws n i h) (snoc s (take i (rowsOf make ws n)))
+    where
+      snoc : (t : S) (xs : List A) → fold f t (xs ++ (rowAt make ws i ∷ [])) ≡ f (fold f t xs) (rowAt make ws i)
+      snoc t [] = refl
+      snoc t (y ∷ xs) = snoc (f t y) xs

@@ -1,0 +1,44 @@
+-- `put_vote` meets its contract. Assumes nothing.
+use borrow.Author.Needs.{needs}
+use native.Mathlib.Omega.{arith}
+use Prim.Native.Nat.{ℕ}
+use mathlib.Core.List.{[], _∷_}
+use mathlib.Core.Path.{ap, _∙_}
+use denote.Ref.{now}
+use lib.ListN.{length-set}
+use Rattle.rows.specs.Rows.{putRow}
+use Rattle.rows.proofs.Words.{mark-word, put-words}
+use Rattle.rows.proofs.put_vote.Statement.{statement}
+use Rattle.rows.proofs.put_vote.Tie as tie
+
+slice-write-votes-2 : tie.Need-slice-write-votes-2
+slice-write-votes-2 c = simp length-set (omega arith)
+
+slice-write-votes-3 : tie.Need-slice-write-votes-3
+slice-write-votes-3 c = simp length-set (omega arith)
+
+returns : tie.Need-returns
+returns c =
+    let a = c .before .args in
+    put-words (now (a .votes)) (a .i) _ _ _ _ (c .before .pre)
+    ∙ ap (λ (m : ℕ). putRow (now (a .votes)) (a .i) (a .row .vote .voter ∷ a .row .vote .slot ∷ a .row .vote .number ∷ m ∷ [])) (mark-word (a .row .shown))
+
+pub put-vote-spec : {M : Type 1} → statement M
+put-vote-spec =
+    tie.close
+    (tie.spec
+    (λ c. search needs)
+    (λ c. search needs)
+    (λ c. search needs)
+    (λ c. search needs)
+    (λ c. search needs)
+    slice-write-votes-2
+    (λ c. search needs)
+    (λ c. search needs)
+    slice-write-votes-3
+    (λ c. search needs)
+    (λ c. search needs)
+    (λ c. search needs)
+    (λ c. search needs)
+    (λ c. search needs)
+    returns)

@@ -1,0 +1,1 @@
+-- Soundness needs no definitions of its own. Assumes nothing.

@@ -1,0 +1,3 @@
+-- The laws of places and of handing on, and the proofs of the functions. Assumes nothing.
+pub mod Up
+pub mod Handing

@@ -1,0 +1,7 @@
+-- The laws of what comes into view, and the proofs of the functions. Assumes nothing.
+pub mod Shows
+pub mod Order
+pub mod Ancestors
+pub mod One
+pub mod Pass
+pub mod Proposal

@@ -1,0 +1,139 @@
+-- Tables in order: numbers stand once, and parents stand before their children. Assumes nothing.
+use Prim.Native.Nat.{ℕ, zero, suc, _+_, _<_}
+use mathlib.Core.Bool.{Bool, true, false, _||_, cond, or-true, or-false}
+use mathlib.Core.List.{List, [], _∷_, _++_, List·Memᴰ, List·Memᴰ·head, List·Memᴰ·tail, List·Memᴰ·cases-cons, List·Memᴰ·not-nil, Memᴰ·append-right, append-assoc, append-nil, head-eq-of-cons-eq}
+use mathlib.Core.Logic.{_⊎_, inl, inr}
+use mathlib.Core.Path.{_≡_, refl, ap, sym, _∙_}
+use native.Mathlib.Omega.{arith}
+use lib.Dec.{eqb}
+use lib.ListN.{getD, take, drop, set}
+use borrow.Author.Tests.{eqb-true}
+use Rattle.protocol.specs.declared.Block.{Block}
+use Rattle.protocol.specs.Chain.{genesis}
+use Rattle.protocol.specs.Store.{Marked, visible, entries, inView, show, showAll}
+use Rattle.protocol.proofs.Basics.Tests.{and-right}
+use Rattle.protocol.proofs.Chain.Above.{parent-known}
+use Rattle.protocol.proofs.Chain.Relations.{In, Sound}
+use Rattle.protocol.proofs.Store.Follow.{allFollow, blockFollows, follow-apart}
+use Rattle.protocol.proofs.Store.Tables.{Table, table-true, table-holds, table-sound}
+use Rattle.protocol.proofs.Store.Views.{entries-all, view-all, view-stored}
+use Rattle.rows.specs.declared.Place.the-variants.{At, Missing}
+use Rattle.rows.specs.Find.{placeFrom}
+use Rattle.rows.proofs.Find.{place-after}
+use Rattle.views.specs.Ancestors.{Ordered}
+use Rattle.views.proofs.Shows.{show-idle, all-show}
+
+-- ---- numbers stand once
+
+unfoldable pub Apart : List Block → Type 0
+Apart [] = Unit
+Apart (b ∷ bs) = ((d : Block) → In d bs → b .number ≡ d .number → ⊥) × Apart bs
+
+pub entry-in : (ms : List (Marked Block)) (m : Marked Block) → List·Memᴰ m ms → In (m .entry) (entries ms)
+unfolding entries
+entry-in ms m (List·Memᴰ·head {x = x} {xs = xs} e) = List·Memᴰ·head (ap (λ o. o .entry) e)
+entry-in ms m (List·Memᴰ·tail {x = x} {xs = xs} n) = List·Memᴰ·tail (entry-in xs m n)
+
+-- a row whose entry is in view is in view itself
+pub shown-row : (ms : List (Marked Block)) → Apart (entries ms) → (m : Marked Block) → List·Memᴰ m ms → In (m .entry) (inView ms) → m .shown ≡ true
+unfolding Apart entries inView
+shown-row [] A m n k = absurd (List·Memᴰ·not-nil n)
+shown-row (x ∷ xs) A m n k = go (x .shown) refl k (List·Memᴰ·cases-cons n) (λ o h. shown-row xs (A .1) m o h)
+  where
+    later : x .entry .number ≡ m .entry .number → In (m .entry) (entries xs) → ⊥
+    later e o = A .0 (m .entry) o e
+
+    here : (m .entry ≡ x .entry) ⊎ In (m .entry) (inView xs) → List·Memᴰ m xs → (In (m .entry) (inView xs) → m .shown ≡ true) → m .shown ≡ true
+    here (inl e) o rec = absurd (later (ap (λ b. b .number) (sym e)) (entry-in xs m o))
+    here (inr h) o rec = rec h
+
+    go : (t : Bool) → x .shown ≡ t → In (m .entry) (cond t (x .entry ∷ inView xs) (inView xs)) → (m ≡ x) ⊎ List·Memᴰ m xs
+        → (List·Memᴰ m xs → In (m .entry) (inView xs) → m .shown ≡ true) → m .shown ≡ true
+    go true s h (inl e) rec = ap (λ o. o .shown) e ∙ s
+    go false s h (inl e) rec = absurd (later (ap (λ o. o .entry .number) (sym e)) (view-stored xs (m .entry) h))
+    go true s h (inr o) rec = here (List·Memᴰ·cases-cons h) o (rec o)
+    go false s h (inr o) rec = rec o h
+
+-- ---- the block with number x comes into view
+
+abbrev pub numbered : ℕ → Block → Bool
+numbered x b = eqb (b .number) x
+
+none-numbered : (ms : List (Marked Block)) (x : ℕ) → ((d : Block) → In d (entries ms) → x ≡ d .number → ⊥) → show (numbered x) ms ≡ ms
+none-numbered ms x f = show-idle (numbered x) ms (λ m n e. absurd (f (m .entry) (entry-in ms m n) (sym (eqb-true (m .entry .number) x e))))
+
+-- by its place
+pub set-show : (i : ℕ) (ms : List (Marked Block)) (x k j : ℕ) (m : Marked Block) → Apart (entries ms) → placeFrom i ms x ≡ At k → k ≡ i + j → m ≡ getD ms j m
+    → set ms j (visible (m .entry)) ≡ show (numbered x) ms
+unfolding Apart entries placeFrom show
+set-show i [] x k j m A e q g = let z : _≡_ {A = ℕ} 0 1 = cc in absurd (omega arith)
+set-show i (c ∷ ms) x k j m A e q g = go (eqb (c .entry .number) x) refl e j q g (λ o h r f. set-show (suc i) ms x k o m (A .1) h r f)
+  where
+    go : (t : Bool) → eqb (c .entry .number) x ≡ t → cond t (At i) (placeFrom (suc i) ms x) ≡ At k → (o : ℕ) → k ≡ i + o → m ≡ getD (c ∷ ms) o m
+        → ((o : ℕ) → placeFrom (suc i) ms x ≡ At k → k ≡ suc i + o → m ≡ getD ms o m → set ms o (visible (m .entry)) ≡ show (numbered x) ms)
+        → set (c ∷ ms) o (visible (m .entry)) ≡ record { entry = c .entry; shown = c .shown || t } ∷ show (numbered x) ms
+    go true s h zero r f rec =
+        rw (or-true (c .shown), f, none-numbered ms x (λ d n v. A .0 d n (eqb-true (c .entry .number) x s ∙ v)))
+    go true s h (suc o) r f rec = let z : i ≡ k = cc in absurd (omega arith)
+    go false s h zero r f rec = absurd (omega (arith, place-after (suc i) ms x k h))
+    go false s h (suc o) r f rec = rw (or-false (c .shown), rec o h (omega arith) f)
+
+pub missing-show : (i : ℕ) (ms : List (Marked Block)) (x : ℕ) → placeFrom i ms x ≡ Missing → show (numbered x) ms ≡ ms
+unfolding placeFrom show
+missing-show i [] x e = refl
+missing-show i (c ∷ ms) x e = go (eqb (c .entry .number) x) (λ h. missing-show (suc i) ms x h) e
+  where
+    go : (t : Bool) → (placeFrom (suc i) ms x ≡ Missing → show (numbered x) ms ≡ ms) → cond t (At i) (placeFrom (suc i) ms x) ≡ Missing
+        → record { entry = c .entry; shown = c .shown || t } ∷ show (numbered x) ms ≡ c ∷ ms
+    go true rec h = let z : _≡_ {A = ℕ} 0 1 = cc in absurd (omega arith)
+    go false rec h = rw (or-false (c .shown), rec h)
+
+-- ---- parents stand before their children
+
+follow-all-apart : (slot : ℕ) (e xs : List Block) → allFollow slot e xs ≡ true → Apart xs
+unfolding Apart allFollow
+follow-all-apart slot e [] h = tt
+follow-all-apart slot e (b ∷ xs) h =
+    let t = and-right (blockFollows slot e b) _ h in
+    (λ d n q. follow-apart slot (e ++ (b ∷ [])) xs t b d (Memᴰ·append-right e (List·Memᴰ·head refl)) n q, follow-all-apart slot (e ++ (b ∷ [])) xs t)
+
+follow-at : (slot : ℕ) (j : ℕ) (e xs : List Block) → allFollow slot e xs ≡ true → allFollow slot (e ++ take j xs) (drop j xs) ≡ true
+unfolding allFollow
+follow-at slot zero e xs h = rw (append-nil e) h
+follow-at slot (suc j) e [] h = refl
+follow-at slot (suc j) e (b ∷ xs) h =
+    rw (← append-assoc e (b ∷ []) (take j xs)) (follow-at slot j (e ++ (b ∷ [])) xs (and-right (blockFollows slot e b) _ h))
+
+module _ (ms : List (Marked Block)) (O : Ordered ms) where
+  table : Table (O .0) (showAll ms)
+  table = table-true (O .0) (showAll ms) (O .1) .0
+
+  blocks-are : entries ms ≡ genesis ∷ table .rest
+  blocks-are = sym (entries-all ms) ∙ table .is
+
+  pub ordered-sound : Sound (entries ms)
+  ordered-sound = rw (entries-all ms) at (table-sound table)
+
+  pub ordered-apart : Apart (entries ms)
+  unfolding Apart
+  ordered-apart =
+      rw blocks-are
+      (λ d n q. follow-apart (O .0) (genesis ∷ []) (table .rest) (table .follow) genesis d (List·Memᴰ·head refl) n q, follow-all-apart (O .0) (genesis ∷ []) (table .rest) (table .follow))
+
+  pub ordered-at : (i : ℕ) → 0 < i → allFollow (O .0) (take i (entries ms)) (drop i (entries ms)) ≡ true
+  ordered-at zero h = absurd (omega arith)
+  ordered-at (suc j) h = rw blocks-are (follow-at (O .0) j (genesis ∷ []) (table .rest) (table .follow))
+
+  pub ordered-show : (p : Block → Bool) → Ordered (show p ms)
+  ordered-show p = (O .0, rw (all-show p ms) (O .1))
+
+pub ordered-first : (m : Marked Block) (ms : List (Marked Block)) → Ordered (m ∷ ms) → m .entry ≡ genesis
+unfolding entries
+ordered-first m ms O = head-eq-of-cons-eq (blocks-are (m ∷ ms) O)
+
+-- a table whose view is not closed yet is in order
+pub table-ordered : (slot : ℕ) (ms : List (Marked Block)) → Table slot ms → Ordered ms
+table-ordered slot ms T = (slot, table-holds slot (showAll ms) whole (rw (view-all ms) (λ c n. parent-known (table-sound T) c n)))
+  where
+    whole : Table slot (showAll ms)
+    whole = record { rest = T .rest; is = entries-all ms ∙ T .is; follow = T .follow; shown = rw (view-all ms) (view-stored ms genesis (T .shown)) }

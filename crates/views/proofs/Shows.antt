@@ -1,0 +1,72 @@
+-- What comes into view twice, by equal tests, or not at all. Assumes nothing.
+use Prim.Native.Nat.{ℕ, zero, suc}
+use mathlib.Core.Bool.{Bool, true, false, _||_, or-false, or-true}
+use mathlib.Core.List.{List, [], _∷_, _++_, List·Memᴰ, List·Memᴰ·head, List·Memᴰ·tail}
+use mathlib.Core.Path.{_≡_, refl, ap, sym, _∙_}
+use lib.ListN.{drop}
+use Rattle.protocol.specs.Lists.{any}
+use Rattle.protocol.specs.Store.{Marked, entries, show, showAll}
+
+or-assoc : (a b c : Bool) → ((a || b) || c) ≡ (a || (b || c))
+or-assoc true b c = refl
+or-assoc false b c = refl
+
+snoc : {B : Type 0} (p : B → Bool) (ds : List B) (c : B) → any p (ds ++ (c ∷ [])) ≡ (any p ds || p c)
+unfolding any
+snoc p [] c = or-false (p c)
+snoc p (d ∷ ds) c = ap (λ b. p d || b) (snoc p ds c) ∙ sym (or-assoc (p d) (any p ds) (p c))
+
+module _ {A : Type 0} where
+  pub show-both : (p q : A → Bool) (ms : List (Marked A)) → show q (show p ms) ≡ show (λ a. p a || q a) ms
+  unfolding show
+  show-both p q [] = refl
+  show-both p q (m ∷ ms) = rw (or-assoc (m .shown) (p (m .entry)) (q (m .entry)), show-both p q ms)
+
+  pub show-ext : (p q : A → Bool) (ms : List (Marked A)) → ((a : A) → List·Memᴰ a (entries ms) → p a ≡ q a) → show p ms ≡ show q ms
+  unfolding show entries
+  show-ext p q [] f = refl
+  show-ext p q (m ∷ ms) f =
+      rw (f (m .entry) (List·Memᴰ·head refl), show-ext p q ms (λ a n. f a (List·Memᴰ·tail n)))
+
+  -- the same for tests that agree on what waits
+  pub show-agree : (p q : A → Bool) (ms : List (Marked A)) → ((m : Marked A) → List·Memᴰ m ms → m .shown ≡ false → p (m .entry) ≡ q (m .entry)) → show p ms ≡ show q ms
+  unfolding show
+  show-agree p q [] f = refl
+  show-agree p q (m ∷ ms) f = rw (go (m .shown) (f m (List·Memᴰ·head refl)), show-agree p q ms (λ o n. f o (List·Memᴰ·tail n)))
+    where
+      go : (t : Bool) → (t ≡ false → p (m .entry) ≡ q (m .entry)) → (t || p (m .entry)) ≡ (t || q (m .entry))
+      go true h = refl
+      go false h = h refl
+
+  -- one by one: what passes for some of the entries ds, and then for c
+  pub show-one : {B : Type 0} (q : B → A → Bool) (ds : List B) (c : B) (ms : List (Marked A))
+      → show (q c) (show (λ a. any (λ d. q d a) ds) ms) ≡ show (λ a. any (λ d. q d a) (ds ++ (c ∷ []))) ms
+  show-one {B = B} q ds c ms =
+      show-both (λ a. any (λ d. q d a) ds) (q c) ms ∙ show-ext (λ a. any (λ d. q d a) ds || q c a) (λ a. any (λ d. q d a) (ds ++ (c ∷ []))) ms (λ a n. sym (snoc (λ d. q d a) ds c))
+
+  -- what passes is in view already
+  pub show-idle : (p : A → Bool) (ms : List (Marked A)) → ((m : Marked A) → List·Memᴰ m ms → p (m .entry) ≡ true → m .shown ≡ true) → show p ms ≡ ms
+  unfolding show
+  show-idle p [] f = refl
+  show-idle p (m ∷ ms) f = rw (go (m .shown) (p (m .entry)) (f m (List·Memᴰ·head refl)), show-idle p ms (λ o n. f o (List·Memᴰ·tail n)))
+    where
+      go : (s t : Bool) → (t ≡ true → s ≡ true) → (s || t) ≡ s
+      go true t h = refl
+      go false true h = sym (h refl)
+      go false false h = refl
+
+  pub drop-show : (p : A → Bool) (i : ℕ) (ms : List (Marked A)) → drop i (show p ms) ≡ show p (drop i ms)
+  unfolding show
+  drop-show p zero ms = refl
+  drop-show p (suc i) [] = refl
+  drop-show p (suc i) (m ∷ ms) = drop-show p i ms
+
+  pub drop-entries : (i : ℕ) (ms : List (Marked A)) → entries (drop i ms) ≡ drop i (entries ms)
+  unfolding entries
+  drop-entries zero ms = refl
+  drop-entries (suc i) [] = refl
+  drop-entries (suc i) (m ∷ ms) = drop-entries i ms
+
+  pub all-show : (p : A → Bool) (ms : List (Marked A)) → showAll (show p ms) ≡ showAll ms
+  unfolding showAll
+  all-show p ms = show-both p (λ a. true) ms ∙ show-ext (λ a. p a || true) (λ a. true) ms (λ a n. or-true (p a))

@@ -1,0 +1,63 @@
+-- `show_ancestors` meets its contract. Assumes nothing.
+use borrow.Author.Needs.{needs}
+use native.Mathlib.Omega.{arith}
+use Prim.Native.Nat.{_≤_}
+use mathlib.Core.Path.{_≡_, refl, _∙_}
+use lib.ListN.{length}
+use Rattle.views.proofs.Pass.{Pass, pass-begin, pass-waits, pass-shows, pass-end}
+use Rattle.views.proofs.show_ancestors.Statement.{statement}
+use Rattle.views.proofs.show_ancestors.Tie as tie
+
+abbrev Inv-loop : tie.InvT-loop
+Inv-loop blocks₀ used i₀ blocks i = (i ≤ used) × (length blocks ≡ length blocks₀) × Pass blocks₀ used blocks i
+
+abbrev μ-loop : tie.MeasureT-loop
+μ-loop blocks₀ used i₀ blocks i = i
+
+loop-holds : tie.Need-loop-holds Inv-loop μ-loop
+loop-holds c = let s = c .before in (omega arith, refl, pass-begin _ _ (s .pre .0) (s .pre .1) (s .pre .2))
+
+show-block-requires : tie.Need-show-block-requires Inv-loop μ-loop
+show-block-requires c κs =
+    let l = c .before .before .before .before .before .loop in
+    (omega arith, l .inv .2 .marks, l .inv .2 .ordered)
+
+loop-again : tie.Need-loop-again Inv-loop μ-loop
+loop-again c =
+    let w = c .before .before in
+    let d = w .before .before in
+    let r = d .before in
+    let l = r .before .before .before in (
+      omega arith,
+      w .show-block .kept .0 ∙ l .loop .inv .1,
+      pass-shows _ _ _ (l .loop .i) _ (l .loop .inv .2) (omega arith) (omega arith) (r .block-at .ensures) (d .if1 .taken) (omega arith) (w .show-block .ensures),
+    )
+
+loop-again-2 : tie.Need-loop-again-2 Inv-loop μ-loop
+loop-again-2 c =
+    let r = c .before in
+    let l = r .before .before .before in (
+      omega arith,
+      l .loop .inv .1,
+      pass-waits _ _ _ (l .loop .i) _ (l .loop .inv .2) (omega arith) (omega arith) (r .block-at .ensures) (c .if1 .left),
+    )
+
+returns : tie.Need-returns Inv-loop μ-loop
+returns c = pass-end _ _ _ (c .before .loop .i) (omega arith) (c .before .loop .inv .2)
+
+pub show-ancestors-spec : {M : Type 1} → statement M
+show-ancestors-spec =
+    tie.close
+    (tie.spec
+    Inv-loop
+    μ-loop
+    loop-holds
+    (λ c. search needs)
+    (λ c κs. omega arith)
+    show-block-requires
+    (λ c. search needs)
+    loop-again
+    (λ c. search needs)
+    loop-again-2
+    (λ c. search needs)
+    returns)

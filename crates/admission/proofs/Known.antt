@@ -1,0 +1,118 @@
+-- A packet's entries added to a store: what is looked up in the result is looked up in the store, and then in the packet.
+-- Assumes nothing.
+use Prim.Native.Nat.{ℕ}
+use mathlib.Core.Bool.{Bool, true, false, _||_, cond}
+use mathlib.Core.List.{List, [], _∷_, _++_}
+use mathlib.Core.Path.{_≡_, refl, ap, sym, _∙_}
+use lib.Dec.{eqb}
+use borrow.Author.Tests.{eqb-true}
+use Rattle.protocol.specs.declared.Block.{Block}
+use Rattle.protocol.specs.declared.Vote.{Vote}
+use Rattle.protocol.specs.Lists.{any}
+use Rattle.protocol.specs.Chain.{Found, found, missing, find, foundWith}
+use Rattle.protocol.specs.Store.{sameVote}
+use Rattle.protocol.specs.Calls.Receive.{addBlock, addBlocks, addVote, addVotes}
+use Rattle.protocol.proofs.Store.Views.{vote-same}
+
+-- ---- blocks
+
+-- the first of two lookups that found something
+unfoldable pub orElse : Found → Found → Found
+orElse (found c) g = found c
+orElse missing g = g
+
+orElse-assoc : (f g h : Found) → orElse (orElse f g) h ≡ orElse f (orElse g h)
+unfolding orElse
+orElse-assoc (found c) g h = refl
+orElse-assoc missing g h = refl
+
+find-append : (bs cs : List Block) (x : ℕ) → find (bs ++ cs) x ≡ orElse (find bs x) (find cs x)
+unfolding find orElse
+find-append [] cs x = refl
+find-append (b ∷ bs) cs x = go (eqb (b .number) x) (find-append bs cs x)
+  where
+    go : (t : Bool) → find (bs ++ cs) x ≡ orElse (find bs x) (find cs x)
+        → cond t (found b) (find (bs ++ cs) x) ≡ orElse (cond t (found b) (find bs x)) (find cs x)
+    go true e = refl
+    go false e = e
+
+find-one : (bs : List Block) (b : Block) (x : ℕ) → find (addBlock bs b) x ≡ orElse (find bs x) (find (b ∷ []) x)
+unfolding addBlock foundWith find orElse
+find-one bs b x = go (find bs (b .number)) refl
+  where
+    old : (t : Bool) → eqb (b .number) x ≡ t → (c : Block) → find bs (b .number) ≡ found c → find bs x ≡ orElse (find bs x) (cond t (found b) missing)
+    old true q c e = rw (sym (ap (find bs) (eqb-true (b .number) x q)) ∙ e) refl
+    old false q c e = sym (no (find bs x))
+      where
+        no : (f : Found) → orElse f missing ≡ f
+        no (found d) = refl
+        no missing = refl
+
+    go : (f : Found) → find bs (b .number) ≡ f → find (cond (foundWith (λ c. true) (find bs (b .number))) bs (bs ++ (b ∷ []))) x ≡ orElse (find bs x) (find (b ∷ []) x)
+    go (found c) e = rw e (old (eqb (b .number) x) refl c e)
+    go missing e = rw e (find-append bs (b ∷ []) x)
+
+pub find-added : (bs cs : List Block) (x : ℕ) → find (addBlocks bs cs) x ≡ orElse (find bs x) (find cs x)
+unfolding addBlocks find orElse
+find-added bs [] x = none (find bs x)
+  where
+    none : (f : Found) → f ≡ orElse f missing
+    none (found c) = refl
+    none missing = refl
+find-added bs (c ∷ cs) x =
+    find-added (addBlock bs c) cs x ∙ ap (λ (f : Found). orElse f (find cs x)) (find-one bs c x)
+    ∙ orElse-assoc (find bs x) (find (c ∷ []) x) (find cs x) ∙ ap (orElse (find bs x)) (sym (find-append (c ∷ []) cs x))
+
+module _ (bs cs : List Block) (x : ℕ) where
+  pub added-hit : {c : Block} → find bs x ≡ found c → find (addBlocks bs cs) x ≡ found c
+  unfolding orElse
+  added-hit e = find-added bs cs x ∙ rw e refl
+
+  pub added-miss : find bs x ≡ missing → find (addBlocks bs cs) x ≡ find cs x
+  unfolding orElse
+  added-miss e = find-added bs cs x ∙ rw e refl
+
+-- one more block of the packet
+pub addBlocks-end : (bs cs : List Block) (c : Block) → addBlocks bs (cs ++ (c ∷ [])) ≡ addBlock (addBlocks bs cs) c
+unfolding addBlocks
+addBlocks-end bs [] c = refl
+addBlocks-end bs (d ∷ cs) c = addBlocks-end (addBlock bs d) cs c
+
+-- ---- votes
+
+any-append : {A : Type 0} (p : A → Bool) (xs ys : List A) → any p (xs ++ ys) ≡ (any p xs || any p ys)
+unfolding any
+any-append p [] ys = refl
+any-append p (x ∷ xs) ys = go (p x) (any-append p xs ys)
+  where
+    go : (t : Bool) → any p (xs ++ ys) ≡ (any p xs || any p ys) → (t || any p (xs ++ ys)) ≡ ((t || any p xs) || any p ys)
+    go true e = refl
+    go false e = e
+
+or-assoc : (a b c : Bool) → ((a || b) || c) ≡ (a || (b || c))
+or-assoc true b c = refl
+or-assoc false b c = refl
+
+or-none : (a : Bool) → (a || false) ≡ a
+or-none true = refl
+or-none false = refl
+
+any-one : (vs : List Vote) (b a : Vote) → any (sameVote a) (addVote vs b) ≡ (any (sameVote a) vs || any (sameVote a) (b ∷ []))
+unfolding addVote any
+any-one vs b a = go (any (sameVote b) vs) refl
+  where
+    old : (t : Bool) → sameVote a b ≡ t → any (sameVote b) vs ≡ true → any (sameVote a) vs ≡ (any (sameVote a) vs || (t || false))
+    old true q e = rw (ap (λ (c : Vote). any (sameVote c) vs) (vote-same a b q) ∙ e) refl
+    old false q e = sym (or-none (any (sameVote a) vs))
+
+    go : (t : Bool) → any (sameVote b) vs ≡ t → any (sameVote a) (cond t vs (vs ++ (b ∷ []))) ≡ (any (sameVote a) vs || (sameVote a b || false))
+    go true e = old (sameVote a b) refl e
+    go false e = any-append (sameVote a) vs (b ∷ [])
+
+pub any-added : (vs ws : List Vote) (a : Vote) → any (sameVote a) (addVotes vs ws) ≡ (any (sameVote a) vs || any (sameVote a) ws)
+unfolding addVotes any
+any-added vs [] a = sym (or-none (any (sameVote a) vs))
+any-added vs (b ∷ ws) a =
+    any-added (addVote vs b) ws a ∙ ap (λ (t : Bool). t || any (sameVote a) ws) (any-one vs b a)
+    ∙ or-assoc (any (sameVote a) vs) (any (sameVote a) (b ∷ [])) (any (sameVote a) ws)
+    ∙ ap (λ (t : Bool). any (sameVote a) vs || t) (sym (any-append (sameVote a) (b ∷ []) ws))

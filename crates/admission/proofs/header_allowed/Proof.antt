@@ -1,0 +1,86 @@
+-- `header_allowed` meets its contract. Assumes nothing.
+use borrow.Author.Needs.{needs}
+use native.Mathlib.Omega.{arith}
+use Prim.Native.Nat.{ℕ, _-_, _≤_}
+use mathlib.Core.Bool.{Bool, _&&_}
+use mathlib.Core.List.{List}
+use mathlib.Core.Path.{_≡_, sym, _∙_}
+use borrow.Author.Tests.{eq-eqb, ne-eqb}
+use lib.Dec.{eqb}
+use lib.ListN.{length, take, drop}
+use lib.Seq.{take-all}
+use Rattle.protocol.specs.declared.Block.{Block}
+use Rattle.protocol.specs.Lists.{any}
+use Rattle.protocol.specs.Chain.{genesis}
+use Rattle.protocol.specs.Packet.{packetOf}
+use Rattle.protocol.specs.Calls.Receive.{headerAllowed}
+use Rattle.packets.specs.declared.Header.{Header}
+use Rattle.packets.specs.Header.{headerOf}
+use Rattle.admission.proofs.Header.{header-kind, header-slot, header-number, header-blocks}
+use Rattle.admission.proofs.Entries.{any-hit, any-miss, any-end}
+use Rattle.admission.proofs.header_allowed.Statement.{statement}
+use Rattle.admission.proofs.header_allowed.Tie as tie
+
+abbrev isHeader : Header → Block → Bool
+isHeader h b = eqb (b .number) (h .number) && eqb (b .slot) (h .slot)
+
+abbrev Inv-loop : tie.InvT-loop
+Inv-loop bytes h count i₀ i =
+    (count ≤ length (packetOf bytes .blocks))
+    × (headerAllowed (packetOf bytes) ≡ any (isHeader h) (drop i (take count (packetOf bytes .blocks))))
+
+abbrev μ-loop : tie.MeasureT-loop
+μ-loop bytes h count i₀ i = count - i
+
+returns : tie.Need-returns Inv-loop μ-loop
+unfolding headerAllowed
+returns c = rw (eq-eqb _ _ (sym (header-kind _ (c .before .before .header-of .ensures)) ∙ c .if1 .taken))
+
+begin : (bs : List ℕ) (h : Header) → h ≡ headerOf bs → (h .kind ≡ 0 → ⊥) → headerAllowed (packetOf bs) ≡ any (isHeader h) (take (h .blocks) (packetOf bs .blocks))
+unfolding headerAllowed
+begin bs h e k =
+    let l : length (packetOf bs .blocks) ≤ h .blocks = omega (arith, header-blocks _ e) in
+    rw (← header-kind _ e, ne-eqb _ _ k, ← header-number _ e, ← header-slot _ e, take-all (h .blocks) (packetOf bs .blocks) l)
+
+loop-holds : tie.Need-loop-holds Inv-loop μ-loop
+loop-holds c =
+    let e = c .before .before .header-of .ensures in
+    (omega (arith, header-blocks _ e), begin _ _ e (c .if1 .left))
+
+returns-2 : tie.Need-returns-2 Inv-loop μ-loop
+returns-2 c =
+    let v = c .before .before in
+    let l = v .before .before .loop in
+    sym (l .inv .1
+    ∙ any-hit _ _ genesis _ (l .i) (l .inv .0) (v .before .loop-test .taken) (v .block-at .ensures) (sym (c .before .has-slot .ensures) ∙ c .if2 .taken))
+
+loop-again : tie.Need-loop-again Inv-loop μ-loop
+loop-again c =
+    let v = c .before .before in
+    let l = v .before .before .loop in (
+      l .inv .0,
+      l .inv .1
+          ∙ any-miss _ _ genesis _ (l .i) (l .inv .0) (v .before .loop-test .taken) (v .block-at .ensures) (sym (c .before .has-slot .ensures) ∙ c .if2 .left),
+    )
+
+returns-3 : tie.Need-returns-3 Inv-loop μ-loop
+returns-3 c =
+    let l = c .before .loop in
+    sym (l .inv .1 ∙ any-end _ _ genesis _ (l .i) (l .inv .0) (c .loop-test .left))
+
+pub header-allowed-spec : {M : Type 1} → statement M
+header-allowed-spec =
+    tie.close
+    (tie.spec
+    Inv-loop
+    μ-loop
+    (λ c κs. search needs)
+    returns
+    loop-holds
+    (λ c κs. search needs)
+    (λ c κs. search needs)
+    returns-2
+    (λ c. search needs)
+    (λ c. search needs)
+    loop-again
+    returns-3)

@@ -1,0 +1,32 @@
+-- The last block in view, after one row more. Assumes nothing.
+use Prim.Native.Nat.{ℕ, _+_, _≤_}
+use mathlib.Core.Path.{_≡_, refl, sym, ap, _∙_}
+use mathlib.Core.Bool.{Bool, true, false, cond}
+use mathlib.Core.List.{List, [], _∷_, _++_, append-nil}
+use native.Mathlib.Nat.{le-refl}
+use native.Mathlib.Omega.{arith}
+use Rattle.protocol.specs.declared.Block.{Block}
+use Rattle.protocol.specs.Store.{Marked, inView}
+use Rattle.protocol.specs.Lent.{rowsOf, makeBlock}
+use Rattle.protocol.specs.Calls.Write.{lastBlock}
+use Rattle.protocol.proofs.Store.Views.{view-append}
+use Rattle.protocol.proofs.Calls.Write.{last-end}
+use Rattle.rows.specs.Rows.{rowAt}
+use Rattle.rows.proofs.Rows.{take-rowsOf, rows-front}
+
+last-more : (xs : List Block) (b : Block) (shown : Bool) → lastBlock (xs ++ cond shown (b ∷ []) []) ≡ cond shown b (lastBlock xs)
+last-more xs b true = last-end xs b
+last-more xs b false = ap lastBlock (append-nil xs)
+
+-- where row i was read as m
+pub last-turn : (ws : List ℕ) (i : ℕ) {m : Marked Block} → m ≡ rowAt makeBlock ws i
+    → lastBlock (inView (rowsOf makeBlock ws (i + 1))) ≡ cond (m .shown) (m .entry) (lastBlock (inView (rowsOf makeBlock ws i)))
+unfolding inView
+last-turn ws i {m} e =
+    let r : rowsOf makeBlock ws (i + 1) ≡ rowsOf makeBlock ws i ++ (m ∷ []) =
+    sym (rows-front makeBlock ws (i + 1) (i + 1) (le-refl (i + 1)))
+    ∙ take-rowsOf makeBlock ws (i + 1) i (omega arith)
+    ∙ rw (rows-front makeBlock ws (i + 1) i (omega arith), e)
+    in
+    ap (λ ms. lastBlock (inView ms)) r ∙ ap lastBlock (view-append (rowsOf makeBlock ws i) (m ∷ []))
+    ∙ last-more (inView (rowsOf makeBlock ws i)) (m .entry) (m .shown)

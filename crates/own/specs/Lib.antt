@@ -1,0 +1,1 @@
+-- What a node did itself needs no definitions of its own. Assumes nothing.

@@ -1,0 +1,100 @@
+// What a node itself may do and did: whether it is joined, proposes, has voted, has proposed.
+// Each takes a look through one table at most.
+use protocol::Block;
+use protocol::Clock;
+use protocol::Settings;
+use protocol::Vote;
+ghost use mathlib.Core.Bool.{_&&_};
+ghost use mathlib.Core.List.{[]};
+ghost use mathlib.Core.Path.{_≡_};
+ghost use Prim.Native.Nat.{_+_, _*_, _/_, _%_, _≤_, _<_};
+ghost use lib.Dec.{eqb};
+ghost use lib.ListN.{length};
+ghost use Rattle.protocol.specs.Lists.{any};
+ghost use Rattle.protocol.specs.Store.{entries, inView};
+ghost use Rattle.protocol.specs.Lent.{rowsOf, makeBlock, makeVote};
+ghost use Rattle.protocol.specs.Calls.Write.{lastBlock, proposedNow};
+
+// Whether the node is joined for the beat's slot: the slot before it was the last one merged.
+pub fn joined(clock: Clock, beat: u64) -> bool
+    ensures { λ r. ⌜ r ≡ eqb (clock .merged + 1) (beat / 3) ⌝ }
+{
+    let slot = beat / 3;
+    if slot == 0 {
+        return false;
+    }
+    clock.merged == slot - 1
+}
+
+// Whether the node is the proposer of the beat's slot.
+pub fn is_proposer(settings: Settings, beat: u64) -> bool
+    requires { ⌜ 0 < settings .nodes ⌝ }
+    ensures { λ r. ⌜ r ≡ eqb (beat / 3 % settings .nodes) (settings .own) ⌝ }
+{
+    beat / 3 % settings.nodes == settings.own
+}
+
+fn is_vote_of(vote: Vote, voter: u64, slot: u64) -> bool
+    ensures { λ r. ⌜ r ≡ (eqb (vote .voter) voter && eqb (vote .slot) slot) ⌝ }
+{
+    if vote.voter == voter {
+        return vote.slot == slot;
+    }
+    false
+}
+
+// Whether a vote of this voter for this slot is known.
+pub fn has_voted(votes: &[u64], used: usize, voter: u64, slot: u64) -> bool
+    requires { ⌜ 4 * used ≤ length (now votes) ⌝ }
+    ensures { λ r. ⌜ r ≡ any (λ a. eqb (a .voter) voter && eqb (a .slot) slot) (entries (rowsOf makeVote (now (votes .entry)) used)) ⌝ }
+{
+    let mut i: usize = 0;
+    while i < used {
+        let row = rows::vote_at(votes, i);
+        if is_vote_of(row.vote, voter, slot) {
+            return true;
+        }
+        i += 1;
+    }
+    false
+}
+
+// The last block in view.
+pub fn last_in_view(blocks: &[u64], used: usize) -> Block
+    requires { ⌜ 4 * used ≤ length (now blocks) ⌝ }
+    ensures { λ r. ⌜ r ≡ lastBlock (inView (rowsOf makeBlock (now (blocks .entry)) used)) ⌝ }
+{
+    let mut last = Block {
+        number: 0,
+        parent: 0,
+        slot: 0,
+    };
+    let mut i: usize = 0;
+    while i < used {
+        let row = rows::block_at(blocks, i);
+        if row.shown {
+            last = row.block;
+        }
+        i += 1;
+    }
+    last
+}
+
+// Whether the beat seen is phase 0 of a slot that this node proposed.
+// The rule asks nothing of the votes.
+pub fn proposed_now(settings: Settings, clock: Clock, blocks: &[u64], used: usize) -> bool
+    requires { ⌜ (4 * used ≤ length (now blocks)) × (0 < settings .nodes) ⌝ }
+    ensures { λ r. ⌜ r ≡ proposedNow settings (record { blocks = rowsOf makeBlock (now (blocks .entry)) used; votes = []; clock = clock }) ⌝ }
+{
+    if clock.seen % 3 != 0 {
+        return false;
+    }
+    if clock.done != clock.seen {
+        return false;
+    }
+    if !is_proposer(settings, clock.seen) {
+        return false;
+    }
+    let last = last_in_view(blocks, used);
+    last.slot == clock.seen / 3
+}

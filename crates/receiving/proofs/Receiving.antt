@@ -1,0 +1,136 @@
+-- The tables after Receive: entries added, and shown if the packet is brought into view. Assumes nothing.
+use Prim.Native.Nat.{ℕ, _≤_}
+use mathlib.Core.Bool.{Bool, true, false}
+use mathlib.Core.List.{List, _++_}
+use mathlib.Core.Path.{_≡_, refl, ap, sym, _∙_}
+use native.Mathlib.Omega.{arith}
+use lib.ListN.{length, drop}
+use lib.Seq.{drop-at}
+use Rattle.protocol.specs.declared.Block.{Block}
+use Rattle.protocol.specs.declared.Vote.{Vote}
+use Rattle.protocol.specs.Lists.{any, all}
+use Rattle.protocol.specs.Chain.{known}
+use Rattle.protocol.specs.Store.{Marked, entries, inView, allWaiting, show, sameVote}
+use Rattle.protocol.specs.Packet.{Packet}
+use Rattle.protocol.specs.Lent.{Make, rowsOf, stored, makeBlock, blockRow, marksSound}
+use Rattle.protocol.specs.Calls.Receive.{addBlocks, addVotes, blocksAfter, votesAfter, blocksAllowed, voteAllowed, headerAllowed, packetAllowed, stoodOn, receiveInto}
+use Rattle.protocol.proofs.Basics.Tests.{and-left, and-right}
+use Rattle.protocol.proofs.Store.Growth.{Added, added-blocks, table-grow}
+use Rattle.protocol.proofs.Store.New as added
+use Rattle.protocol.proofs.Store.New.{newBlocksOf}
+use Rattle.protocol.proofs.Store.Sound.{vote-true}
+use Rattle.protocol.proofs.Store.Follow.{found-known}
+use Rattle.protocol.proofs.Store.Tables.{Table, Closed, table-true, table-holds, table-sound}
+use Rattle.protocol.proofs.Basics.Members.{all-true, all-holds}
+use Rattle.protocol.proofs.Store.Views.{entries-waiting, length-entries, length-show, show-none, grown-none}
+use Rattle.rows.proofs.Stored.{Codec, block-codec, rows-stored, marks-stored, stored-longer}
+use Rattle.admission.specs.Lookup.{onlyBlocks}
+use Rattle.storing.specs.Grown.{grown, Holds}
+use Rattle.storing.proofs.Adding.{hasBlock, blocks-added, entries-grown}
+use Rattle.receiving.specs.Accepted.{Carried, Accepted, onlyVotes}
+
+-- ---- an accepted packet is carried by the table that it was added to
+
+module _ (ms : List (Marked Block)) (p : Packet) (K : Accepted ms p) where
+  abbrev later : ℕ
+  later = K .later
+
+  abbrev new : List (Marked Block)
+  new = grown addBlocks ms (p .blocks)
+
+  old : Table (K .slot) ms × Closed (inView ms)
+  old = table-true (K .slot) ms (K .sound)
+
+  blocks-ok : blocksAllowed later (entries ms) (p .blocks) ≡ true
+  unfolding packetAllowed
+  blocks-ok = and-left (blocksAllowed later (entries ms) (p .blocks)) _ (K .allowed)
+
+  votes-ok : all (voteAllowed (K .nodes) later (addBlocks (entries ms) (p .blocks))) (p .votes) ≡ true
+  unfolding packetAllowed blocksAfter
+  votes-ok =
+      and-left (all (voteAllowed (K .nodes) later (addBlocks (entries ms) (p .blocks))) (p .votes)) (headerAllowed p)
+      (and-right (blocksAllowed later (entries ms) (p .blocks)) _ (K .allowed))
+
+  A : Added later (entries ms) (p .blocks)
+  A = added-blocks later (entries ms) (p .blocks) (table-sound (old .0)) blocks-ok
+
+  abbrev extra : List Block
+  extra = newBlocksOf (entries ms) (p .blocks)
+
+  new-is : new ≡ ms ++ allWaiting extra
+  unfolding grown
+  new-is =
+      ap (λ (l : List Block). ms ++ allWaiting l)
+      (ap (λ (l : List Block). drop (length ms) l) (added.blocks-added (entries ms) (p .blocks)) ∙ drop-at (entries ms) extra (length ms) (length-entries ms))
+
+  entries-new : entries new ≡ addBlocks (entries ms) (p .blocks)
+  entries-new = entries-grown hasBlock addBlocks blocks-added ms (p .blocks)
+
+  view-new : inView new ≡ inView ms
+  view-new =
+      ap inView (new-is ∙ sym (show-none (λ b. false) (λ b. refl) (ms ++ allWaiting extra))) ∙ grown-none (λ b. false) ms extra (λ b. refl)
+
+  table-new : Table later new
+  table-new =
+      rw (new-is ∙ ap (λ (l : List (Marked Block)). l ++ allWaiting extra) (sym (show-none (λ b. false) (λ b. refl) ms)))
+      (table-grow (K .slot) later (K .order) (λ b. false) ms (allWaiting extra) (old .0) (rw (entries-waiting extra) (A .follow)))
+
+  pub accepted-carried : Carried new p
+  accepted-carried = record {
+    slot = later;
+    sound = table-holds later new table-new (rw view-new (old .1));
+    blocks = rw entries-new (all-holds (λ c. known (addBlocks (entries ms) (p .blocks)) (c .number)) (p .blocks)
+        (λ c m. found-known (addBlocks (entries ms) (p .blocks)) (c .number) (c, A .has c m, refl)));
+    votes = rw entries-new (all-holds (λ a. known (addBlocks (entries ms) (p .blocks)) (a .number)) (p .votes)
+        (λ a m. let o = vote-true (K .nodes) later (addBlocks (entries ms) (p .blocks)) a (all-true (voteAllowed (K .nodes) later (addBlocks (entries ms) (p .blocks))) votes-ok a m) .on in
+        found-known (addBlocks (entries ms) (p .blocks)) (a .number) (o .0, o .1, o .2)));
+  }
+
+-- ---- what Receive leaves
+
+module _ (ms : List (Marked Block)) (p : Packet) where
+  pub blocks-kept : receiveInto false 0 (onlyBlocks ms) p .blocks ≡ grown addBlocks ms (p .blocks)
+  unfolding receiveInto blocksAfter grown
+  blocks-kept = show-none (λ b. false) (λ b. refl) (ms ++ allWaiting (drop (length ms) (addBlocks (entries ms) (p .blocks))))
+
+  blocks-brought : receiveInto true 0 (onlyBlocks ms) p .blocks
+      ≡ show (λ b. stoodOn (entries (grown addBlocks ms (p .blocks))) p b) (grown addBlocks ms (p .blocks))
+  blocks-brought =
+      unfold receiveInto blocksAfter grown in (
+      ap (λ (bs : List Block). show (λ b. stoodOn bs p b) (grown addBlocks ms (p .blocks))) (sym (entries-grown hasBlock addBlocks blocks-added ms (p .blocks))))
+
+module _ (ms : List (Marked Vote)) (p : Packet) where
+  pub votes-kept : receiveInto false 0 (onlyVotes ms) p .votes ≡ grown addVotes ms (p .votes)
+  unfolding receiveInto votesAfter grown
+  votes-kept = show-none (λ a. false) (λ a. refl) (ms ++ allWaiting (drop (length ms) (addVotes (entries ms) (p .votes))))
+
+  pub votes-brought : receiveInto true 0 (onlyVotes ms) p .votes ≡ show (λ a. any (sameVote a) (p .votes)) (grown addVotes ms (p .votes))
+  unfolding receiveInto votesAfter grown
+  votes-brought = refl
+
+-- ---- rows shown over rows that were added
+
+module _ {A : Type 0} {make : Make (Marked A)} {row : Marked A → List ℕ} (codec : Codec (Marked A) make row)
+    (rs : List (Marked A)) (ws₀ : List ℕ) {ws : List ℕ} {u : ℕ} (h : Holds (Marked A) row rs ws₀ ws u) where
+  pub rows-held : rowsOf make ws u ≡ rs
+  rows-held = ap (λ (w : List ℕ). rowsOf make w u) (h .words) ∙ rows-stored codec rs ws₀ u (sym (h .used))
+
+  pub marks-held : marksSound ws u ≡ true
+  marks-held = ap (λ (w : List ℕ). marksSound w u) (h .words) ∙ marks-stored codec rs ws₀ u (sym (h .used))
+
+  pub shown-held : (q : A → Bool) {ws′ : List ℕ} → ws′ ≡ stored row (show q (rowsOf make ws u)) ws → Holds (Marked A) row (show q rs) ws₀ ws′ u
+  shown-held q e =
+      let l : length rs ≤ length (show q rs) = omega (arith, length-show q rs) in
+      record {
+        words = e ∙ ap (λ (r : List (Marked A)). stored row (show q r) ws) rows-held ∙ ap (stored row (show q rs)) (h .words) ∙ stored-longer codec (show q rs) rs ws₀ l;
+        used = h .used ∙ sym (length-show q rs);
+      }
+
+pub blocks-shown : (ms : List (Marked Block)) (p : Packet) (ws₀ : List ℕ) {ws ws′ : List ℕ} {u : ℕ} → Holds (Marked Block) blockRow (grown addBlocks ms (p .blocks)) ws₀ ws u
+    → ws′ ≡ stored blockRow (show (λ b. stoodOn (entries (rowsOf makeBlock ws u)) p b) (rowsOf makeBlock ws u)) ws
+    → Holds (Marked Block) blockRow (receiveInto true 0 (onlyBlocks ms) p .blocks) ws₀ ws′ u
+blocks-shown ms p ws₀ {ws} {ws′} {u} h e =
+    let new = grown addBlocks ms (p .blocks) in
+    rw (blocks-brought ms p)
+    (shown-held block-codec new ws₀ h (λ b. stoodOn (entries new) p b)
+    (e ∙ ap (λ (r : List (Marked Block)). stored blockRow (show (λ b. stoodOn (entries r) p b) (rowsOf makeBlock ws u)) ws) (rows-held block-codec new ws₀ h)))

@@ -1,0 +1,43 @@
+-- `receive_blocks` meets its contract. Assumes nothing.
+use borrow.Author.Needs.{needs}
+use native.Mathlib.Omega.{arith}
+use denote.Ref.{now}
+use Rattle.protocol.specs.Packet.{packetOf}
+use Rattle.protocol.specs.Lent.{rowsOf, makeBlock}
+use Rattle.protocol.specs.Calls.Receive.{addBlocks}
+use Rattle.rows.proofs.Stored.{block-codec}
+use Rattle.storing.proofs.Adding.{hasBlock, blocks-added, length-grown}
+use Rattle.receiving.proofs.Receiving.{accepted-carried, blocks-kept, blocks-shown, rows-held, marks-held}
+use Rattle.receiving.proofs.receive_blocks.Statement.{statement}
+use Rattle.receiving.proofs.receive_blocks.Tie as tie
+
+add-blocks-requires : tie.Need-add-blocks-requires
+add-blocks-requires c κs = let s = c .before .before .before .before in (s .pre .0, s .pre .1)
+
+show-stood-on-requires : tie.Need-show-stood-on-requires
+show-stood-on-requires c κs =
+    let a = c .before .before .before .before .before in
+    let s = a .before .before .before .before .before in (
+      omega (arith, a .add-blocks .kept .0, s .pre .0, a .add-blocks .ensures .used, length-grown hasBlock addBlocks blocks-added (rowsOf makeBlock (now (s .args .blocks)) (now (s .args .used))) (packetOf (now (s .args .bytes)) .blocks)),
+      marks-held block-codec _ _ (a .add-blocks .ensures),
+      rw (rows-held block-codec _ _ (a .add-blocks .ensures)) (accepted-carried _ _ (s .pre .2)),
+    )
+
+returns : tie.Need-returns
+returns c =
+    let w = c .before .before in
+    let t = w .before .before .before in
+    let a = t .before .before .before in
+    let s = a .before .before .before .before .before in
+    rw (t .if1 .taken)
+    (blocks-shown (rowsOf makeBlock (now (s .args .blocks)) (now (s .args .used))) _ _ (a .add-blocks .ensures) (w .show-stood-on .ensures))
+
+returns-2 : tie.Need-returns-2
+returns-2 c =
+    let a = c .before .before .before in
+    let s = a .before .before .before .before .before in
+    rw (c .if1 .left, blocks-kept (rowsOf makeBlock (now (s .args .blocks)) (now (s .args .used))) (packetOf (now (s .args .bytes)))) (a .add-blocks .ensures)
+
+pub receive-blocks-spec : {M : Type 1} → statement M
+receive-blocks-spec =
+    tie.close (tie.spec add-blocks-requires show-stood-on-requires (λ c. search needs) returns (λ c. search needs) returns-2)

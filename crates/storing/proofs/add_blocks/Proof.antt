@@ -1,0 +1,83 @@
+-- `add_blocks` meets its contract. Assumes nothing.
+use borrow.Author.Needs.{needs}
+use native.Mathlib.Omega.{arith}
+use Prim.Native.Nat.{_-_}
+use mathlib.Core.Path.{_≡_, refl, _∙_}
+use denote.Ref.{now}
+use lib.ListN.{length}
+use Rattle.protocol.specs.declared.Block.{Block}
+use Rattle.protocol.specs.Chain.{genesis}
+use Rattle.protocol.specs.Store.{Marked}
+use Rattle.protocol.specs.Packet.{packetOf}
+use Rattle.protocol.specs.Lent.{blockRow}
+use Rattle.protocol.specs.Calls.Receive.{addBlocks}
+use Rattle.rows.proofs.Stored.{block-codec}
+use Rattle.admission.proofs.Header.{header-blocks}
+use Rattle.storing.specs.Grown.{Holds}
+use Rattle.storing.proofs.Adding.{hasBlock, blocks-added}
+use Rattle.storing.proofs.Turns.{room-now, after, add-begin, add-room, add-marks, add-turn, add-end}
+use Rattle.storing.proofs.add_blocks.Statement.{statement}
+use Rattle.storing.proofs.add_blocks.Tie as tie
+
+abbrev Inv-loop : tie.InvT-loop
+Inv-loop blocks₀ used₀ bytes count i₀ blocks used i =
+    (count ≡ length (packetOf bytes .blocks))
+    × (length blocks ≡ length blocks₀)
+    × Holds (Marked Block) blockRow (after hasBlock addBlocks blocks-added block-codec blocks₀ used₀ (packetOf bytes .blocks) i) blocks₀ blocks used
+
+abbrev μ-loop : tie.MeasureT-loop
+μ-loop blocks₀ used₀ bytes count i₀ blocks used i = count - i
+
+loop-holds : tie.Need-loop-holds Inv-loop μ-loop
+loop-holds c =
+    let s = c .before .before .before in (
+      header-blocks _ (c .header-of .ensures),
+      refl,
+      add-begin hasBlock addBlocks blocks-added block-codec _ _ (packetOf (now (s .args .bytes)) .blocks)
+          (room-now hasBlock addBlocks blocks-added block-codec _ _ _ (s .pre .0)) (s .pre .1),
+    )
+
+add-block-requires : tie.Need-add-block-requires Inv-loop μ-loop
+add-block-requires c κs =
+    let v = c .before .before in
+    let l = v .before .before in
+    let s = l .before .before .before .before in (
+      add-room hasBlock addBlocks blocks-added block-codec _ _ (packetOf (now (s .args .bytes)) .blocks) (l .loop .i) (l .loop .inv .2) genesis
+          (omega (arith, l .loop .inv .0, v .before .loop-test .taken)) (v .block-at .ensures) (s .pre .0) (l .loop .inv .1),
+      add-marks hasBlock addBlocks blocks-added block-codec _ _ (packetOf (now (s .args .bytes)) .blocks) (l .loop .i) (l .loop .inv .2),
+    )
+
+loop-again : tie.Need-loop-again Inv-loop μ-loop
+loop-again c =
+    let a = c .before .before in
+    let v = a .before .before .before in
+    let l = v .before .before in
+    let s = l .before .before .before .before in (
+      l .loop .inv .0,
+      a .add-block .kept .0 ∙ l .loop .inv .1,
+      add-turn hasBlock addBlocks blocks-added block-codec _ _ (packetOf (now (s .args .bytes)) .blocks) (l .loop .i) (l .loop .inv .2) genesis
+          (omega (arith, l .loop .inv .0, v .before .loop-test .taken)) (v .block-at .ensures) (a .add-block .ensures),
+    )
+
+returns : tie.Need-returns Inv-loop μ-loop
+returns c =
+    let l = c .before in
+    let s = l .before .before .before .before in
+    add-end hasBlock addBlocks blocks-added block-codec _ _ (packetOf (now (s .args .bytes)) .blocks) (l .loop .i) (l .loop .inv .2)
+    (omega (arith, l .loop .inv .0, c .loop-test .left))
+
+pub add-blocks-spec : {M : Type 1} → statement M
+add-blocks-spec =
+    tie.close
+    (tie.spec
+    Inv-loop
+    μ-loop
+    (λ c κs. search needs)
+    loop-holds
+    (λ c κs. search needs)
+    add-block-requires
+    (λ c. search needs)
+    (λ c. search needs)
+    loop-again
+    (λ c. search needs)
+    returns)

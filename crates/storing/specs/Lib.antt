@@ -1,0 +1,2 @@
+-- What tables hold after a packet was added. Assumes nothing.
+pub mod Grown

@@ -1,0 +1,52 @@
+-- Write's tests by what code computes: the bytes need no clock, and the proposer no votes. Assumes nothing.
+use Prim.Native.Nat.{ℕ, _<_, _≤_}
+use mathlib.Core.Path.{_≡_, refl, sym, ap, _∙_}
+use mathlib.Core.Logic.{_⊎_, ⊎-elim}
+use mathlib.Core.Bool.{Bool, true, false, not, _&&_}
+use mathlib.Core.List.{List, [], _∷_}
+use native.Mathlib.Omega.{arith}
+use lib.Dec.{ltb}
+use lib.ListN.{length, drop}
+use borrow.Author.Tests.{lt-ltb, le-ltb}
+use Rattle.protocol.specs.declared.Settings.{Settings}
+use Rattle.protocol.specs.Refusal.{test, pass, refuse, first}
+use Rattle.protocol.specs.Calls.Write.{gossipOf, proposalOf, proposedNow, packetOut, writeTests}
+use Rattle.protocol.specs.Lent.{Lent, rowsOf, makeBlock, nodeOf, lentSound}
+use Rattle.writer.specs.Sent.{nodeIn, Readable}
+use Rattle.verdicts.specs.Lent.{lentVerdict}
+use Rattle.verdicts.proofs.Passed.{Ready}
+use Rattle.verdicts.proofs.Sequence.{sound-pass}
+
+pub readable : (s : Settings) (m : Lent) → Ready s m → Readable (m .blocks) (m .blocksUsed) (m .votes) (m .votesUsed)
+readable s m R = record {
+  blockRows = R .block-rows;
+  voteRows = R .vote-rows;
+  blockCount = omega (arith, R .few-blocks);
+  voteCount = omega (arith, R .few-votes);
+  first = R .first-mark;
+}
+
+-- what code knows: the memory is sound, and its answers u and n
+module _ (s : Settings) (m : Lent) (proposal : Bool) (buffer : List ℕ) {t : Bool} (by : t ≡ lentSound s m) (is : t ≡ true) where
+  -- of the clock and the blocks alone
+  abbrev pub Proposer : Bool
+  Proposer = proposedNow s (record { blocks = rowsOf makeBlock (m .blocks) (m .blocksUsed); votes = []; clock = m .clock })
+
+  rest : lentVerdict s (λ p x. writeTests s p x proposal buffer) m
+      ≡ first (test 19 (proposal && not Proposer) ∷ test 18 (ltb (length buffer) (length (packetOut proposal (nodeIn (m .blocks) (m .blocksUsed) (m .votes) (m .votesUsed))))) ∷ [])
+  unfolding writeTests proposedNow packetOut gossipOf proposalOf nodeIn nodeOf
+  rest = sound-pass s (λ p x. drop 1 (writeTests s p x proposal buffer)) m by is
+
+  pub no-proposal : {u : Bool} → proposal ≡ true → u ≡ Proposer → u ≡ false → refuse 19 ≡ lentVerdict s (λ p x. writeTests s p x proposal buffer) m
+  no-proposal q r e = sym (rest ∙ unfold first in (rw (q, sym r ∙ e)))
+
+  -- a proposal is wanted of the proposer, or gossip
+  module _ (may : ((proposal ≡ true) × (Proposer ≡ true)) ⊎ (proposal ≡ false)) {n : ℕ} (size : n ≡ length (packetOut proposal (nodeIn (m .blocks) (m .blocksUsed) (m .votes) (m .votesUsed)))) where
+    allowed : (proposal && not Proposer) ≡ false
+    allowed = ⊎-elim (λ w. rw (w .0, w .1)) (λ w. rw w) may
+
+    pub short : length buffer < n → refuse 18 ≡ lentVerdict s (λ p x. writeTests s p x proposal buffer) m
+    short h = sym (rest ∙ unfold first in (rw (allowed, sym size, lt-ltb (length buffer) n h)))
+
+    pub enough : n ≤ length buffer → pass ≡ lentVerdict s (λ p x. writeTests s p x proposal buffer) m
+    enough h = sym (rest ∙ unfold first in (rw (allowed, sym size, le-ltb (length buffer) n h)))

@@ -1,0 +1,3 @@
+-- The verdict of a call on lent memory, and the paper's number of every refusal. Assumes nothing.
+pub mod Verdict
+pub mod Lent

@@ -1,0 +1,335 @@
+// The verdict of each call: its tests in document 01's order, for any memory that a caller may lend. Nothing is changed here.
+// The first test, whether the memory is sound, goes over all pairs of entries. Receive looks each entry of the packet up; the other
+// tests look through one table at most.
+use protocol::Clock;
+use protocol::Settings;
+ghost use mathlib.Core.Path.{_≡_};
+ghost use Rattle.protocol.specs.Refusal.{first};
+ghost use Rattle.protocol.specs.Lent.{placesIn};
+ghost use Rattle.protocol.specs.Calls.Open.{openTests};
+ghost use Rattle.protocol.specs.Calls.Receive.{receiveTests};
+ghost use Rattle.protocol.specs.Calls.Propose.{proposeTests};
+ghost use Rattle.protocol.specs.Calls.Vote.{voteTests};
+ghost use Rattle.protocol.specs.Calls.Merge.{mergeTests};
+ghost use Rattle.protocol.specs.Calls.Query.{queryTests};
+ghost use Rattle.protocol.specs.Calls.Write.{writeTests};
+ghost use Rattle.verdicts.specs.Verdict.{verdictOf};
+ghost use Rattle.verdicts.specs.Lent.{lent, lentVerdict, beatTests, dueTests};
+
+// Why a call is refused, in the order of document 01's numbers 1 to 19.
+pub enum Refusal {
+    // the settings are out of range, or a table's length
+    Nodes,
+    Own,
+    Expiry,
+    Depth,
+    Length,
+    // the tables are not sound
+    Unsound,
+    // the beat is below the one seen, or its slot above the limit
+    Beat,
+    // a packet's length, kind or zero fields
+    Form,
+    // an entry of a packet breaks a rule
+    Entry,
+    // too few free places
+    Places,
+    // another phase
+    Phase,
+    // the beat is done already
+    Done,
+    // not joined for the slot
+    Joined,
+    // the slot is another's
+    Proposer,
+    // the new number is known
+    Number,
+    // an own vote for the slot is known
+    Voted,
+    // a question about slot 0, or a slot above the one seen
+    Slot,
+    // the buffer is too short
+    Buffer,
+    // nothing was proposed at the beat seen
+    Proposal,
+}
+
+pub enum Verdict {
+    Pass,
+    Refuse(Refusal),
+}
+
+// Open looks at the settings and the lengths of the tables alone.
+pub fn open_verdict(settings: Settings, blocks: &[u64], votes: &[u64]) -> Verdict
+    ensures { λ r. ⌜ verdictOf r ≡ first (openTests settings (record { blocks = placesIn (now (blocks .entry)); votes = placesIn (now (votes .entry)) })) ⌝ }
+{
+    if !ranges::within(1, 64, settings.nodes) {
+        return Verdict::Refuse(Refusal::Nodes);
+    }
+    if settings.own >= settings.nodes {
+        return Verdict::Refuse(Refusal::Own);
+    }
+    if !ranges::within(1, 4096, settings.expiry) {
+        return Verdict::Refuse(Refusal::Expiry);
+    }
+    if !ranges::within(1, 4096, settings.depth) {
+        return Verdict::Refuse(Refusal::Depth);
+    }
+    if !ranges::places_sound(blocks, votes) {
+        return Verdict::Refuse(Refusal::Length);
+    }
+    Verdict::Pass
+}
+
+// ---- what several calls begin with
+
+// Sound memory, and a beat that is not below the one seen, of a slot within the limit.
+fn beat_verdict(
+    settings: Settings,
+    clock: Clock,
+    blocks: &[u64],
+    blocks_used: usize,
+    votes: &[u64],
+    votes_used: usize,
+    beat: u64,
+) -> Verdict
+    ensures { λ r. ⌜ verdictOf r ≡ lentVerdict settings (beatTests settings beat) (lent (now (blocks .entry)) (now (votes .entry)) «blocks_used» «votes_used» clock) ⌝ }
+{
+    if !soundness::lent_sound(settings, clock, blocks, blocks_used, votes, votes_used) {
+        return Verdict::Refuse(Refusal::Unsound);
+    }
+    if beat < clock.seen {
+        return Verdict::Refuse(Refusal::Beat);
+    }
+    if beat / 3 > 1000000000 {
+        return Verdict::Refuse(Refusal::Beat);
+    }
+    Verdict::Pass
+}
+
+// And a beat of this phase that is not done.
+fn due_verdict(
+    settings: Settings,
+    clock: Clock,
+    blocks: &[u64],
+    blocks_used: usize,
+    votes: &[u64],
+    votes_used: usize,
+    phase: u64,
+    beat: u64,
+) -> Verdict
+    ensures { λ r. ⌜ verdictOf r ≡ lentVerdict settings (dueTests settings phase beat) (lent (now (blocks .entry)) (now (votes .entry)) «blocks_used» «votes_used» clock) ⌝ }
+{
+    let begun = beat_verdict(
+        settings,
+        clock,
+        blocks,
+        blocks_used,
+        votes,
+        votes_used,
+        beat,
+    );
+    if let Verdict::Refuse(_) = begun {
+        return begun;
+    }
+    if beat % 3 != phase {
+        return Verdict::Refuse(Refusal::Phase);
+    }
+    if beat <= clock.done {
+        return Verdict::Refuse(Refusal::Done);
+    }
+    Verdict::Pass
+}
+
+// ---- the calls
+
+pub fn receive_verdict(
+    settings: Settings,
+    clock: Clock,
+    blocks: &[u64],
+    blocks_used: usize,
+    votes: &[u64],
+    votes_used: usize,
+    beat: u64,
+    bytes: &[u8],
+) -> Verdict
+    ensures { λ r. ⌜ verdictOf r ≡ lentVerdict settings (λ p x. receiveTests settings p x beat (now (bytes .entry))) (lent (now (blocks .entry)) (now (votes .entry)) «blocks_used» «votes_used» clock) ⌝ }
+{
+    let begun = beat_verdict(
+        settings,
+        clock,
+        blocks,
+        blocks_used,
+        votes,
+        votes_used,
+        beat,
+    );
+    if let Verdict::Refuse(_) = begun {
+        return begun;
+    }
+    if !packets::well_formed(bytes) {
+        return Verdict::Refuse(Refusal::Form);
+    }
+    if !admission::packet_allowed(settings.nodes, beat / 3, blocks, blocks_used, bytes) {
+        return Verdict::Refuse(Refusal::Entry);
+    }
+    if ranges::places_in(blocks) - blocks_used < storing::new_blocks(blocks, blocks_used, bytes) {
+        return Verdict::Refuse(Refusal::Places);
+    }
+    if ranges::places_in(votes) - votes_used < storing::new_votes(votes, votes_used, bytes) {
+        return Verdict::Refuse(Refusal::Places);
+    }
+    Verdict::Pass
+}
+
+pub fn propose_verdict(
+    settings: Settings,
+    clock: Clock,
+    blocks: &[u64],
+    blocks_used: usize,
+    votes: &[u64],
+    votes_used: usize,
+    beat: u64,
+    number: u64,
+) -> Verdict
+    ensures { λ r. ⌜ verdictOf r ≡ lentVerdict settings (λ p x. proposeTests settings p x beat number) (lent (now (blocks .entry)) (now (votes .entry)) «blocks_used» «votes_used» clock) ⌝ }
+{
+    let due = due_verdict(
+        settings,
+        clock,
+        blocks,
+        blocks_used,
+        votes,
+        votes_used,
+        0,
+        beat,
+    );
+    if let Verdict::Refuse(_) = due {
+        return due;
+    }
+    let joined = own::joined(clock, beat);
+    let proposer = own::is_proposer(settings, beat);
+    if !joined {
+        return Verdict::Refuse(Refusal::Joined);
+    }
+    if !proposer {
+        return Verdict::Refuse(Refusal::Proposer);
+    }
+    if soundness::known_block(blocks, blocks_used, number) {
+        return Verdict::Refuse(Refusal::Number);
+    }
+    if ranges::places_in(blocks) <= blocks_used {
+        return Verdict::Refuse(Refusal::Places);
+    }
+    Verdict::Pass
+}
+
+pub fn vote_verdict(
+    settings: Settings,
+    clock: Clock,
+    blocks: &[u64],
+    blocks_used: usize,
+    votes: &[u64],
+    votes_used: usize,
+    beat: u64,
+) -> Verdict
+    ensures { λ r. ⌜ verdictOf r ≡ lentVerdict settings (λ p x. voteTests settings p x beat) (lent (now (blocks .entry)) (now (votes .entry)) «blocks_used» «votes_used» clock) ⌝ }
+{
+    let due = due_verdict(
+        settings,
+        clock,
+        blocks,
+        blocks_used,
+        votes,
+        votes_used,
+        1,
+        beat,
+    );
+    if let Verdict::Refuse(_) = due {
+        return due;
+    }
+    if !own::joined(clock, beat) {
+        return Verdict::Refuse(Refusal::Joined);
+    }
+    if own::has_voted(votes, votes_used, settings.own, beat / 3) {
+        return Verdict::Refuse(Refusal::Voted);
+    }
+    if ranges::places_in(votes) <= votes_used {
+        return Verdict::Refuse(Refusal::Places);
+    }
+    Verdict::Pass
+}
+
+pub fn merge_verdict(
+    settings: Settings,
+    clock: Clock,
+    blocks: &[u64],
+    blocks_used: usize,
+    votes: &[u64],
+    votes_used: usize,
+    beat: u64,
+) -> Verdict
+    ensures { λ r. ⌜ verdictOf r ≡ lentVerdict settings (λ p x. mergeTests settings p x beat) (lent (now (blocks .entry)) (now (votes .entry)) «blocks_used» «votes_used» clock) ⌝ }
+{
+    due_verdict(
+        settings,
+        clock,
+        blocks,
+        blocks_used,
+        votes,
+        votes_used,
+        2,
+        beat,
+    )
+}
+
+// Head, Deep and Fast.
+pub fn query_verdict(
+    settings: Settings,
+    clock: Clock,
+    blocks: &[u64],
+    blocks_used: usize,
+    votes: &[u64],
+    votes_used: usize,
+    slot: u64,
+) -> Verdict
+    ensures { λ r. ⌜ verdictOf r ≡ lentVerdict settings (λ p x. queryTests settings p x slot) (lent (now (blocks .entry)) (now (votes .entry)) «blocks_used» «votes_used» clock) ⌝ }
+{
+    if !soundness::lent_sound(settings, clock, blocks, blocks_used, votes, votes_used) {
+        return Verdict::Refuse(Refusal::Unsound);
+    }
+    if slot == 0 {
+        return Verdict::Refuse(Refusal::Slot);
+    }
+    if clock.seen / 3 < slot {
+        return Verdict::Refuse(Refusal::Slot);
+    }
+    Verdict::Pass
+}
+
+// The buffer is looked at for its length alone.
+pub fn write_verdict(
+    settings: Settings,
+    clock: Clock,
+    blocks: &[u64],
+    blocks_used: usize,
+    votes: &[u64],
+    votes_used: usize,
+    proposal: bool,
+    buffer: &[u8],
+) -> Verdict
+    ensures { λ r. ⌜ verdictOf r ≡ lentVerdict settings (λ p x. writeTests settings p x proposal (now (buffer .entry))) (lent (now (blocks .entry)) (now (votes .entry)) «blocks_used» «votes_used» clock) ⌝ }
+{
+    if !soundness::lent_sound(settings, clock, blocks, blocks_used, votes, votes_used) {
+        return Verdict::Refuse(Refusal::Unsound);
+    }
+    if proposal {
+        if !own::proposed_now(settings, clock, blocks, blocks_used) {
+            return Verdict::Refuse(Refusal::Proposal);
+        }
+    }
+    if buffer.len() < writer::written_length(blocks, blocks_used, votes, votes_used, proposal) {
+        return Verdict::Refuse(Refusal::Buffer);
+    }
+    Verdict::Pass
+}

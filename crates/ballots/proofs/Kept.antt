@@ -7,7 +7,7 @@ use native.Mathlib.Omega.{arith}
 use lib.Dec.{eqb, ltb}
 use lib.ListN.{length, set}
 use lib.Seq.{getD-set-same, getD-set-other}
-use borrow.Author.Tests.{eqb-true, eqb-false, eq-eqb, ltb-true, lt-ltb, le-ltb}
+use borrow.Author.Tests.{eqb-true, eqb-false, eq-eqb, lt-ltb, le-ltb}
 use Rattle.protocol.specs.declared.Vote.{Vote}
 use Rattle.protocol.specs.Filters.{equivocates, always, counted, window, Last, last, none, later, latest, Choice, chosen, nothing, choiceOf, kept}
 use Rattle.protocol.specs.Confirm.{voteIn, validVote}
@@ -15,7 +15,7 @@ use Rattle.protocol.proofs.Basics.Tests.{same-test}
 use Rattle.protocol.proofs.Filters.Kept.{LastIs, latest-is, window-true, window-holds}
 use Rattle.protocol.proofs.Filters.Relations.{Cast}
 use Rattle.masks.specs.Masks.{bitOf}
-use Rattle.masks.proofs.Masks.{bit-mask}
+use Rattle.masks.proofs.Masks.{bit-mask, below-more}
 use Rattle.ballots.specs.Latest.{equivocatorsOf, lastAt, Latest, Kept}
 
 -- the voters below k in the set have no vote any more
@@ -37,9 +37,6 @@ pub dropped-more : (vs : List Vote) (E t mask k : ℕ) {slots numbers next : Lis
     → next ≡ cond (bitOf mask k) (set slots k 0) slots → k < length slots → Dropped vs E t mask (k + 1) next numbers
 dropped-more vs E t mask k {slots} {numbers} {next} D e h = record { each = λ v l. ap (λ (s : List ℕ). lastAt s numbers v) e ∙ go v l (eqb v k) refl (bitOf mask k) refl }
   where
-    below : (v : ℕ) → (v ≡ k → ⊥) → ltb v k ≡ ltb v (k + 1)
-    below v q = same-test (ltb v k) (ltb v (k + 1)) (λ z. let a = ltb-true v k z in lt-ltb v (k + 1) (omega arith)) (λ z. let a = ltb-true v (k + 1) z in lt-ltb v k (omega arith))
-
     go : (v : ℕ) → v < 64 → (x : Bool) → eqb v k ≡ x → (b : Bool) → bitOf mask k ≡ b
         → lastAt (cond b (set slots k 0) slots) numbers v ≡ cond (ltb v (k + 1) && bitOf mask v) none (latest vs E t v)
     go v l true q true m =
@@ -53,10 +50,10 @@ dropped-more vs E t mask k {slots} {numbers} {next} D e h = record { each = λ v
         rw (p, m, and-false (ltb k (k + 1))) d
     go v l false q true m =
         let p : v ≡ k → ⊥ = eqb-false v k q in
-        last-other slots numbers k v p ∙ D .each v l ∙ rw (below v p)
+        last-other slots numbers k v p ∙ D .each v l ∙ rw (below-more v k p)
     go v l false q false m =
         let p : v ≡ k → ⊥ = eqb-false v k q in
-        D .each v l ∙ rw (below v p)
+        D .each v l ∙ rw (below-more v k p)
 
 pub dropped-all : (vs : List Vote) (E t mask k : ℕ) {slots numbers : List ℕ} → Dropped vs E t mask k slots numbers → 64 ≤ k → mask ≡ equivocatorsOf vs → Kept vs E t slots numbers
 unfolding equivocatorsOf kept counted choiceOf

@@ -63,7 +63,7 @@ pub fn equivocators_next(votes: &[u64], i: usize, whole: bool, mask: u64) -> u64
 }
 
 // The voters with two votes of one slot for different blocks.
-// Each vote is compared with every vote before it: votes × votes / 2.
+// Each vote is compared with every vote before it: votes × votes / 2. Votes linked by voter would leave those of one voter.
 pub fn equivocators(votes: &[u64], used: usize, whole: bool) -> u64
     requires { ⌜ (4 * used ≤ length (now votes)) × VotersFit (now votes) used ⌝ }
     ensures { λ r. ⌜ r ≡ equivocatorsOf (votesIn whole (now (votes .entry)) used) ⌝ }

@@ -94,7 +94,7 @@ pub fn best_child(
 }
 
 // The place of the leaf at which the walk from block 0 stops, level by level.
-// Each level looks at the rows after its block: at most blocks × blocks / 2 in all.
+// Each level looks at the rows after its block: at most blocks × blocks / 2 in all. Rows linked to their siblings would leave one turn for each row.
 pub fn leaf(blocks: &[u64], used: usize, masks: &[u64], whole: bool, lim: u64) -> usize
     requires { ⌜ (4 * used ≤ length (now blocks)) × (used ≤ length (now masks)) × BlocksSound (now blocks) used ⌝ }
     ensures { λ r. ⌜ (r < used) × (blockAt (now (blocks .entry)) r .number
@@ -111,7 +111,7 @@ pub fn leaf(blocks: &[u64], used: usize, masks: &[u64], whole: bool, lim: u64) -
 }
 
 // The voters of each subtree, by the votes kept for slot t: the word at a block's place weighs as the block does.
-// The kept votes cost votes × votes / 2, the words at most blocks × blocks / 2. Stack: 1 KB for the kept votes.
+// The kept votes cost votes × votes / 2, the words at most blocks × blocks / 2. Stack: 1 KB for the kept votes of 64 voters.
 pub fn weigh(
     settings: Settings,
     blocks: &[u64],
@@ -141,7 +141,7 @@ pub fn weigh(
 }
 
 // The place of the heaviest leaf: by the weights of slot t, with children of slots below the limit.
-// Stack: 16 KB for the words of 2048 blocks, and those of the functions it calls.
+// Stack: 16 KB for the words of 2048 blocks; with the kept votes 17 KB, the most that any call here takes.
 pub fn heaviest_leaf(
     settings: Settings,
     blocks: &[u64],

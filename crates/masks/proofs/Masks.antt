@@ -5,8 +5,10 @@ use mathlib.Core.Path.{_≡_, refl, sym, _∙_, fun-ext}
 use native.Mathlib.Nat.{pow-suc, div-div-eq-div-mul, mul-comm, div-one, one-mul, mod-eq-of-lt}
 use native.Mathlib.Omega.{arith}
 use lib.Pow.{pow-lt}
-use lib.Dec.{eqb, eqb·suc-zero, eqb·suc-suc, eqb·zero-suc}
+use lib.Dec.{eqb, ltb, eqb·suc-zero, eqb·suc-suc, eqb·zero-suc}
 use lib.Arith.{lt-one}
+use borrow.Author.Tests.{ltb-true, lt-ltb}
+use Rattle.protocol.proofs.Basics.Tests.{same-test}
 use lib.Bits.{bitOr, or-step}
 use lib.Count.{ones, ones-step}
 use Rattle.protocol.specs.Walk.{count}
@@ -125,3 +127,9 @@ bit-mask (suc k) p (suc v) h = bit-half (maskOf (suc k) p) v ∙ rw mask-high (b
 -- `1 << v` as the machine has it
 pub shl-one : (v : ℕ) → v < 64 → 1 * 2 ^ v % 2 ^ 64 ≡ 2 ^ v
 shl-one v h = rw one-mul (mod-eq-of-lt (pow-lt h))
+
+-- a voter other than k is below k + 1 if it is below k
+pub below-more : (v k : ℕ) → (v ≡ k → ⊥) → ltb v (k + 1) ≡ ltb v k
+below-more v k q =
+    same-test (ltb v (k + 1)) (ltb v k) (λ z. let a = ltb-true v (k + 1) z in lt-ltb v k (omega arith))
+    (λ z. let a = ltb-true v k z in lt-ltb v (k + 1) (omega arith))

@@ -8,14 +8,13 @@ use lib.Bits.{bitOr}
 use lib.Dec.{eqb, ltb}
 use lib.ListN.{length, getD, set, replicate, getD-replicate}
 use lib.Seq.{getD-set-same, getD-set-other}
-use borrow.Author.Tests.{eqb-true, eqb-false, eq-eqb, ne-eqb, ltb-true, lt-ltb, le-ltb}
+use borrow.Author.Tests.{eqb-true, eqb-false, eq-eqb, ne-eqb, lt-ltb, le-ltb}
 use Rattle.protocol.specs.declared.Block.{Block}
 use Rattle.protocol.specs.Store.{Marked}
 use Rattle.protocol.specs.Lent.{makeBlock}
-use Rattle.protocol.proofs.Basics.Tests.{same-test}
 use Rattle.rows.specs.Rows.{rowAt}
 use Rattle.masks.specs.Masks.{bitOf, maskOf, added}
-use Rattle.masks.proofs.Masks.{mask-none, mask-ext, bit-mask, or-mask}
+use Rattle.masks.proofs.Masks.{mask-none, mask-ext, bit-mask, or-mask, below-more}
 use Rattle.subtrees.specs.Places.{blockAt, lastPlace, parentPlace}
 use Rattle.subtrees.specs.Subtrees.{upTo, voted, reaches, Subtrees}
 use Rattle.subtrees.proofs.Up.{up-low, up-step}
@@ -88,8 +87,7 @@ module _ (ws : List ℕ) (n : ℕ) (slots numbers : List ℕ) where
           rw (p, lt-ltb k (k + 1) a, le-ltb k k b)
       go false q =
           let p : v ≡ k → ⊥ = eqb-false v k q in
-          let e : ltb v (k + 1) ≡ ltb v k = same-test (ltb v (k + 1)) (ltb v k) (λ z. let a = ltb-true v (k + 1) z in lt-ltb v k (omega arith)) (λ z. let a = ltb-true v k z in lt-ltb v (k + 1) (omega arith)) in
-          rw (e, or-false (ltb v k && votesAt ws n slots numbers j v))
+          rw (below-more v k p, or-false (ltb v k && votesAt ws n slots numbers j v))
 
   kept : (j k : ℕ) (masks : List ℕ) → votesAt ws n slots numbers j k ≡ false → getD masks j 0 ≡ maskOf 64 (λ v. ltb v k && votesAt ws n slots numbers j v)
       → getD masks j 0 ≡ maskOf 64 (λ v. ltb v (k + 1) && votesAt ws n slots numbers j v)

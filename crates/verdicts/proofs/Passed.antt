@@ -1,42 +1,39 @@
 -- What holds where a verdict passes: the memory is sound, its rows are there, and each test of the call failed. Assumes nothing.
-use Prim.Native.Nat.{ℕ, zero, suc, _*_, _/_, _≤_}
+use Prim.Native.Nat.{ℕ, zero, suc, _/_, _≤_}
 use mathlib.Core.Path.{_≡_, refl}
 use mathlib.Core.Bool.{Bool, true, false, cond, false≢true}
 use mathlib.Core.List.{List}
 use native.Mathlib.Omega.{arith}
-use lib.ListN.{length, getD}
+use lib.ListN.{getD}
 use lib.Dec.{eqb}
-use borrow.Author.Tests.{le-leb, eqb-true}
+use borrow.Author.Tests.{eqb-true}
 use Rattle.protocol.specs.declared.Settings.{Settings}
 use Rattle.protocol.specs.Chain.{genesis}
 use Rattle.protocol.specs.Store.{sameBlock, Places, Node}
 use Rattle.protocol.specs.Sound.{blocksSound, sound}
 use Rattle.protocol.specs.Refusal.{Test, pass, refuse, first}
-use Rattle.protocol.specs.Lent.{Lent, rowsOf, makeBlock, makeVote, placesIn, placesOf, nodeOf, marksSound, lentSound}
+use Rattle.protocol.specs.Lent.{Lent, rowsOf, makeBlock, makeVote, placesIn, placesOf, nodeOf, lentSound}
 use Rattle.protocol.proofs.Basics.Tests.{facts, and-left, and-right}
-use Rattle.protocol.proofs.Store.Sound.{IsSound, sound-true, ClockSound, Ranges, ranges, places-few}
+use Rattle.protocol.proofs.Store.Sound.{ClockSound, Ranges, ranges, places-few}
 use Rattle.rows.proofs.Rows.{length-rowsOf}
-use Rattle.ranges.proofs.Room.{fits-words}
+use Rattle.protocol.proofs.Lent.Memory as memory
+use Rattle.soundness.proofs.Facts.{SoundMemory, lent-true}
 use Rattle.verdicts.specs.Lent.{lentVerdict}
 
 -- ---- sound memory, as code goes on with it
 
 pub record Ready (s : Settings) (m : Lent) : Type 0 where
-  pub node : IsSound s (placesOf m) (nodeOf m)
+  -- the used rows are there, their marks are 0 or 1, and the node is sound
+  pub memory : SoundMemory s m
   pub settings : Ranges s
   pub clock : ClockSound (m .clock)
-  -- the used rows are there
   pub fit-blocks : m .blocksUsed ≤ placesIn (m .blocks)
   pub fit-votes : m .votesUsed ≤ placesIn (m .votes)
-  pub block-rows : 4 * m .blocksUsed ≤ length (m .blocks)
-  pub vote-rows : 4 * m .votesUsed ≤ length (m .votes)
   pub few-blocks : m .blocksUsed ≤ 2048
   pub few-votes : m .votesUsed ≤ 8192
   -- block 0 is there, in view
   pub some-blocks : 1 ≤ m .blocksUsed
   pub first-mark : getD (m .blocks) 3 0 ≡ 1
-  pub block-marks : marksSound (m .blocks) (m .blocksUsed) ≡ true
-  pub vote-marks : marksSound (m .votes) (m .votesUsed) ≡ true
 
 first-row : (slot : ℕ) (ws : List ℕ) (n : ℕ) → blocksSound slot (rowsOf makeBlock ws n) ≡ true → (1 ≤ n) × (getD ws 3 0 ≡ 1)
 unfolding blocksSound rowsOf
@@ -48,29 +45,24 @@ unfolding sound
 sound-blocks s p x e = search facts
 
 pub ready : (s : Settings) (m : Lent) → lentSound s m ≡ true → Ready s m
-unfolding lentSound nodeOf placesOf
+unfolding nodeOf placesOf
 ready s m e =
-    let r = and-right (marksSound (m .blocks) (m .blocksUsed)) _ e in
-    let n : sound s (placesOf m) (nodeOf m) ≡ true = and-right (marksSound (m .votes) (m .votesUsed)) _ r in
-    let S = sound-true s (placesOf m) (nodeOf m) n in
-    let o = first-row (m .clock .seen / 3) (m .blocks) (m .blocksUsed) (sound-blocks s (placesOf m) (nodeOf m) n) in
-    let b : m .blocksUsed ≤ placesIn (m .blocks) = omega (arith, S .fit-blocks, length-rowsOf makeBlock (m .blocks) (m .blocksUsed)) in
-    let v : m .votesUsed ≤ placesIn (m .votes) = omega (arith, S .fit-votes, length-rowsOf makeVote (m .votes) (m .votesUsed)) in
-    let f = places-few (placesOf m) (S .places) in
+    let M = lent-true s m e in
+    let N = M .node in
+    let o = first-row (m .clock .seen / 3) (m .blocks) (m .blocksUsed) (sound-blocks s (placesOf m) (nodeOf m) (memory.lent-true s m e .node)) in
+    let b : m .blocksUsed ≤ placesIn (m .blocks) = omega (arith, N .fit-blocks, length-rowsOf makeBlock (m .blocks) (m .blocksUsed)) in
+    let v : m .votesUsed ≤ placesIn (m .votes) = omega (arith, N .fit-votes, length-rowsOf makeVote (m .votes) (m .votesUsed)) in
+    let f = places-few (placesOf m) (N .places) in
     record {
-      node = S;
-      settings = ranges s (S .settings);
-      clock = S .time;
+      memory = M;
+      settings = ranges s (N .settings);
+      clock = N .time;
       fit-blocks = b;
       fit-votes = v;
-      block-rows = fits-words (m .blocks) (m .blocksUsed) (le-leb _ _ b);
-      vote-rows = fits-words (m .votes) (m .votesUsed) (le-leb _ _ v);
       few-blocks = omega (arith, f .0);
       few-votes = omega (arith, f .1);
       some-blocks = o .0;
       first-mark = o .1;
-      block-marks = and-left (marksSound (m .blocks) (m .blocksUsed)) _ e;
-      vote-marks = and-left (marksSound (m .votes) (m .votesUsed)) _ r;
     }
 
 -- ---- a verdict that passes

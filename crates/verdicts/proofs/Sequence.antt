@@ -1,15 +1,14 @@
 -- Tests in a row: where the first ones pass, the others decide. Assumes nothing.
 use Prim.Native.Nat.{ℕ}
 use mathlib.Core.Path.{_≡_, refl, sym, ap, _∙_}
-use mathlib.Core.Bool.{Bool, true, false, not, cond}
+use mathlib.Core.Bool.{Bool, true, false, cond}
 use mathlib.Core.List.{List, [], _∷_, _++_}
 use lib.ListN.{drop}
 use Rattle.protocol.specs.declared.Settings.{Settings}
 use Rattle.protocol.specs.Store.{Places, Node}
-use Rattle.protocol.specs.Sound.{sound}
 use Rattle.protocol.specs.Refusal.{Test, pass, refuse, first, unsound}
-use Rattle.protocol.specs.Lent.{Lent, placesOf, nodeOf, marksSound, lentSound}
-use Rattle.protocol.proofs.Basics.Tests.{and-right}
+use Rattle.protocol.specs.Lent.{Lent, placesOf, nodeOf, lentSound}
+use Rattle.protocol.proofs.Lent.Memory.{lent-true}
 use Rattle.protocol.specs.Calls.Receive.{receiveTests}
 use Rattle.protocol.specs.Calls.Propose.{proposeTests}
 use Rattle.protocol.specs.Calls.Vote.{voteTests}
@@ -96,7 +95,4 @@ module _ (s : Settings) (us : Places → Node → List Test) (m : Lent) {t : Boo
 
   pub sound-pass : t ≡ true → lentVerdict s (λ p x. unsound s p x ∷ us p x) m ≡ first (us (placesOf m) (nodeOf m))
   unfolding lentVerdict first
-  sound-pass e = rw (sym by ∙ e, node)
-    where
-      node : sound s (placesOf m) (nodeOf m) ≡ true
-      node = unfold lentSound in (and-right (marksSound (m .votes) (m .votesUsed)) _ (and-right (marksSound (m .blocks) (m .blocksUsed)) _ (sym by ∙ e)))
+  sound-pass e = rw (sym by ∙ e, lent-true s m (sym by ∙ e) .node)

@@ -1,6 +1,6 @@
 -- Write's tests by what code computes: the bytes need no clock, and the proposer no votes. Assumes nothing.
 use Prim.Native.Nat.{ℕ, _<_, _≤_}
-use mathlib.Core.Path.{_≡_, refl, sym, ap, _∙_}
+use mathlib.Core.Path.{_≡_, sym, _∙_}
 use mathlib.Core.Logic.{_⊎_, ⊎-elim}
 use mathlib.Core.Bool.{Bool, true, false, not, _&&_}
 use mathlib.Core.List.{List, [], _∷_}
@@ -19,8 +19,8 @@ use Rattle.verdicts.proofs.Sequence.{sound-pass}
 
 pub readable : (s : Settings) (m : Lent) → Ready s m → Readable (m .blocks) (m .blocksUsed) (m .votes) (m .votesUsed)
 readable s m R = record {
-  blockRows = R .block-rows;
-  voteRows = R .vote-rows;
+  blockRows = R .memory .block-words;
+  voteRows = R .memory .vote-words;
   blockCount = omega (arith, R .few-blocks);
   voteCount = omega (arith, R .few-votes);
   first = R .first-mark;
@@ -29,7 +29,7 @@ readable s m R = record {
 -- what code knows: the memory is sound, and its answers u and n
 module _ (s : Settings) (m : Lent) (proposal : Bool) (buffer : List ℕ) {t : Bool} (by : t ≡ lentSound s m) (is : t ≡ true) where
   -- of the clock and the blocks alone
-  abbrev pub Proposer : Bool
+  abbrev Proposer : Bool
   Proposer = proposedNow s (record { blocks = rowsOf makeBlock (m .blocks) (m .blocksUsed); votes = []; clock = m .clock })
 
   rest : lentVerdict s (λ p x. writeTests s p x proposal buffer) m

@@ -1,3 +1,4 @@
+-- `is_vote_of` meets its contract. Assumes nothing.
 use borrow.Author.Tests.{eq-eqb, ne-eqb}
 use Rattle.own.proofs.is_vote_of.Statement.{statement}
 use Rattle.own.proofs.is_vote_of.Tie as tie

@@ -1,3 +1,4 @@
+-- `joined` meets its contract. Assumes nothing.
 use borrow.Author.Needs.{needs}
 use Rattle.own.proofs.Slots.{none-before, one-before}
 use Rattle.own.proofs.joined.Statement.{statement}

@@ -1,3 +1,4 @@
+-- `merge_verdict` meets its contract. Assumes nothing.
 use borrow.Author.Needs.{needs}
 use Rattle.protocol.specs.Calls.Merge.{mergeTests}
 use Rattle.verdicts.specs.Lent.{dueTests}

@@ -1,3 +1,4 @@
+-- `propose_verdict` meets its contract. Assumes nothing.
 use borrow.Author.Needs.{needs}
 use borrow.Author.Tests.{le-leb, lt-leb, not-true, not-false}
 use mathlib.Core.Path.{sym, _∙_}
@@ -37,7 +38,7 @@ returns-3 c =
 known-block-requires : tie.Need-known-block-requires
 known-block-requires c κs =
     let t = c .before .before .before .before in
-    sound-before _ _ _ (t .before .before .due-verdict .ensures) (t .enum-told2 .given .1) .block-rows
+    sound-before _ _ _ (t .before .before .due-verdict .ensures) (t .enum-told2 .given .1) .memory .block-words
 
 returns-4 : tie.Need-returns-4
 unfolding proposeTests first nodeOf

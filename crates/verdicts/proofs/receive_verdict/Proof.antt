@@ -1,3 +1,4 @@
+-- `receive_verdict` meets its contract. Assumes nothing.
 use borrow.Author.Needs.{needs}
 use borrow.Author.Tests.{not-true, not-false}
 use native.Mathlib.Omega.{arith}
@@ -17,7 +18,7 @@ returns-2 c =
 packet-allowed-requires : tie.Need-packet-allowed-requires
 packet-allowed-requires c κs =
     let t = c .before .before in
-    sound-before _ _ _ (t .before .before .beat-verdict .ensures) (t .enum-told2 .given .1) .block-rows
+    sound-before _ _ _ (t .before .before .beat-verdict .ensures) (t .enum-told2 .given .1) .memory .block-words
 
 returns-3 : tie.Need-returns-3
 returns-3 c =
@@ -36,7 +37,7 @@ sub-if3 c =
 new-blocks-requires : tie.Need-new-blocks-requires
 new-blocks-requires c κs =
     let t = c .before .before .before .before .before in
-    sound-before _ _ _ (t .before .before .beat-verdict .ensures) (t .enum-told2 .given .1) .block-rows
+    sound-before _ _ _ (t .before .before .beat-verdict .ensures) (t .enum-told2 .given .1) .memory .block-words
 
 returns-4 : tie.Need-returns-4
 returns-4 c =
@@ -59,7 +60,7 @@ sub-if4 c =
 new-votes-requires : tie.Need-new-votes-requires
 new-votes-requires c κs =
     let t = c .before .before .before .before .before .before .before .before in
-    sound-before _ _ _ (t .before .before .beat-verdict .ensures) (t .enum-told2 .given .1) .vote-rows
+    sound-before _ _ _ (t .before .before .beat-verdict .ensures) (t .enum-told2 .given .1) .memory .vote-words
 
 returns-5 : tie.Need-returns-5
 returns-5 c =

@@ -1,3 +1,4 @@
+-- `vote_verdict` meets its contract. Assumes nothing.
 use borrow.Author.Needs.{needs}
 use borrow.Author.Tests.{le-leb, lt-leb, not-true, not-false}
 use mathlib.Core.Path.{sym, _∙_}
@@ -22,7 +23,7 @@ returns-2 c =
 has-voted-requires : tie.Need-has-voted-requires
 has-voted-requires c κs =
     let t = c .before .before in
-    sound-before _ _ _ (t .before .before .due-verdict .ensures) (t .enum-told2 .given .1) .vote-rows
+    sound-before _ _ _ (t .before .before .due-verdict .ensures) (t .enum-told2 .given .1) .memory .vote-words
 
 returns-3 : tie.Need-returns-3
 unfolding voteTests first nodeOf

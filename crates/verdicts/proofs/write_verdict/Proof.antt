@@ -1,3 +1,4 @@
+-- `write_verdict` meets its contract. Assumes nothing.
 use borrow.Author.Needs.{needs}
 use borrow.Author.Tests.{not-true, not-false}
 use mathlib.Core.Path.{sym, _∙_}
@@ -17,7 +18,7 @@ proposed-now-requires : tie.Need-proposed-now-requires
 proposed-now-requires c κs =
     let d = c .before in
     let R = ready _ _ (sym (d .before .lent-sound .ensures) ∙ not-false _ (d .if1 .left)) in
-    (R .block-rows, R .settings .some)
+    (R .memory .block-words, R .settings .some)
 
 returns-2 : tie.Need-returns-2
 returns-2 c =

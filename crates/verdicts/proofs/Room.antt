@@ -1,0 +1,65 @@
+-- A call that passes has its room: the places that it fills, and the buffer that it writes. Assumes nothing.
+use Prim.Native.Nat.{ℕ, _+_, _*_, _≤_}
+use mathlib.Core.Path.{_≡_, sym, ap, _∙_}
+use mathlib.Core.Bool.{Bool, true, not, _&&_}
+use mathlib.Core.List.{List}
+use native.Mathlib.Omega.{arith}
+use lib.Dec.{ltb}
+use lib.ListN.{length}
+use borrow.Author.Tests.{ltb-false, not-false}
+use Rattle.protocol.specs.declared.Settings.{Settings}
+use Rattle.protocol.specs.Store.{entries}
+use Rattle.protocol.specs.Sound.{sound}
+use Rattle.protocol.specs.Packet.{packetOf}
+use Rattle.protocol.specs.Refusal.{pass}
+use Rattle.protocol.specs.Calls.Receive.{addBlocks, addVotes, blocksAfter, votesAfter, receiveTests}
+use Rattle.protocol.specs.Calls.Propose.{proposeTests}
+use Rattle.protocol.specs.Calls.Vote.{voteTests}
+use Rattle.protocol.specs.Calls.Write.{proposedNow, packetOut, writeTests}
+use Rattle.protocol.specs.Lent.{Lent, rowsOf, makeBlock, makeVote, placesOf, nodeOf}
+use Rattle.protocol.proofs.Calls.Refusal.{passed}
+use Rattle.protocol.proofs.Calls.Passed.{receives, proposes, votes}
+use Rattle.protocol.proofs.Lent.Rows.{length-rowsOf, places-fit}
+use Rattle.verdicts.specs.Lent.{lentVerdict}
+use Rattle.verdicts.proofs.Passed.{passes}
+
+module _ (s : Settings) (m : Lent) where
+  -- Receive: all entries that there will be
+  module _ (beat : ℕ) (bytes : List ℕ) (e : lentVerdict s (λ p x. receiveTests s p x beat bytes) m ≡ pass) where
+    pub receive-room-blocks : 4 * length (addBlocks (entries (rowsOf makeBlock (m .blocks) (m .blocksUsed))) (packetOf bytes .blocks)) ≤ length (m .blocks)
+    unfolding nodeOf placesOf blocksAfter
+    receive-room-blocks = places-fit (m .blocks) _ (receives s (placesOf m) (nodeOf m) beat bytes (passes s _ m e .1) .room-blocks)
+
+    pub receive-room-votes : 4 * length (addVotes (entries (rowsOf makeVote (m .votes) (m .votesUsed))) (packetOf bytes .votes)) ≤ length (m .votes)
+    unfolding nodeOf placesOf votesAfter
+    receive-room-votes = places-fit (m .votes) _ (receives s (placesOf m) (nodeOf m) beat bytes (passes s _ m e .1) .room-votes)
+
+  -- Propose: one block more
+  pub propose-room : (beat number : ℕ) → lentVerdict s (λ p x. proposeTests s p x beat number) m ≡ pass → 4 * (m .blocksUsed + 1) ≤ length (m .blocks)
+  unfolding nodeOf placesOf
+  propose-room beat number e =
+      let r = proposes s (placesOf m) (nodeOf m) beat number (passes s _ m e .1) .room in
+      places-fit (m .blocks) (m .blocksUsed + 1) (omega (arith, r, length-rowsOf makeBlock (m .blocks) (m .blocksUsed)))
+
+  -- Vote: one vote more
+  pub vote-room : (beat : ℕ) → lentVerdict s (λ p x. voteTests s p x beat) m ≡ pass → 4 * (m .votesUsed + 1) ≤ length (m .votes)
+  unfolding nodeOf placesOf
+  vote-room beat e =
+      let r = votes s (placesOf m) (nodeOf m) beat (passes s _ m e .1) .room in
+      places-fit (m .votes) (m .votesUsed + 1) (omega (arith, r, length-rowsOf makeVote (m .votes) (m .votesUsed)))
+
+  -- Write: the packet; a proposal is the proposer's
+  module _ (proposal : Bool) (buffer : List ℕ) (e : lentVerdict s (λ p x. writeTests s p x proposal buffer) m ≡ pass) where
+    pub write-room : length (packetOut proposal (nodeOf m)) ≤ length buffer
+    unfolding writeTests
+    write-room =
+        let a = passed 6 (not (sound s (placesOf m) (nodeOf m))) _ (passes s (λ p x. writeTests s p x proposal buffer) m e .1) in
+        let b = passed 19 (proposal && not (proposedNow s (nodeOf m))) _ (a .1) in
+        ltb-false (length buffer) (length (packetOut proposal (nodeOf m))) (passed 18 (ltb (length buffer) (length (packetOut proposal (nodeOf m)))) _ (b .1) .0)
+
+    pub write-proposer : proposal ≡ true → proposedNow s (nodeOf m) ≡ true
+    unfolding writeTests
+    write-proposer q =
+        let a = passed 6 (not (sound s (placesOf m) (nodeOf m))) _ (passes s (λ p x. writeTests s p x proposal buffer) m e .1) in
+        let b = passed 19 (proposal && not (proposedNow s (nodeOf m))) _ (a .1) in
+        not-false (proposedNow s (nodeOf m)) (ap (λ o. o && not (proposedNow s (nodeOf m))) (sym q) ∙ b .0)

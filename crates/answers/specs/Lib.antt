@@ -1,0 +1,3 @@
+-- What the answers mean, and what each call promises. Assumes nothing.
+pub mod Answers
+pub mod Promises

@@ -1,0 +1,46 @@
+// The answers of the nine calls. What each means is in specs/Answers, what each call promises in specs/Promises.
+use protocol::Clock;
+use verdicts::Refusal;
+
+// What a Receive that was carried out answers: how many entries were new, and whether the packet came into view.
+pub struct Taken {
+    pub new_blocks: u64,
+    pub new_votes: u64,
+    pub brought: bool,
+}
+
+// The answer of a call that changes the memory. Open and Merge answer Done, Receive Received,
+// Propose the base as Block, Vote the head as Block.
+pub enum Reply {
+    Done,
+    Received(Taken),
+    Block(u64),
+    Refused(Refusal),
+}
+
+// The same with the clock after the call.
+pub struct Moved {
+    pub reply: Reply,
+    pub clock: Clock,
+}
+
+// The calls that carry a beat. Propose is given the new block's number.
+pub enum Call {
+    Receive,
+    Propose(u64),
+    Vote,
+    Merge,
+}
+
+// The answer of Head, Deep and Fast. Fast alone answers Nothing: no block has the quorum.
+pub enum Answer {
+    Block(u64),
+    Nothing,
+    Refused(Refusal),
+}
+
+// The answer of Write: how many bytes of the buffer the packet takes.
+pub enum Written {
+    Length(u64),
+    Refused(Refusal),
+}

@@ -1,0 +1,221 @@
+-- Each call that changes the memory, from the verdict that code found and the changes that it made. Assumes nothing.
+use Prim.Native.Nat.{ℕ, _+_, _-_, _*_, _/_, _≤_}
+use mathlib.Core.Bool.{Bool, true, false, _&&_, cond}
+use mathlib.Core.List.{List, [], _∷_, _++_}
+use mathlib.Core.Path.{_≡_, refl, ap, sym, _∙_}
+use native.Mathlib.Omega.{arith}
+use lib.Dec.{eqb, leb}
+use lib.ListN.{length}
+use borrow.Author.Tests.{leb-true, eqb-true}
+use Rattle.protocol.specs.declared.Settings.{Settings}
+use Rattle.protocol.specs.declared.Clock.{Clock}
+use Rattle.protocol.specs.declared.Block.{Block}
+use Rattle.protocol.specs.declared.Vote.{Vote}
+use Rattle.protocol.specs.Lists.{any}
+use Rattle.protocol.specs.Walk as walk
+use Rattle.protocol.specs.Store.{Marked, entries, inView, waiting, visible, showAll, sameVote, Node}
+use Rattle.protocol.specs.Sound.{between, placesSound}
+use Rattle.protocol.specs.Packet.{Packet, packetOf}
+use Rattle.protocol.specs.Refusal.{first, done}
+use Rattle.protocol.specs.Calls.Open.{openTests}
+use Rattle.protocol.specs.Calls.Receive.{receiveTests, addBlocks, addVotes, blocksAfter, votesAfter, brings, stoodOn, receivedOf, receiveInto}
+use Rattle.protocol.specs.Calls.Propose.{proposeTests, baseOf}
+use Rattle.protocol.specs.Calls.Vote.{voteTests, headOf}
+use Rattle.protocol.specs.Calls.Merge.{mergeTests}
+use Rattle.protocol.specs.Lent.{Lent, rowsOf, stored, makeBlock, makeVote, blockRow, voteRow, placesIn, placesOf, nodeOf, storeNode, cleared}
+use Rattle.protocol.proofs.Basics.Tests.{and-left, and-right}
+use Rattle.protocol.proofs.Calls.Passed as passed
+use Rattle.protocol.proofs.Calls.Passed.{opens}
+use Rattle.protocol.proofs.Lent.Rows.{places-fit}
+use Rattle.rows.proofs.Rows.{length-rowsOf}
+use Rattle.rows.proofs.Stored.{block-codec, vote-codec, stored-same}
+use Rattle.admission.specs.Lookup.{onlyBlocks}
+use Rattle.storing.specs.Grown.{Holds}
+use Rattle.receiving.specs.Accepted.{Accepted, onlyVotes, onlyClock}
+use Rattle.receiving.proofs.Node.{receives-accepted}
+use Rattle.verdicts.specs.declared.Refusal.{Refusal}
+use Rattle.verdicts.specs.declared.Verdict.{Verdict}
+use Rattle.verdicts.specs.declared.Verdict.the-variants.{Pass, Refuse}
+use Rattle.verdicts.specs.Verdict.{verdictOf}
+use Rattle.verdicts.specs.Lent.{lent, lentVerdict}
+use Rattle.verdicts.proofs.Passed.{passes}
+use Rattle.verdicts.proofs.Lent.{open-refused, open-done}
+use Rattle.verdicts.proofs.Calls.{receive-refused, receive-done, propose-refused, propose-done, vote-refused, vote-done, merge-refused, merge-done}
+use Rattle.answers.specs.declared.Call.{Call}
+use Rattle.answers.specs.declared.Call.the-variants as call
+use Rattle.answers.specs.declared.Reply.{Reply}
+use Rattle.answers.specs.declared.Reply.the-variants as reply
+use Rattle.answers.specs.Answers.{received, block}
+use Rattle.answers.specs.Promises.{Opens, Receives, Proposes, Votes, Merges, Carries}
+use Rattle.answers.proofs.Verdict.{said, passed-ready}
+use Rattle.answers.proofs.Leaves.{left-refused, left-done}
+use Rattle.node.proofs.Tables.{store-is, room, length-more, length-received, length-shown, append-shown, length-append-shown}
+
+-- ---- Open
+
+module _ (s : Settings) (m : Lent) {v : Verdict} (h : verdictOf v ≡ first (openTests s (record { blocks = placesIn (m .blocks); votes = placesIn (m .votes) }))) where
+  pub open-leaves : {e : Refusal} → v ≡ Refuse e → Opens s m m (reply.Refused e)
+  unfolding placesOf
+  open-leaves e = left-refused (open-refused s m _ (said (Refuse _) h e))
+
+  pub open-clears : {x : Lent} → v ≡ Pass → x ≡ cleared m → Opens s m x reply.Done
+  unfolding placesOf
+  open-clears e k = left-done (open-done s m (said Pass h e)) k refl
+
+-- block 0 has a place
+pub open-room : (s : Settings) (bw vw : List ℕ) {v : Verdict} → verdictOf v ≡ first (openTests s (record { blocks = placesIn bw; votes = placesIn vw }))
+    → v ≡ Pass → 4 ≤ length bw
+unfolding placesSound between
+open-room s bw vw h e =
+    let o = opens s _ (said Pass h e) .places in
+    places-fit bw 1 (leb-true 1 (placesIn bw) (and-left (leb 1 (placesIn bw)) _ (and-left _ (between 1 8192 (placesIn vw)) o)))
+
+-- ---- Receive
+
+abbrev received-clock : Clock → ℕ → Bool → Clock
+received-clock k beat brought = record { seen = beat; done = k .done; merged = k .merged; proposed = cond brought (beat / 3) (k .proposed) }
+
+-- a packet that comes into view is of the beat's slot
+brought-slot : (x : Node) (beat : ℕ) (p : Packet) {b : Bool} → b ≡ brings x beat p → cond b (beat / 3) (x .clock .proposed) ≡ cond b (p .slot) (x .clock .proposed)
+unfolding brings
+brought-slot x beat p {b = true} e =
+    let q : p .slot * 3 ≡ beat = eqb-true _ _ (and-left _ _ (and-right (eqb (p .kind) 1) _ (sym e))) in omega arith
+brought-slot x beat p {b = false} e = refl
+
+-- no row is lost
+pub blocks-grow : (ws : List ℕ) (n : ℕ) (p : Packet) (brought : Bool) {ws′ : List ℕ} {n′ : ℕ}
+    → Holds (Marked Block) blockRow (receiveInto brought 0 (onlyBlocks (rowsOf makeBlock ws n)) p .blocks) ws ws′ n′ → n ≤ n′
+unfolding receiveInto
+blocks-grow ws n p brought h =
+    let R = rowsOf makeBlock ws n in
+    omega (arith, h .used, length-received (λ b. brought && stoodOn (blocksAfter (onlyBlocks R) p) p b) R (blocksAfter (onlyBlocks R) p), length-rowsOf makeBlock ws n)
+
+pub votes-grow : (ws : List ℕ) (n : ℕ) (p : Packet) (brought : Bool) {ws′ : List ℕ} {n′ : ℕ}
+    → Holds (Marked Vote) voteRow (receiveInto brought 0 (onlyVotes (rowsOf makeVote ws n)) p .votes) ws ws′ n′ → n ≤ n′
+unfolding receiveInto
+votes-grow ws n p brought h =
+    let R = rowsOf makeVote ws n in
+    omega (arith, h .used, length-received (λ a. brought && any (sameVote a) (p .votes)) R (votesAfter (onlyVotes R) p), length-rowsOf makeVote ws n)
+
+module _ (s : Settings) (m : Lent) (beat : ℕ) (bytes : List ℕ) {v : Verdict} (h : verdictOf v ≡ lentVerdict s (λ p x. receiveTests s p x beat bytes) m) where
+  pub receive-leaves : {e : Refusal} → v ≡ Refuse e → Receives s m beat bytes m (reply.Refused e)
+  receive-leaves e = left-refused (receive-refused s m beat bytes _ (said (Refuse _) h e))
+
+  tests-passed : v ≡ Pass → passed.Receives s (placesOf m) (nodeOf m) beat bytes
+  tests-passed e = passed.receives s (placesOf m) (nodeOf m) beat bytes (passes s _ m (said Pass h e) .1)
+
+  pub receive-accepts : v ≡ Pass → Accepted (rowsOf makeBlock (m .blocks) (m .blocksUsed)) (packetOf bytes)
+  unfolding nodeOf
+  receive-accepts e = receives-accepted s (placesOf m) (nodeOf m) beat bytes (tests-passed e)
+
+  pub receive-block-room : v ≡ Pass → 4 * length (addBlocks (entries (rowsOf makeBlock (m .blocks) (m .blocksUsed))) (packetOf bytes .blocks)) ≤ length (m .blocks)
+  unfolding nodeOf placesOf blocksAfter
+  receive-block-room e = places-fit (m .blocks) _ (tests-passed e .room-blocks)
+
+  pub receive-vote-room : v ≡ Pass → 4 * length (addVotes (entries (rowsOf makeVote (m .votes) (m .votesUsed))) (packetOf bytes .votes)) ≤ length (m .votes)
+  unfolding nodeOf placesOf votesAfter
+  receive-vote-room e = places-fit (m .votes) _ (tests-passed e .room-votes)
+
+  pub receive-stores : {brought : Bool} {bw vw : List ℕ} {bu vu : ℕ} {k : Clock} → v ≡ Pass
+      → brought ≡ brings (onlyClock (m .clock)) beat (packetOf bytes)
+      → Holds (Marked Block) blockRow (receiveInto brought 0 (onlyBlocks (rowsOf makeBlock (m .blocks) (m .blocksUsed))) (packetOf bytes) .blocks) (m .blocks) bw bu
+      → Holds (Marked Vote) voteRow (receiveInto brought 0 (onlyVotes (rowsOf makeVote (m .votes) (m .votesUsed))) (packetOf bytes) .votes) (m .votes) vw vu
+      → k ≡ received-clock (m .clock) beat brought
+      → Receives s m beat bytes (lent bw vw bu vu k)
+      (reply.Received (record { «new_blocks» = bu - m .blocksUsed; «new_votes» = vu - m .votesUsed; brought = brought }))
+  unfolding receivedOf receiveInto brings nodeOf blocksAfter votesAfter
+  receive-stores {brought} {bw} {vw} {bu} {vu} {k} e f b w c =
+      let p = packetOf bytes in
+      let R = rowsOf makeBlock (m .blocks) (m .blocksUsed) in
+      let U = rowsOf makeVote (m .votes) (m .votesUsed) in
+      let x : Node = receiveInto brought beat (nodeOf m) p in
+      let store : lent bw vw bu vu k ≡ storeNode x m
+      = rw (c, brought-slot (nodeOf m) beat p f) (store-is x m (b .words) (w .words) (b .used) (w .used)) in
+      let nb : bu - m .blocksUsed ≡ length (addBlocks (entries R) (p .blocks)) - length R
+      = omega (arith, b .used, length-received (λ o. brought && stoodOn (addBlocks (entries R) (p .blocks)) p o) R (addBlocks (entries R) (p .blocks)), length-rowsOf makeBlock (m .blocks) (m .blocksUsed)) in
+      let nv : vu - m .votesUsed ≡ length (addVotes (entries U) (p .votes)) - length U
+      = omega (arith, w .used, length-received (λ a. brought && any (sameVote a) (p .votes)) U (addVotes (entries U) (p .votes)), length-rowsOf makeVote (m .votes) (m .votesUsed)) in
+      left-done (receive-done s m beat bytes (said Pass h e)) (store ∙ ap (λ (o : Bool). storeNode (receiveInto o beat (nodeOf m) p) m) f)
+      (λ i. done (received (record { newBlocks = nb i; newVotes = nv i; brought = f i })))
+
+-- ---- Propose
+
+module _ (s : Settings) (m : Lent) (beat number : ℕ) {v : Verdict} (h : verdictOf v ≡ lentVerdict s (λ p x. proposeTests s p x beat number) m) where
+  pub propose-leaves : {e : Refusal} → v ≡ Refuse e → Proposes s m beat number m (reply.Refused e)
+  propose-leaves e = left-refused (propose-refused s m beat number _ (said (Refuse _) h e))
+
+  pub propose-room : v ≡ Pass → 4 * (m .blocksUsed + 1) ≤ length (m .blocks)
+  unfolding placesOf nodeOf
+  propose-room e = room makeBlock (m .blocks) (m .blocksUsed) (passed.proposes s (placesOf m) (nodeOf m) beat number (passes s _ m (said Pass h e) .1) .room)
+
+  pub propose-stores : {base bu : ℕ} {shown bw vw : List ℕ} → v ≡ Pass
+      → base ≡ walk.base (entries (rowsOf makeBlock (m .blocks) (m .blocksUsed))) (entries (rowsOf makeVote (m .votes) (m .votesUsed))) (s .nodes) (s .expiry) (beat / 3)
+      → shown ≡ stored blockRow (showAll (rowsOf makeBlock (m .blocks) (m .blocksUsed))) (m .blocks)
+      → bw ≡ stored blockRow (rowsOf makeBlock shown (m .blocksUsed) ++ (visible (record { number = number; parent = base; slot = beat / 3 }) ∷ [])) shown
+      → bu ≡ m .blocksUsed + 1
+      → vw ≡ stored voteRow (showAll (rowsOf makeVote (m .votes) (m .votesUsed))) (m .votes)
+      → Proposes s m beat number (lent bw vw bu (m .votesUsed) (record { seen = beat; done = beat; merged = m .clock .merged; proposed = beat / 3 })) (reply.Block base)
+  unfolding nodeOf baseOf
+  propose-stores {base} e f g b n w =
+      let new : Marked Block = visible (record { number = number; parent = base; slot = beat / 3 }) in
+      left-done (propose-done s m beat number (said Pass h e))
+      (rw (← f) (store-is _ m (append-shown block-codec (m .blocks) (m .blocksUsed) g new b) w
+      (n ∙ length-append-shown block-codec (m .blocks) (m .blocksUsed) new) (length-shown vote-codec (m .votes) (m .votesUsed))))
+      (ap (λ (x : ℕ). done (block x)) f)
+
+-- ---- Vote
+
+module _ (s : Settings) (m : Lent) (beat : ℕ) {v : Verdict} (h : verdictOf v ≡ lentVerdict s (λ p x. voteTests s p x beat) m) where
+  pub vote-leaves : {e : Refusal} → v ≡ Refuse e → Votes s m beat m (reply.Refused e)
+  vote-leaves e = left-refused (vote-refused s m beat _ (said (Refuse _) h e))
+
+  pub vote-room : v ≡ Pass → 4 * (m .votesUsed + 1) ≤ length (m .votes)
+  unfolding placesOf nodeOf
+  vote-room e = room makeVote (m .votes) (m .votesUsed) (passed.votes s (placesOf m) (nodeOf m) beat (passes s _ m (said Pass h e) .1) .room)
+
+  pub vote-stores : {head vu : ℕ} {vw : List ℕ} → v ≡ Pass
+      → head ≡ walk.head (inView (rowsOf makeBlock (m .blocks) (m .blocksUsed))) (inView (rowsOf makeVote (m .votes) (m .votesUsed))) (s .nodes) (s .expiry) (beat / 3)
+      → vw ≡ stored voteRow (rowsOf makeVote (m .votes) (m .votesUsed) ++ (waiting (record { voter = s .own; slot = beat / 3; number = head }) ∷ [])) (m .votes)
+      → vu ≡ m .votesUsed + 1
+      → Votes s m beat (lent (m .blocks) vw (m .blocksUsed) vu (record { seen = beat; done = beat; merged = m .clock .merged; proposed = m .clock .proposed })) (reply.Block head)
+  unfolding nodeOf headOf
+  vote-stores {head} e f w n =
+      let R = passed-ready s _ m h e .memory in
+      left-done (vote-done s m beat (said Pass h e))
+      (rw (← f) (store-is _ m (sym (stored-same block-codec (m .blocks) (m .blocksUsed) (R .block-marks) (R .block-words))) w
+      (sym (length-rowsOf makeBlock (m .blocks) (m .blocksUsed))) (n ∙ length-more makeVote (m .votes) (m .votesUsed) _)))
+      (ap (λ (x : ℕ). done (block x)) f)
+
+-- ---- Merge
+
+module _ (s : Settings) (m : Lent) (beat : ℕ) {v : Verdict} (h : verdictOf v ≡ lentVerdict s (λ p x. mergeTests s p x beat) m) where
+  pub merge-leaves : {e : Refusal} → v ≡ Refuse e → Merges s m beat m (reply.Refused e)
+  merge-leaves e = left-refused (merge-refused s m beat _ (said (Refuse _) h e))
+
+  pub merge-stores : {bw vw : List ℕ} → v ≡ Pass
+      → bw ≡ stored blockRow (showAll (rowsOf makeBlock (m .blocks) (m .blocksUsed))) (m .blocks)
+      → vw ≡ stored voteRow (showAll (rowsOf makeVote (m .votes) (m .votesUsed))) (m .votes)
+      → Merges s m beat (lent bw vw (m .blocksUsed) (m .votesUsed) (record { seen = beat; done = beat; merged = beat / 3; proposed = m .clock .proposed })) reply.Done
+  unfolding nodeOf
+  merge-stores e b w =
+      left-done (merge-done s m beat (said Pass h e))
+      (store-is _ m b w (length-shown block-codec (m .blocks) (m .blocksUsed)) (length-shown vote-codec (m .votes) (m .votesUsed))) refl
+
+-- ---- the call that is asked for
+
+module _ (s : Settings) (m : Lent) (beat : ℕ) (bytes : List ℕ) {after : Lent} {r : Reply} {c : Call} where
+  pub carries-receive : c ≡ call.Receive → Receives s m beat bytes after r → Carries s m c beat bytes after r
+  unfolding Carries
+  carries-receive e h = rw e h
+
+  pub carries-propose : {number : ℕ} → c ≡ call.Propose number → Proposes s m beat number after r → Carries s m c beat bytes after r
+  unfolding Carries
+  carries-propose e h = rw e h
+
+  pub carries-vote : c ≡ call.Vote → Votes s m beat after r → Carries s m c beat bytes after r
+  unfolding Carries
+  carries-vote e h = rw e h
+
+  pub carries-merge : c ≡ call.Merge → Merges s m beat after r → Carries s m c beat bytes after r
+  unfolding Carries
+  carries-merge e h = rw e h

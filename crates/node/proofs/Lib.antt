@@ -1,0 +1,3 @@
+-- The proofs of the calls, and the laws that they share. Assumes nothing.
+pub mod Tables
+pub mod Calls

@@ -1,0 +1,64 @@
+-- Tables after the changes of a call. Assumes nothing.
+use Prim.Native.Nat.{ℕ, suc, _+_, _-_, _*_, _<_, _≤_}
+use mathlib.Core.Bool.{Bool, true}
+use mathlib.Core.List.{List, [], _∷_, _++_}
+use mathlib.Core.Path.{_≡_, refl, ap, sym, _∙_}
+use native.Mathlib.Omega.{arith}
+use lib.ListN.{length, drop, length-append, length-drop}
+use Rattle.protocol.specs.Store.{Marked, allWaiting, show, showAll, Node}
+use Rattle.protocol.specs.Lent.{Lent, Make, rowsOf, stored, blockRow, voteRow, placesIn, marksSound, storeNode}
+use Rattle.protocol.proofs.Store.Views.{length-show}
+use Rattle.protocol.proofs.Lent.Rows.{places-fit}
+use Rattle.rows.proofs.Rows.{length-rowsOf}
+use Rattle.rows.proofs.Stored.{Codec, rows-stored, marks-stored, stored-longer}
+use Rattle.verdicts.specs.Lent.{lent}
+
+-- ---- a node stored, place by place
+
+pub store-is : (x : Node) (m : Lent) {bw vw : List ℕ} {bu vu : ℕ} → bw ≡ stored blockRow (x .blocks) (m .blocks) → vw ≡ stored voteRow (x .votes) (m .votes)
+    → bu ≡ length (x .blocks) → vu ≡ length (x .votes) → lent bw vw bu vu (x .clock) ≡ storeNode x m
+unfolding storeNode
+store-is x m b v bu vu = λ i. record { blocks = b i; votes = v i; blocksUsed = bu i; votesUsed = vu i; clock = x .clock }
+
+-- ---- one row more
+
+-- a free place has its four words
+pub room : {A : Type 0} (make : Make A) (ws : List ℕ) (n : ℕ) → length (rowsOf make ws n) < placesIn ws → 4 * (n + 1) ≤ length ws
+room make ws n h = let l = length-rowsOf make ws n in places-fit ws (n + 1) (omega arith)
+
+pub length-more : {A : Type 0} (make : Make A) (ws : List ℕ) (n : ℕ) (a : A) → n + 1 ≡ length (rowsOf make ws n ++ (a ∷ []))
+length-more make ws n a = omega (arith, length-append (rowsOf make ws n) (a ∷ []), length-rowsOf make ws n)
+
+-- ---- new entries at the end
+
+length-waiting : {A : Type 0} (xs : List A) → length (allWaiting xs) ≡ length xs
+unfolding allWaiting
+length-waiting [] = refl
+length-waiting (a ∷ xs) = ap suc (length-waiting xs)
+
+pub length-received : {A : Type 0} (q : A → Bool) (ms : List (Marked A)) (xs : List A)
+    → length (show q (ms ++ allWaiting (drop (length ms) xs))) ≡ length ms + (length xs - length ms)
+length-received q ms xs =
+    let new = drop (length ms) xs in
+    omega (arith, length-show q (ms ++ allWaiting new), length-append ms (allWaiting new), length-waiting new, length-drop (length ms) xs)
+
+-- ---- all rows come into view
+
+module _ {A : Type 0} {make : Make (Marked A)} {row : Marked A → List ℕ} (codec : Codec (Marked A) make row) (ws : List ℕ) (n : ℕ) where
+  pub length-shown : n ≡ length (showAll (rowsOf make ws n))
+  unfolding showAll
+  length-shown = sym (length-show _ (rowsOf make ws n) ∙ length-rowsOf make ws n)
+
+  module _ {shown : List ℕ} (e : shown ≡ stored row (showAll (rowsOf make ws n)) ws) where
+    pub shown-marks : marksSound shown n ≡ true
+    shown-marks = rw e (marks-stored codec (showAll (rowsOf make ws n)) ws n (sym length-shown))
+
+    -- and one row more
+    pub append-shown : (a : Marked A) {more : List ℕ} → more ≡ stored row (rowsOf make shown n ++ (a ∷ [])) shown
+        → more ≡ stored row (showAll (rowsOf make ws n) ++ (a ∷ [])) ws
+    append-shown a f =
+        let S = showAll (rowsOf make ws n) in
+        f ∙ rw (e, rows-stored codec S ws n (sym length-shown)) (stored-longer codec (S ++ (a ∷ [])) S ws (omega (arith, length-append S (a ∷ []))))
+
+  pub length-append-shown : (a : Marked A) → n + 1 ≡ length (showAll (rowsOf make ws n) ++ (a ∷ []))
+  length-append-shown a = omega (arith, length-append (showAll (rowsOf make ws n)) (a ∷ []), length-shown)

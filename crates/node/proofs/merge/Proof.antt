@@ -1,0 +1,40 @@
+-- `node::merge` meets its contract: Merge. Assumes nothing.
+use borrow.Author.Needs.{needs}
+use Rattle.answers.proofs.Verdict.{passed-ready}
+use Rattle.node.proofs.Calls.{merge-leaves, merge-stores}
+use Rattle.node.proofs.merge.Statement.{statement}
+use Rattle.node.proofs.merge.Tie as tie
+
+show-all-blocks-requires : tie.Need-show-all-blocks-requires
+show-all-blocks-requires c κs = passed-ready _ _ _ (c .before .before .before .merge-verdict .ensures) (c .before .enum-told .given .1) .memory .block-words
+
+show-all-votes-requires : tie.Need-show-all-votes-requires
+show-all-votes-requires c κs =
+    let t = c .before .before .before .before .before in
+    passed-ready _ _ _ (t .before .before .merge-verdict .ensures) (t .enum-told .given .1) .memory .vote-words
+
+returns : tie.Need-returns
+returns c = merge-leaves _ _ _ (c .before .before .before .merge-verdict .ensures) (c .before .verdict .given .1)
+
+returns-2 : tie.Need-returns-2
+returns-2 c =
+    let v = c .before .before in
+    let b = v .before .before .before .before in
+    let t = b .before .before in
+    merge-stores _ _ _ (t .before .before .merge-verdict .ensures) (t .enum-told .given .1) (b .show-all-blocks .ensures) (v .show-all-votes .ensures)
+
+pub merge-spec : {M : Type 1} → statement M
+merge-spec =
+    tie.close
+    (tie.spec
+    (λ c κs. search needs)
+    (λ c. search needs)
+    (λ c. search needs)
+    show-all-blocks-requires
+    show-all-votes-requires
+    (λ c. search needs)
+    (λ c. search needs)
+    returns
+    (λ c. search needs)
+    (λ c. search needs)
+    returns-2)

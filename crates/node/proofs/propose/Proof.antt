@@ -1,0 +1,63 @@
+-- `node::propose` meets its contract: Propose. Assumes nothing.
+use borrow.Author.Needs.{needs}
+use native.Mathlib.Omega.{arith}
+use Rattle.rows.proofs.Stored.{block-codec}
+use Rattle.answers.proofs.Verdict.{passed-ready, tables-sound}
+use Rattle.node.proofs.Tables.{shown-marks}
+use Rattle.node.proofs.Calls.{propose-leaves, propose-room, propose-stores}
+use Rattle.node.proofs.propose.Statement.{statement}
+use Rattle.node.proofs.propose.Tie as tie
+
+base-requires : tie.Need-base-requires
+base-requires c κs =
+    let t = c .before .before in
+    tables-sound _ _ (passed-ready _ _ _ (t .before .before .propose-verdict .ensures) (t .enum-told .given .1))
+
+show-all-blocks-requires : tie.Need-show-all-blocks-requires
+show-all-blocks-requires c κs =
+    let t = c .before .before .before .before in
+    passed-ready _ _ _ (t .before .before .propose-verdict .ensures) (t .enum-told .given .1) .memory .block-words
+
+append-block-requires : tie.Need-append-block-requires
+append-block-requires c κs =
+    let b = c .before .before .before .before in
+    let t = b .before .before .before .before .before in (
+      omega (arith, propose-room _ _ _ _ (t .before .before .propose-verdict .ensures) (t .enum-told .given .1), b .show-all-blocks .kept .0),
+      shown-marks block-codec _ _ (b .show-all-blocks .ensures),
+    )
+
+show-all-votes-requires : tie.Need-show-all-votes-requires
+show-all-votes-requires c κs =
+    let t = c .before .before .before .before .before .before .before .before .before .before .before .before .before in
+    passed-ready _ _ _ (t .before .before .propose-verdict .ensures) (t .enum-told .given .1) .memory .vote-words
+
+returns : tie.Need-returns
+returns c = propose-leaves _ _ _ _ (c .before .before .before .propose-verdict .ensures) (c .before .verdict .given .1)
+
+returns-2 : tie.Need-returns-2
+returns-2 c =
+    let v = c .before .before in
+    let a = v .before .before .before .before in
+    let b = a .before .before .before .before .before in
+    let f = b .before .before in
+    let t = f .before .before .before in
+    propose-stores _ _ _ _ (t .before .before .propose-verdict .ensures) (t .enum-told .given .1) (f .base .ensures) (b .show-all-blocks .ensures)
+    (a .append-block .ensures .0) (a .append-block .ensures .1) (v .show-all-votes .ensures)
+
+pub propose-spec : {M : Type 1} → statement M
+propose-spec =
+    tie.close
+    (tie.spec
+    (λ c κs. search needs)
+    (λ c. search needs)
+    (λ c. search needs)
+    base-requires
+    show-all-blocks-requires
+    append-block-requires
+    show-all-votes-requires
+    (λ c. search needs)
+    (λ c. search needs)
+    returns
+    (λ c. search needs)
+    (λ c. search needs)
+    returns-2)

@@ -1,0 +1,374 @@
+// The calls that change a node's memory: Open, Receive, Propose, Vote and Merge.
+// Each takes any memory that a caller may lend: the verdict comes first, and a refused call writes nothing.
+use answers::Call;
+use answers::Moved;
+use answers::Reply;
+use answers::Taken;
+use protocol::Block;
+use protocol::Clock;
+use protocol::Settings;
+use protocol::Vote;
+use verdicts::Verdict;
+ghost use mathlib.Core.Bool.{cond};
+ghost use mathlib.Core.Path.{_≡_};
+ghost use Prim.Native.Nat.{_/_};
+ghost use Rattle.verdicts.specs.Lent.{lent};
+ghost use Rattle.answers.specs.Promises.{Opens, Receives, Proposes, Votes, Merges, Carries};
+
+pub fn open(
+    settings: Settings,
+    clock: Clock,
+    blocks: &mut [u64],
+    blocks_used: &mut usize,
+    votes: &mut [u64],
+    votes_used: &mut usize,
+) -> Moved
+    ensures { λ r. ⌜ Opens settings (lent (now (blocks .entry)) (now (votes .entry)) (now («blocks_used» .entry)) (now («votes_used» .entry)) clock)
+        (lent (now (blocks .exit)) (now (votes .exit)) (now («blocks_used» .exit)) (now («votes_used» .exit)) (r .clock)) (r .reply) ⌝ }
+{
+    let verdict = verdicts::open_verdict(settings, blocks, votes);
+    match verdict {
+        Verdict::Refuse(refusal) => Moved {
+            reply: Reply::Refused(refusal),
+            clock,
+        },
+        Verdict::Pass => {
+            changes::clear(blocks, votes);
+            *blocks_used = 1;
+            *votes_used = 0;
+            Moved {
+                reply: Reply::Done,
+                clock: Clock {
+                    seen: 2,
+                    done: 2,
+                    merged: 0,
+                    proposed: 0,
+                },
+            }
+        }
+    }
+}
+
+// The clock after a packet, which came into view or not. One that did is of the beat's slot.
+fn received_clock(clock: Clock, beat: u64, brought: bool) -> Clock
+    ensures { λ r. ⌜ r ≡ record { seen = beat; done = clock .done; merged = clock .merged; proposed = cond brought (beat / 3) (clock .proposed) } ⌝ }
+{
+    if brought {
+        return Clock {
+            seen: beat,
+            done: clock.done,
+            merged: clock.merged,
+            proposed: beat / 3,
+        };
+    }
+    Clock {
+        seen: beat,
+        done: clock.done,
+        merged: clock.merged,
+        proposed: clock.proposed,
+    }
+}
+
+// New entries wait at the tables' ends; the slot's first proposal comes into view with all that it stands on.
+// The answer says how many entries were new, and whether the packet came into view.
+pub fn receive(
+    settings: Settings,
+    clock: Clock,
+    blocks: &mut [u64],
+    blocks_used: &mut usize,
+    votes: &mut [u64],
+    votes_used: &mut usize,
+    beat: u64,
+    bytes: &[u8],
+) -> Moved
+    ensures { λ r. ⌜ Receives settings (lent (now (blocks .entry)) (now (votes .entry)) (now («blocks_used» .entry)) (now («votes_used» .entry)) clock)
+        beat (now (bytes .entry))
+        (lent (now (blocks .exit)) (now (votes .exit)) (now («blocks_used» .exit)) (now («votes_used» .exit)) (r .clock)) (r .reply) ⌝ }
+{
+    let block_rows = *blocks_used;
+    let vote_rows = *votes_used;
+    let verdict = verdicts::receive_verdict(
+        settings,
+        clock,
+        blocks,
+        block_rows,
+        votes,
+        vote_rows,
+        beat,
+        bytes,
+    );
+    match verdict {
+        Verdict::Refuse(refusal) => Moved {
+            reply: Reply::Refused(refusal),
+            clock,
+        },
+        Verdict::Pass => {
+            let brought = receiving::brings(clock, beat, bytes);
+            receiving::receive_blocks(blocks, blocks_used, bytes, brought);
+            receiving::receive_votes(votes, votes_used, bytes, brought);
+            let new_blocks = *blocks_used - block_rows;
+            let new_votes = *votes_used - vote_rows;
+            Moved {
+                reply: Reply::Received(Taken {
+                    new_blocks: new_blocks as u64,
+                    new_votes: new_votes as u64,
+                    brought,
+                }),
+                clock: received_clock(clock, beat, brought),
+            }
+        }
+    }
+}
+
+// A new block on the base; the whole store comes into view. The answer is the base.
+pub fn propose(
+    settings: Settings,
+    clock: Clock,
+    blocks: &mut [u64],
+    blocks_used: &mut usize,
+    votes: &mut [u64],
+    votes_used: &mut usize,
+    beat: u64,
+    number: u64,
+) -> Moved
+    ensures { λ r. ⌜ Proposes settings (lent (now (blocks .entry)) (now (votes .entry)) (now («blocks_used» .entry)) (now («votes_used» .entry)) clock)
+        beat number
+        (lent (now (blocks .exit)) (now (votes .exit)) (now («blocks_used» .exit)) (now («votes_used» .exit)) (r .clock)) (r .reply) ⌝ }
+{
+    let block_rows = *blocks_used;
+    let vote_rows = *votes_used;
+    let verdict = verdicts::propose_verdict(
+        settings,
+        clock,
+        blocks,
+        block_rows,
+        votes,
+        vote_rows,
+        beat,
+        number,
+    );
+    match verdict {
+        Verdict::Refuse(refusal) => Moved {
+            reply: Reply::Refused(refusal),
+            clock,
+        },
+        Verdict::Pass => {
+            let slot = beat / 3;
+            let base = choice::base(settings, blocks, block_rows, votes, vote_rows, slot);
+            changes::show_all_blocks(blocks, block_rows);
+            changes::append_block(
+                blocks,
+                blocks_used,
+                Block {
+                    number,
+                    parent: base,
+                    slot,
+                },
+                true,
+            );
+            changes::show_all_votes(votes, vote_rows);
+            Moved {
+                reply: Reply::Block(base),
+                clock: Clock {
+                    seen: beat,
+                    done: beat,
+                    merged: clock.merged,
+                    proposed: slot,
+                },
+            }
+        }
+    }
+}
+
+// The own vote for the head, which waits. The answer is the head.
+pub fn vote(
+    settings: Settings,
+    clock: Clock,
+    blocks: &mut [u64],
+    blocks_used: &mut usize,
+    votes: &mut [u64],
+    votes_used: &mut usize,
+    beat: u64,
+) -> Moved
+    ensures { λ r. ⌜ Votes settings (lent (now (blocks .entry)) (now (votes .entry)) (now («blocks_used» .entry)) (now («votes_used» .entry)) clock)
+        beat
+        (lent (now (blocks .exit)) (now (votes .exit)) (now («blocks_used» .exit)) (now («votes_used» .exit)) (r .clock)) (r .reply) ⌝ }
+{
+    let block_rows = *blocks_used;
+    let vote_rows = *votes_used;
+    let verdict = verdicts::vote_verdict(
+        settings,
+        clock,
+        blocks,
+        block_rows,
+        votes,
+        vote_rows,
+        beat,
+    );
+    match verdict {
+        Verdict::Refuse(refusal) => Moved {
+            reply: Reply::Refused(refusal),
+            clock,
+        },
+        Verdict::Pass => {
+            let slot = beat / 3;
+            let head = choice::head(settings, blocks, block_rows, votes, vote_rows, slot);
+            changes::append_vote(
+                votes,
+                votes_used,
+                Vote {
+                    voter: settings.own,
+                    slot,
+                    number: head,
+                },
+                false,
+            );
+            Moved {
+                reply: Reply::Block(head),
+                clock: Clock {
+                    seen: beat,
+                    done: beat,
+                    merged: clock.merged,
+                    proposed: clock.proposed,
+                },
+            }
+        }
+    }
+}
+
+// All waiting entries come into view.
+pub fn merge(
+    settings: Settings,
+    clock: Clock,
+    blocks: &mut [u64],
+    blocks_used: &mut usize,
+    votes: &mut [u64],
+    votes_used: &mut usize,
+    beat: u64,
+) -> Moved
+    ensures { λ r. ⌜ Merges settings (lent (now (blocks .entry)) (now (votes .entry)) (now («blocks_used» .entry)) (now («votes_used» .entry)) clock)
+        beat
+        (lent (now (blocks .exit)) (now (votes .exit)) (now («blocks_used» .exit)) (now («votes_used» .exit)) (r .clock)) (r .reply) ⌝ }
+{
+    let block_rows = *blocks_used;
+    let vote_rows = *votes_used;
+    let verdict = verdicts::merge_verdict(
+        settings,
+        clock,
+        blocks,
+        block_rows,
+        votes,
+        vote_rows,
+        beat,
+    );
+    match verdict {
+        Verdict::Refuse(refusal) => Moved {
+            reply: Reply::Refused(refusal),
+            clock,
+        },
+        Verdict::Pass => {
+            changes::show_all_blocks(blocks, block_rows);
+            changes::show_all_votes(votes, vote_rows);
+            Moved {
+                reply: Reply::Done,
+                clock: Clock {
+                    seen: beat,
+                    done: beat,
+                    merged: beat / 3,
+                    proposed: clock.proposed,
+                },
+            }
+        }
+    }
+}
+
+// ---- the clock moved on in place
+
+// The call that is asked for. The bytes are Receive's; the other calls do not look at them.
+pub fn carried(
+    settings: Settings,
+    clock: Clock,
+    blocks: &mut [u64],
+    blocks_used: &mut usize,
+    votes: &mut [u64],
+    votes_used: &mut usize,
+    call: Call,
+    beat: u64,
+    bytes: &[u8],
+) -> Moved
+    ensures { λ r. ⌜ Carries settings (lent (now (blocks .entry)) (now (votes .entry)) (now («blocks_used» .entry)) (now («votes_used» .entry)) clock)
+        call beat (now (bytes .entry))
+        (lent (now (blocks .exit)) (now (votes .exit)) (now («blocks_used» .exit)) (now («votes_used» .exit)) (r .clock)) (r .reply) ⌝ }
+{
+    match call {
+        Call::Receive => receive(
+            settings,
+            clock,
+            blocks,
+            blocks_used,
+            votes,
+            votes_used,
+            beat,
+            bytes,
+        ),
+        Call::Propose(number) => propose(
+            settings,
+            clock,
+            blocks,
+            blocks_used,
+            votes,
+            votes_used,
+            beat,
+            number,
+        ),
+        Call::Vote => vote(
+            settings,
+            clock,
+            blocks,
+            blocks_used,
+            votes,
+            votes_used,
+            beat,
+        ),
+        Call::Merge => merge(
+            settings,
+            clock,
+            blocks,
+            blocks_used,
+            votes,
+            votes_used,
+            beat,
+        ),
+    }
+}
+
+// The same, with the clock lent: every call that carries a beat moves it on in place.
+pub fn carry(
+    settings: Settings,
+    clock: &mut Clock,
+    blocks: &mut [u64],
+    blocks_used: &mut usize,
+    votes: &mut [u64],
+    votes_used: &mut usize,
+    call: Call,
+    beat: u64,
+    bytes: &[u8],
+) -> Reply
+    ensures { λ r. ⌜ Carries settings (lent (now (blocks .entry)) (now (votes .entry)) (now («blocks_used» .entry)) (now («votes_used» .entry)) (now (clock .entry)))
+        call beat (now (bytes .entry))
+        (lent (now (blocks .exit)) (now (votes .exit)) (now («blocks_used» .exit)) (now («votes_used» .exit)) (now (clock .exit))) r ⌝ }
+{
+    let m = carried(
+        settings,
+        *clock,
+        blocks,
+        blocks_used,
+        votes,
+        votes_used,
+        call,
+        beat,
+        bytes,
+    );
+    *clock = m.clock;
+    m.reply
+}

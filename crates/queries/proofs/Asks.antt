@@ -1,0 +1,70 @@
+-- Head, Deep and Fast, from the verdict that code found and the block that it found. Assumes nothing.
+use Prim.Native.Nat.{ℕ, _+_, _/_, _^_, _<_}
+use mathlib.Core.Path.{_≡_, ap, sym, _∙_}
+use mathlib.Core.Bool.{not, _||_}
+use native.Mathlib.Omega.{arith}
+use lib.Dec.{eqb, ltb}
+use borrow.Author.Tests.{ltb-false}
+use Rattle.protocol.specs.declared.Settings.{Settings}
+use Rattle.protocol.specs.Filters.{Choice, chosen}
+use Rattle.protocol.specs.Walk as walk
+use Rattle.protocol.specs.Confirm as confirm
+use Rattle.protocol.specs.Store.{inView}
+use Rattle.protocol.specs.Sound.{sound}
+use Rattle.protocol.specs.Refusal.{done}
+use Rattle.protocol.specs.Calls.Vote.{headOf}
+use Rattle.protocol.specs.Calls.Query.{queryTests, deepOf, fastOf, fastQuery}
+use Rattle.protocol.specs.Lent.{Lent, rowsOf, makeBlock, makeVote, placesOf, nodeOf, askLent}
+use Rattle.protocol.proofs.Basics.Tests.{neither}
+use Rattle.protocol.proofs.Calls.Refusal.{passed}
+use Rattle.verdicts.specs.declared.Refusal.{Refusal}
+use Rattle.verdicts.specs.declared.Verdict.{Verdict}
+use Rattle.verdicts.specs.declared.Verdict.the-variants.{Pass, Refuse}
+use Rattle.verdicts.specs.Verdict.{verdictOf}
+use Rattle.verdicts.specs.Lent.{lentVerdict}
+use Rattle.verdicts.proofs.Passed.{passes, pass-ready}
+use Rattle.verdicts.proofs.Calls.{head-refused, head-done, deep-refused, deep-done, fast-refused, fast-done}
+use Rattle.answers.specs.declared.Answer.the-variants as answer
+use Rattle.answers.specs.Answers.{mapReply}
+use Rattle.answers.specs.Promises.{IsHead, IsDeep, IsFast}
+use Rattle.answers.proofs.Verdict.{said}
+
+module _ (s : Settings) (slot : ℕ) (m : Lent) {v : Verdict} (h : verdictOf v ≡ lentVerdict s (λ p x. queryTests s p x slot) m) where
+  -- the slot was seen, so it is far below the width of a word
+  pub slot-bound : v ≡ Pass → slot + 1 < 2 ^ 64
+  unfolding queryTests nodeOf
+  slot-bound e =
+      let a = passed 6 (not (sound s (placesOf m) (nodeOf m))) _ (passes s _ m (said Pass h e) .1) in
+      let b = passed 17 (eqb slot 0 || ltb (m .clock .seen / 3) slot) _ (a .1) in
+      let seen = ltb-false (m .clock .seen / 3) slot (neither (eqb slot 0) (ltb (m .clock .seen / 3) slot) (b .0) .1) in
+      omega (arith, seen, pass-ready s _ m (said Pass h e) .clock)
+
+  pub head-leaves : {e : Refusal} → v ≡ Refuse e → IsHead s m slot (answer.Refused e)
+  unfolding mapReply
+  head-leaves e = ap (mapReply chosen) (sym (head-refused s m slot _ (said (Refuse _) h e)))
+
+  pub deep-leaves : {e : Refusal} → v ≡ Refuse e → IsDeep s m slot (answer.Refused e)
+  unfolding mapReply
+  deep-leaves e = ap (mapReply chosen) (sym (deep-refused s m slot _ (said (Refuse _) h e)))
+
+  pub fast-leaves : {e : Refusal} → v ≡ Refuse e → IsFast s m slot (answer.Refused e)
+  fast-leaves e = sym (fast-refused s m slot _ (said (Refuse _) h e))
+
+  pub head-answers : {b : ℕ} → v ≡ Pass
+      → b ≡ walk.head (inView (rowsOf makeBlock (m .blocks) (m .blocksUsed))) (inView (rowsOf makeVote (m .votes) (m .votesUsed))) (s .nodes) (s .expiry) slot
+      → IsHead s m slot (answer.Block b)
+  unfolding headOf nodeOf mapReply
+  head-answers e f = ap (λ (x : ℕ). done (chosen x)) f ∙ ap (mapReply chosen) (sym (head-done s m slot (said Pass h e)))
+
+  pub deep-answers : {b : ℕ} → v ≡ Pass
+      → b ≡ confirm.deep (inView (rowsOf makeBlock (m .blocks) (m .blocksUsed))) (inView (rowsOf makeVote (m .votes) (m .votesUsed))) (s .nodes) (s .expiry) (s .depth) slot
+      → IsDeep s m slot (answer.Block b)
+  unfolding deepOf nodeOf mapReply
+  deep-answers e f = ap (λ (x : ℕ). done (chosen x)) f ∙ ap (mapReply chosen) (sym (deep-done s m slot (said Pass h e)))
+
+  -- a block, or nothing
+  pub fast-answers : {c : Choice} → v ≡ Pass
+      → c ≡ confirm.fast (inView (rowsOf makeBlock (m .blocks) (m .blocksUsed))) (inView (rowsOf makeVote (m .votes) (m .votesUsed))) (s .nodes) slot
+      → done c ≡ askLent s (λ p x. fastQuery s p x slot) m
+  unfolding fastOf nodeOf
+  fast-answers e f = ap done f ∙ sym (fast-done s m slot (said Pass h e))

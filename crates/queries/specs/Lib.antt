@@ -1,0 +1,1 @@
+-- The questions need no definitions of their own: their promises are in `answers`. Assumes nothing.

@@ -1,0 +1,101 @@
+// Head, Deep and Fast: questions about a slot, over the view. The memory is only read.
+// Each takes any memory that a caller may lend: the verdict comes first.
+use answers::Answer;
+use protocol::Clock;
+use protocol::Settings;
+use verdicts::Verdict;
+ghost use Rattle.verdicts.specs.Lent.{lent};
+ghost use Rattle.answers.specs.Promises.{IsHead, IsDeep, IsFast};
+
+// The head of a slot.
+pub fn head(
+    settings: Settings,
+    clock: Clock,
+    blocks: &[u64],
+    blocks_used: usize,
+    votes: &[u64],
+    votes_used: usize,
+    slot: u64,
+) -> Answer
+    ensures { λ r. ⌜ IsHead settings (lent (now (blocks .entry)) (now (votes .entry)) «blocks_used» «votes_used» clock) slot r ⌝ }
+{
+    let verdict = verdicts::query_verdict(
+        settings,
+        clock,
+        blocks,
+        blocks_used,
+        votes,
+        votes_used,
+        slot,
+    );
+    match verdict {
+        Verdict::Refuse(refusal) => Answer::Refused(refusal),
+        Verdict::Pass => {
+            let found = choice::head(settings, blocks, blocks_used, votes, votes_used, slot);
+            Answer::Block(found)
+        }
+    }
+}
+
+// The deep block of a slot.
+pub fn deep(
+    settings: Settings,
+    clock: Clock,
+    blocks: &[u64],
+    blocks_used: usize,
+    votes: &[u64],
+    votes_used: usize,
+    slot: u64,
+) -> Answer
+    ensures { λ r. ⌜ IsDeep settings (lent (now (blocks .entry)) (now (votes .entry)) «blocks_used» «votes_used» clock) slot r ⌝ }
+{
+    let verdict = verdicts::query_verdict(
+        settings,
+        clock,
+        blocks,
+        blocks_used,
+        votes,
+        votes_used,
+        slot,
+    );
+    match verdict {
+        Verdict::Refuse(refusal) => Answer::Refused(refusal),
+        Verdict::Pass => {
+            let found = confirm::deep(settings, blocks, blocks_used, votes, votes_used, slot);
+            Answer::Block(found)
+        }
+    }
+}
+
+// The fast block of a slot, or Nothing.
+pub fn fast(
+    settings: Settings,
+    clock: Clock,
+    blocks: &[u64],
+    blocks_used: usize,
+    votes: &[u64],
+    votes_used: usize,
+    slot: u64,
+) -> Answer
+    ensures { λ r. ⌜ IsFast settings (lent (now (blocks .entry)) (now (votes .entry)) «blocks_used» «votes_used» clock) slot r ⌝ }
+{
+    let verdict = verdicts::query_verdict(
+        settings,
+        clock,
+        blocks,
+        blocks_used,
+        votes,
+        votes_used,
+        slot,
+    );
+    match verdict {
+        Verdict::Refuse(refusal) => Answer::Refused(refusal),
+        Verdict::Pass => {
+            let found = confirm::fast(settings, blocks, blocks_used, votes, votes_used, slot);
+            match found {
+                confirm::Answer::Chosen(number) => Answer::Block(number),
+                confirm::Answer::Nothing => Answer::Nothing,
+            }
+        }
+    }
+}

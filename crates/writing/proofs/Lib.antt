@@ -1,0 +1,2 @@
+-- The proof of Write. Assumes nothing.
+pub mod Packet

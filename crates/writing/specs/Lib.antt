@@ -1,0 +1,1 @@
+-- Write needs no definitions of its own: its promise is in `answers`. Assumes nothing.

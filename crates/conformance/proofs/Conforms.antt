@@ -1,0 +1,69 @@
+-- Every run of the code is a run of `resilience`, and so reorg resilience holds of what the code answers. Assumes nothing.
+use Prim.Native.Nat.{ℕ}
+use mathlib.Core.Path.{_≡_, refl, sym, subst}
+use mathlib.Core.Bool.{Bool, true, false, cond}
+use mathlib.Core.List.{[]}
+use lib.Dec.{T}
+use Rattle.protocol.specs.Lent.{Lent, nodeOf}
+use Rattle.answers.specs.declared.Reply.the-variants as reply
+use Rattle.answers.specs.Promises.{Opens}
+use Rattle.resilience.specs.Run as model
+use Rattle.resilience.specs.Run.{World, Run, settings, isHonest}
+use Rattle.resilience.specs.Resilience.{Opened, Resilience}
+use Rattle.resilience.proofs.Steps.Allowed.{is-true, truth}
+use Rattle.resilience.proofs.Resilient.{resilient}
+use Rattle.conformance.specs.State.{Deployment, State, network, decoded}
+use Rattle.conformance.specs.CodeRun.{CodeRun, opened, then}
+use Rattle.conformance.specs.Conformance.{Conformance, CodeResilience}
+use Rattle.conformance.proofs.Memory.{opened-done, opened-node, opened-healthy}
+use Rattle.conformance.proofs.Steps.{AllHealthy, follows}
+
+-- what holds at every point of a run of the code
+pub record Conforming (D : Deployment) (w : State) : Type 0 where
+  pub opened : Opened (network D)
+  pub run : Run (network D) (decoded D w)
+  pub healthy : AllHealthy D w
+
+-- ---- the start
+
+module _ (D : Deployment) (memory : ℕ → Lent)
+    (O : (i : ℕ) → T (isHonest (network D) i) → Opens (settings (network D) i) (D .lent i) (memory i) reply.Done) where
+  -- an honest node is as Open leaves it
+  starts : (i : ℕ) (b : Bool) → isHonest (network D) i ≡ b
+      → cond b (nodeOf (memory i)) (model.start (network D) .node i) ≡ model.start (network D) .node i
+  starts i true h = opened-node (settings (network D) i) (D .lent i) (memory i) (O i (truth h))
+  starts i false h = refl
+
+  pub start-world : model.start (network D) ≡ decoded D (record { beat = 2; memory = memory; turn = λ i. model.ahead; log = [] })
+  start-world = λ k. record { beat = 2; node = λ i. sym (starts i (isHonest (network D) i) refl) k; turn = λ i. model.ahead; log = [] }
+
+  starting : Conforming D (record { beat = 2; memory = memory; turn = λ i. model.ahead; log = [] })
+  unfolding Opened
+  starting = record {
+    opened = λ i h. opened-done (settings (network D) i) (D .lent i) (memory i) (O i h);
+    run = subst (λ (o : World). Run (network D) o) start-world model.opened;
+    healthy = λ i h. opened-healthy (settings (network D) i) (D .lent i) (memory i) (O i (truth h));
+  }
+
+-- ---- the steps
+
+pub conforming : (D : Deployment) (w : State) → CodeRun D w → Conforming D w
+conforming D w (opened memory O) = starting D memory O
+conforming D w (then {w = v} R s a c) = next (conforming D v R)
+  where
+    next : Conforming D v → Conforming D w
+    next C =
+        let F = follows D v (C .healthy) s w (is-true _ a) c in
+        record {
+          opened = C .opened;
+          run = subst (λ (o : World). Run (network D) o) (F .world) (model.then (C .run) s a);
+          healthy = F .healthy;
+        }
+
+pub conforms : Conformance
+unfolding Conformance
+conforms D w R = let C = conforming D w R in (C .opened, C .run)
+
+pub code-resilient : CodeResilience
+unfolding CodeResilience Resilience
+code-resilient D w R = let C = conforming D w R in resilient (network D) (C .opened) (decoded D w) (C .run)

@@ -1,0 +1,128 @@
+-- Every call has an answer and a memory that meet its promise: each refusal number of its tests is that of a refusal of the code. Assumes nothing.
+use Prim.Native.Nat.{ℕ}
+use mathlib.Core.Path.{_≡_, refl, sym, ap}
+use mathlib.Core.Bool.{Bool, true, false, cond}
+use mathlib.Core.List.{List, [], _∷_, List·Memᴰ·head, Memᴰ·append-right}
+use lib.Dec.{eqb}
+use borrow.Author.Tests.{eqb-true}
+use Rattle.protocol.specs.declared.Settings.{Settings}
+use Rattle.protocol.specs.Lists.{any, all}
+use Rattle.protocol.specs.Store.{Places, Node}
+use Rattle.protocol.specs.Refusal.{Test, test, refused, done, Outcome}
+use Rattle.protocol.specs.Refusal as rules
+use Rattle.protocol.specs.Calls.Receive.{receiveTests}
+use Rattle.protocol.specs.Calls.Propose.{proposeTests}
+use Rattle.protocol.specs.Calls.Vote.{voteTests}
+use Rattle.protocol.specs.Calls.Merge.{mergeTests}
+use Rattle.protocol.specs.Calls.Write.{write, writeTests}
+use Rattle.protocol.specs.Lent.{Lent, placesOf, nodeOf, lentSound, leave, onLent, callLent, writeLent}
+use Rattle.protocol.proofs.Basics.Members.{any-true, all-true}
+use Rattle.protocol.proofs.Calls.Refusal.{FirstThat, Decided, carried, declined, receive-decided, propose-decided, vote-decided, merge-decided, write-decided}
+use Rattle.verdicts.specs.declared.Refusal.{Refusal}
+use Rattle.verdicts.specs.declared.Refusal.the-variants as refusal
+use Rattle.verdicts.specs.Verdict.{numberOf}
+use Rattle.answers.specs.Answers.{Value, nothingMore, received, block, replyOf, writtenOf, mapReply}
+use Rattle.answers.specs.declared.Reply.{Reply}
+use Rattle.answers.specs.declared.Reply.the-variants as reply
+use Rattle.answers.specs.declared.Written.{Written}
+use Rattle.answers.specs.declared.Written.the-variants as written
+use Rattle.answers.specs.Promises.{Leaves, Receives, Proposes, Votes, Merges, Writes}
+
+-- ---- refusals
+
+-- the refusals of the calls after Open
+abbrev refusals : List Refusal
+refusals =
+    refusal.Unsound ∷ refusal.Beat ∷ refusal.Form ∷ refusal.Entry ∷ refusal.Places ∷ refusal.Phase ∷ refusal.Done ∷ refusal.Joined
+    ∷ refusal.Proposer ∷ refusal.Number ∷ refusal.Voted ∷ refusal.Buffer ∷ refusal.Proposal ∷ []
+
+abbrev isNumber : ℕ → Bool
+isNumber k = any (λ e. eqb (numberOf e) k) refusals
+
+refusal-of : (k : ℕ) → isNumber k ≡ true → (e : Refusal) × (numberOf e ≡ k)
+refusal-of k h = let f = any-true (λ e. eqb (numberOf e) k) refusals h in (f .0, eqb-true (numberOf (f .0)) k (f .2))
+
+first-number : (ts : List Test) (k : ℕ) → all (λ t. isNumber (t .refusal)) ts ≡ true → FirstThat ts k → isNumber k ≡ true
+first-number ts k h F =
+    all-true (λ t. isNumber (t .refusal)) h (test k true) (rw (F .is) (Memᴰ·append-right (F .before) (List·Memᴰ·head refl)))
+
+-- ---- calls that change the memory
+
+answerWith : Value → Reply
+answerWith nothingMore = reply.Done
+answerWith (received t) = reply.Received (record { «new_blocks» = t .newBlocks; «new_votes» = t .newVotes; brought = t .brought })
+answerWith (block b) = reply.Block b
+
+answer-with : (a : Value) → replyOf (answerWith a) ≡ done a
+unfolding answerWith
+answer-with nothingMore = refl
+answer-with (received t) = refl
+answer-with (block b) = refl
+
+module _ {A : Type 0} (value : A → Value) where
+  abbrev HasAnswer : rules.Reply A → Type 0
+  HasAnswer o = (r : Reply) × (replyOf r ≡ mapReply value o)
+
+  refused-answer : (k : ℕ) → isNumber k ≡ true → HasAnswer (refused k)
+  unfolding mapReply
+  refused-answer k h = let f = refusal-of k h in (reply.Refused (f .0), ap refused (f .1))
+
+  done-answer : (a : A) → HasAnswer (done a)
+  unfolding mapReply
+  done-answer a = (answerWith (value a), answer-with (value a))
+
+  decided-answer : (ts : List Test) (a : A) (o : rules.Reply A) → all (λ t. isNumber (t .refusal)) ts ≡ true → Decided ts a o → HasAnswer o
+  decided-answer ts a o h (carried f e) = rw e (done-answer a)
+  decided-answer ts a o h (declined k F e) = rw e (refused-answer k (first-number ts k h F))
+
+  module _ (s : Settings) (call : Places → Node → Outcome A) (m : Lent) (f : HasAnswer (call (placesOf m) (nodeOf m) .reply)) where
+    left-answer : (o : rules.Reply A) (x : Node) → HasAnswer o → HasAnswer (leave o x m .reply)
+    unfolding leave
+    left-answer (refused k) x g = g
+    left-answer (done a) x g = g
+
+    on-answer : (b : Bool) → HasAnswer (onLent b call m .reply)
+    unfolding onLent any
+    on-answer true = left-answer (call (placesOf m) (nodeOf m) .reply) (call (placesOf m) (nodeOf m) .node) f
+    on-answer false = refused-answer 6 refl
+
+    met : (y : Lent) × (r : Reply) × Leaves value (callLent s call m) y r
+    unfolding callLent
+    met = let g = on-answer (lentSound s m) in (callLent s call m .lent, g .0, record { memory = refl; reply = g .1 })
+
+module _ (s : Settings) (m : Lent) where
+  pub receive-met : (beat : ℕ) (bytes : List ℕ) → (y : Lent) × (r : Reply) × Receives s m beat bytes y r
+  unfolding receiveTests any all
+  receive-met beat bytes = met received s _ m (decided-answer received _ _ _ refl (receive-decided s (placesOf m) (nodeOf m) beat bytes))
+
+  pub propose-met : (beat number : ℕ) → (y : Lent) × (r : Reply) × Proposes s m beat number y r
+  unfolding proposeTests any all
+  propose-met beat number = met block s _ m (decided-answer block _ _ _ refl (propose-decided s (placesOf m) (nodeOf m) beat number))
+
+  pub vote-met : (beat : ℕ) → (y : Lent) × (r : Reply) × Votes s m beat y r
+  unfolding voteTests any all
+  vote-met beat = met block s _ m (decided-answer block _ _ _ refl (vote-decided s (placesOf m) (nodeOf m) beat))
+
+  pub merge-met : (beat : ℕ) → (y : Lent) × (r : Reply) × Merges s m beat y r
+  unfolding mergeTests any all
+  merge-met beat = met (λ t. nothingMore) s _ m (decided-answer (λ t. nothingMore) _ _ _ refl (merge-decided s (placesOf m) (nodeOf m) beat))
+
+  -- ---- Write
+
+  abbrev HasLength : rules.Reply ℕ → Type 0
+  HasLength o = (r : Written) × (writtenOf r ≡ o)
+
+  refused-length : (k : ℕ) → isNumber k ≡ true → HasLength (refused k)
+  refused-length k h = let f = refusal-of k h in (written.Refused (f .0), ap refused (f .1))
+
+  decided-length : (ts : List Test) (n : ℕ) (o : rules.Reply ℕ) → all (λ t. isNumber (t .refusal)) ts ≡ true → Decided ts n o → HasLength o
+  decided-length ts n o h (carried f e) = (written.Length n, sym e)
+  decided-length ts n o h (declined k F e) = rw e (refused-length k (first-number ts k h F))
+
+  pub write-met : (proposal : Bool) (old : List ℕ) → (new : List ℕ) × (r : Written) × Writes s m proposal old new r
+  unfolding writeLent writeTests any all
+  write-met proposal old = let g = go (lentSound s m) in (_, g .0, record { buffer = refl; length = g .1 })
+    where
+      go : (b : Bool) → HasLength (cond b (write s (placesOf m) (nodeOf m) proposal old) (record { reply = refused 6; buffer = old }) .reply)
+      go true = decided-length _ _ _ refl (write-decided s (placesOf m) (nodeOf m) proposal old)
+      go false = refused-length 6 refl

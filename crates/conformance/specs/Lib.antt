@@ -1,0 +1,4 @@
+-- Runs of the code, and what is claimed of them. Assumes nothing.
+pub mod State
+pub mod CodeRun
+pub mod Conformance

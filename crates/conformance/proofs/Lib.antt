@@ -6,3 +6,4 @@ pub mod Conforms
 pub mod Promises
 pub mod Completes
 pub mod Contracts
+pub mod Witness

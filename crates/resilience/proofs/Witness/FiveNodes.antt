@@ -134,7 +134,7 @@ pub record Conclusion : Type 0 where
   pub base-3 : (i x y : ℕ) → List·Memᴰ (built 9 i x y) (end .log) → AtOrAbove (end .log) 21 y
   pub base-4 : (i x y : ℕ) → List·Memᴰ (built 12 i x y) (end .log) → AtOrAbove (end .log) 21 y
 
-met : meetsTest five acts 6 2 21 11 ≡ true
+pub met : meetsTest five acts 6 2 21 11 ≡ true
 unfolding meetsTest acts
 met = refl
 

@@ -43,6 +43,7 @@ use Rattle.verdicts.proofs.Lent.{open-refused, open-done}
 use Rattle.verdicts.proofs.Calls.{receive-refused, receive-done, propose-refused, propose-done, vote-refused, vote-done, merge-refused, merge-done}
 use Rattle.answers.specs.declared.Call.{Call}
 use Rattle.answers.specs.declared.Call.the-variants as call
+use Rattle.answers.specs.declared.Moved.{Moved}
 use Rattle.answers.specs.declared.Reply.{Reply}
 use Rattle.answers.specs.declared.Reply.the-variants as reply
 use Rattle.answers.specs.Answers.{received, block}
@@ -54,9 +55,9 @@ use Rattle.node.proofs.Tables.{store-is, room, length-more, length-rece
 -- ---- Open
 
 module _ (s : Settings) (m : Lent) {v : Verdict} (h : verdictOf v ≡ first (openTests s (record { blocks = placesIn (m .blocks); votes = placesIn (m .votes) }))) where
-  pub open-leaves : {e : Refusal} → v ≡ Refuse e → Opens s m m (reply.Refused e)
+  pub open-leaves : {e : Refusal} {r : Moved} → v ≡ Refuse e → r ≡ record { reply = reply.Refused e; clock = m .clock } → Opens s m (lent (m .blocks) (m .votes) (m .blocksUsed) (m .votesUsed) (r .clock)) (r .reply)
   unfolding placesOf
-  open-leaves e = left-refused (open-refused s m _ (said (Refuse _) h e))
+  open-leaves e f = left-refused (open-refused s m _ (said (Refuse _) h e)) f
 
   pub open-clears : {x : Lent} → v ≡ Pass → x ≡ cleared m → Opens s m x reply.Done
   unfolding placesOf
@@ -98,8 +99,8 @@ votes-grow ws n p brought h =
     omega (arith, h .used, length-received (λ a. brought && any (sameVote a) (p .votes)) R (votesAfter (onlyVotes R) p), length-rowsOf makeVote ws n)
 
 module _ (s : Settings) (m : Lent) (beat : ℕ) (bytes : List ℕ) {v : Verdict} (h : verdictOf v ≡ lentVerdict s (λ p x. receiveTests s p x beat bytes) m) where
-  pub receive-leaves : {e : Refusal} → v ≡ Refuse e → Receives s m beat bytes m (reply.Refused e)
-  receive-leaves e = left-refused (receive-refused s m beat bytes _ (said (Refuse _) h e))
+  pub receive-leaves : {e : Refusal} {r : Moved} → v ≡ Refuse e → r ≡ record { reply = reply.Refused e; clock = m .clock } → Receives s m beat bytes (lent (m .blocks) (m .votes) (m .blocksUsed) (m .votesUsed) (r .clock)) (r .reply)
+  receive-leaves e f = left-refused (receive-refused s m beat bytes _ (said (Refuse _) h e)) f
 
   tests-passed : v ≡ Pass → passed.Receives s (placesOf m) (nodeOf m) beat bytes
   tests-passed e = passed.receives s (placesOf m) (nodeOf m) beat bytes (passes s _ m (said Pass h e) .1)
@@ -141,8 +142,8 @@ module _ (s : Settings) (m : Lent) (beat : ℕ) (bytes : List ℕ) {v : Verdict}
 -- ---- Propose
 
 module _ (s : Settings) (m : Lent) (beat number : ℕ) {v : Verdict} (h : verdictOf v ≡ lentVerdict s (λ p x. proposeTests s p x beat number) m) where
-  pub propose-leaves : {e : Refusal} → v ≡ Refuse e → Proposes s m beat number m (reply.Refused e)
-  propose-leaves e = left-refused (propose-refused s m beat number _ (said (Refuse _) h e))
+  pub propose-leaves : {e : Refusal} {r : Moved} → v ≡ Refuse e → r ≡ record { reply = reply.Refused e; clock = m .clock } → Proposes s m beat number (lent (m .blocks) (m .votes) (m .blocksUsed) (m .votesUsed) (r .clock)) (r .reply)
+  propose-leaves e f = left-refused (propose-refused s m beat number _ (said (Refuse _) h e)) f
 
   pub propose-room : v ≡ Pass → 4 * (m .blocksUsed + 1) ≤ length (m .blocks)
   unfolding placesOf nodeOf
@@ -166,8 +167,8 @@ module _ (s : Settings) (m : Lent) (beat number : ℕ) {v : Verdict} (h : verdic
 -- ---- Vote
 
 module _ (s : Settings) (m : Lent) (beat : ℕ) {v : Verdict} (h : verdictOf v ≡ lentVerdict s (λ p x. voteTests s p x beat) m) where
-  pub vote-leaves : {e : Refusal} → v ≡ Refuse e → Votes s m beat m (reply.Refused e)
-  vote-leaves e = left-refused (vote-refused s m beat _ (said (Refuse _) h e))
+  pub vote-leaves : {e : Refusal} {r : Moved} → v ≡ Refuse e → r ≡ record { reply = reply.Refused e; clock = m .clock } → Votes s m beat (lent (m .blocks) (m .votes) (m .blocksUsed) (m .votesUsed) (r .clock)) (r .reply)
+  vote-leaves e f = left-refused (vote-refused s m beat _ (said (Refuse _) h e)) f
 
   pub vote-room : v ≡ Pass → 4 * (m .votesUsed + 1) ≤ length (m .votes)
   unfolding placesOf nodeOf
@@ -189,8 +190,8 @@ module _ (s : Settings) (m : Lent) (beat : ℕ) {v : Verdict} (h : verdictOf v �
 -- ---- Merge
 
 module _ (s : Settings) (m : Lent) (beat : ℕ) {v : Verdict} (h : verdictOf v ≡ lentVerdict s (λ p x. mergeTests s p x beat) m) where
-  pub merge-leaves : {e : Refusal} → v ≡ Refuse e → Merges s m beat m (reply.Refused e)
-  merge-leaves e = left-refused (merge-refused s m beat _ (said (Refuse _) h e))
+  pub merge-leaves : {e : Refusal} {r : Moved} → v ≡ Refuse e → r ≡ record { reply = reply.Refused e; clock = m .clock } → Merges s m beat (lent (m .blocks) (m .votes) (m .blocksUsed) (m .votesUsed) (r .clock)) (r .reply)
+  merge-leaves e f = left-refused (merge-refused s m beat _ (said (Refuse _) h e)) f
 
   pub merge-stores : {bw vw : List ℕ} → v ≡ Pass
       → bw ≡ stored blockRow (showAll (rowsOf makeBlock (m .blocks) (m .blocksUsed))) (m .blocks)

@@ -8,13 +8,26 @@ use protocol::Block;
 use protocol::Clock;
 use protocol::Settings;
 use protocol::Vote;
+use verdicts::Refusal;
 use verdicts::Verdict;
 ghost use mathlib.Core.Bool.{cond};
 ghost use mathlib.Core.Path.{_≡_};
 ghost use Prim.Native.Nat.{_/_};
 ghost use Rattle.verdicts.specs.Lent.{lent};
+ghost use Rattle.answers.specs.declared.Reply.the-variants.{Refused};
 ghost use Rattle.answers.specs.Promises.{Opens, Receives, Proposes, Votes, Merges, Carries};
 
+// A refused call leaves the clock as it was.
+fn refused(refusal: Refusal, clock: Clock) -> Moved
+    ensures { λ r. ⌜ r ≡ record { reply = Refused refusal; clock = clock } ⌝ }
+{
+    Moved {
+        reply: Reply::Refused(refusal),
+        clock: clock,
+    }
+}
+
+// A fresh node: block 0 alone, every other place zero.
 pub fn open(
     settings: Settings,
     clock: Clock,
@@ -28,10 +41,7 @@ pub fn open(
 {
     let verdict = verdicts::open_verdict(settings, blocks, votes);
     match verdict {
-        Verdict::Refuse(refusal) => Moved {
-            reply: Reply::Refused(refusal),
-            clock,
-        },
+        Verdict::Refuse(refusal) => refused(refusal, clock),
         Verdict::Pass => {
             changes::clear(blocks, votes);
             *blocks_used = 1;
@@ -98,10 +108,7 @@ pub fn receive(
         bytes,
     );
     match verdict {
-        Verdict::Refuse(refusal) => Moved {
-            reply: Reply::Refused(refusal),
-            clock,
-        },
+        Verdict::Refuse(refusal) => refused(refusal, clock),
         Verdict::Pass => {
             let brought = receiving::brings(clock, beat, bytes);
             receiving::receive_blocks(blocks, blocks_used, bytes, brought);
@@ -135,27 +142,24 @@ pub fn propose(
         beat number
         (lent (now (blocks .exit)) (now (votes .exit)) (now («blocks_used» .exit)) (now («votes_used» .exit)) (r .clock)) (r .reply) ⌝ }
 {
-    let block_rows = *blocks_used;
-    let vote_rows = *votes_used;
+    let blocks_before = *blocks_used;
+    let votes_before = *votes_used;
     let verdict = verdicts::propose_verdict(
         settings,
         clock,
         blocks,
-        block_rows,
+        blocks_before,
         votes,
-        vote_rows,
+        votes_before,
         beat,
         number,
     );
     match verdict {
-        Verdict::Refuse(refusal) => Moved {
-            reply: Reply::Refused(refusal),
-            clock,
-        },
+        Verdict::Refuse(refusal) => refused(refusal, clock),
         Verdict::Pass => {
             let slot = beat / 3;
-            let base = choice::base(settings, blocks, block_rows, votes, vote_rows, slot);
-            changes::show_all_blocks(blocks, block_rows);
+            let base = choice::base(settings, blocks, blocks_before, votes, votes_before, slot);
+            changes::show_all_blocks(blocks, blocks_before);
             changes::append_block(
                 blocks,
                 blocks_used,
@@ -166,7 +170,7 @@ pub fn propose(
                 },
                 true,
             );
-            changes::show_all_votes(votes, vote_rows);
+            changes::show_all_votes(votes, votes_before);
             Moved {
                 reply: Reply::Block(base),
                 clock: Clock {
@@ -206,10 +210,7 @@ pub fn vote(
         beat,
     );
     match verdict {
-        Verdict::Refuse(refusal) => Moved {
-            reply: Reply::Refused(refusal),
-            clock,
-        },
+        Verdict::Refuse(refusal) => refused(refusal, clock),
         Verdict::Pass => {
             let slot = beat / 3;
             let head = choice::head(settings, blocks, block_rows, votes, vote_rows, slot);
@@ -262,10 +263,7 @@ pub fn merge(
         beat,
     );
     match verdict {
-        Verdict::Refuse(refusal) => Moved {
-            reply: Reply::Refused(refusal),
-            clock,
-        },
+        Verdict::Refuse(refusal) => refused(refusal, clock),
         Verdict::Pass => {
             changes::show_all_blocks(blocks, block_rows);
             changes::show_all_votes(votes, vote_rows);

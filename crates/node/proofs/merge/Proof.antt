@@ -14,7 +14,7 @@ show-all-votes-requires c κs =
     passed-ready _ _ _ (t .before .before .merge-verdict .ensures) (t .enum-told .given .1) .memory .vote-words
 
 returns : tie.Need-returns
-returns c = merge-leaves _ _ _ (c .before .before .before .merge-verdict .ensures) (c .before .verdict .given .1)
+returns c = merge-leaves _ _ _ (c .before .before .before .before .merge-verdict .ensures) (c .before .before .verdict .given .1) (c .refused .ensures)
 
 returns-2 : tie.Need-returns-2
 returns-2 c =
@@ -29,6 +29,7 @@ merge-spec =
     (tie.spec
     (λ c κs. search needs)
     (λ c. search needs)
+    (λ c κs. search needs)
     (λ c. search needs)
     show-all-blocks-requires
     show-all-votes-requires

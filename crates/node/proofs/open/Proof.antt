@@ -13,7 +13,7 @@ clear-requires c κs =
     open-room _ _ _ (t .before .before .open-verdict .ensures) (t .enum-told .given .1)
 
 returns : tie.Need-returns
-returns c = open-leaves _ _ (c .before .before .before .open-verdict .ensures) (c .before .verdict .given .1)
+returns c = open-leaves _ _ (c .before .before .before .before .open-verdict .ensures) (c .before .before .verdict .given .1) (c .refused .ensures)
 
 returns-2 : tie.Need-returns-2
 unfolding cleared
@@ -29,6 +29,7 @@ open-spec =
     (tie.spec
     (λ c κs. search needs)
     (λ c. search needs)
+    (λ c κs. search needs)
     (λ c. search needs)
     clear-requires
     (λ c. search needs)

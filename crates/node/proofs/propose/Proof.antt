@@ -32,7 +32,7 @@ show-all-votes-requires c κs =
     passed-ready _ _ _ (t .before .before .propose-verdict .ensures) (t .enum-told .given .1) .memory .vote-words
 
 returns : tie.Need-returns
-returns c = propose-leaves _ _ _ _ (c .before .before .before .propose-verdict .ensures) (c .before .verdict .given .1)
+returns c = propose-leaves _ _ _ _ (c .before .before .before .before .propose-verdict .ensures) (c .before .before .verdict .given .1) (c .refused .ensures)
 
 returns-2 : tie.Need-returns-2
 returns-2 c =
@@ -50,6 +50,7 @@ propose-spec =
     (tie.spec
     (λ c κs. search needs)
     (λ c. search needs)
+    (λ c κs. search needs)
     (λ c. search needs)
     base-requires
     show-all-blocks-requires

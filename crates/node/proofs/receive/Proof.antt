@@ -26,7 +26,7 @@ sub-new-votes : tie.Need-sub-new-votes
 sub-new-votes c = votes-grow _ _ _ _ (c .before .before .receive-votes .ensures)
 
 returns : tie.Need-returns
-returns c = receive-leaves _ _ _ _ (c .before .before .before .receive-verdict .ensures) (c .before .verdict .given .1)
+returns c = receive-leaves _ _ _ _ (c .before .before .before .before .receive-verdict .ensures) (c .before .before .verdict .given .1) (c .refused .ensures)
 
 returns-2 : tie.Need-returns-2
 returns-2 c =
@@ -43,6 +43,7 @@ receive-spec =
     (tie.spec
     (λ c κs. search needs)
     (λ c. search needs)
+    (λ c κs. search needs)
     (λ c. search needs)
     (λ c κs. search needs)
     receive-blocks-requires

@@ -17,7 +17,7 @@ append-vote-requires c κs =
     (vote-room _ _ _ h (t .enum-told .given .1), passed-ready _ _ _ h (t .enum-told .given .1) .memory .vote-marks)
 
 returns : tie.Need-returns
-returns c = vote-leaves _ _ _ (c .before .before .before .vote-verdict .ensures) (c .before .verdict .given .1)
+returns c = vote-leaves _ _ _ (c .before .before .before .before .vote-verdict .ensures) (c .before .before .verdict .given .1) (c .refused .ensures)
 
 returns-2 : tie.Need-returns-2
 returns-2 c =
@@ -32,6 +32,7 @@ vote-spec =
     (tie.spec
     (λ c κs. search needs)
     (λ c. search needs)
+    (λ c κs. search needs)
     (λ c. search needs)
     head-requires
     append-vote-requires

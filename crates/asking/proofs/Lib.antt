@@ -1,0 +1,3 @@
+-- Laws of specs/Ask and specs/Answers. Assumes nothing.
+pub mod Gather
+pub mod Steps

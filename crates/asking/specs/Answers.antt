@@ -1,0 +1,23 @@
+-- What the answers of code mean. Assumes nothing.
+use Prim.Native.Nat.{ℕ}
+use mathlib.Core.Path.{_≡_}
+use Rattle.protocol.specs.Filters.{Choice, chosen}
+use Rattle.protocol.specs.Refusal as rules
+use Rattle.confirm.specs.Top.{choiceIn}
+use Rattle.verdicts.specs.Verdict.{numberOf}
+use Rattle.answers.specs.Answers.{mapReply}
+use Rattle.asking.specs.declared.Answers.{Answers}
+use Rattle.asking.specs.declared.Answers.the-variants.{Found, Refused}
+use Rattle.asking.specs.Ask.{Findings, gather}
+
+abbrev pub answersOf : Answers → rules.Reply Findings
+answersOf (Found h d f) = rules.done (record { head = h; deep = d; fast = choiceIn f })
+answersOf (Refused e) = rules.refused (numberOf e)
+
+unfoldable pub verdictIn : {A : Type 0} → rules.Reply A → rules.Verdict
+verdictIn (rules.refused k) = rules.refuse k
+verdictIn (rules.done a) = rules.pass
+
+-- r is what these three answers make, of which Head's and Deep's are a block's
+abbrev pub Gathers : rules.Reply Choice → rules.Reply Choice → rules.Reply Choice → rules.Reply Findings → Type 0
+Gathers head deep fast r = (h d : rules.Reply ℕ) → head ≡ mapReply chosen h → deep ≡ mapReply chosen d → r ≡ gather h d fast

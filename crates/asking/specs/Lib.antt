@@ -1,0 +1,3 @@
+-- What a question is answered. Assumes nothing.
+pub mod Ask
+pub mod Answers

@@ -1,0 +1,323 @@
+// A question to a fresh node and its answers: what the program `chainask` and the program of its cases share.
+// The input is n (1 byte), E and K (2 each), a slot (4), and a packet. Node 0 receives the packet and merges it.
+// The tables and the input take 82 KB of stack.
+use answers::Answer;
+use answers::Reply;
+use protocol::Clock;
+use protocol::Settings;
+use verdicts::Refusal;
+use verdicts::Verdict;
+ghost use mathlib.Core.Bool.{true};
+ghost use mathlib.Core.Path.{_≡_};
+ghost use Prim.Native.Nat.{_^_, _<_};
+ghost use Rattle.protocol.specs.Refusal as rules;
+ghost use Rattle.protocol.specs.Lent.{placesIn, placesOf, nodeOf, lentSound};
+ghost use Rattle.verdicts.specs.Verdict.{numberOf, verdictOf};
+ghost use Rattle.verdicts.specs.Lent.{lent};
+ghost use Rattle.answers.specs.Answers.{replyOf, answerOf};
+ghost use Rattle.asking.specs.Ask.{askAll, mergeAndAsk, receiveAndAsk, openAndAsk, askWith};
+ghost use Rattle.asking.specs.Answers.{answersOf, verdictIn, Gathers};
+
+// The three answers, or the first refusal of a call.
+pub enum Answers {
+    Found {
+        head: u64,
+        deep: u64,
+        fast: confirm::Answer,
+    },
+    Refused(Refusal),
+}
+
+// Document 01's number of a refusal.
+pub fn number(refusal: Refusal) -> u64
+    ensures { λ r. ⌜ r ≡ numberOf refusal ⌝ }
+{
+    match refusal {
+        Refusal::Nodes => 1,
+        Refusal::Own => 2,
+        Refusal::Expiry => 3,
+        Refusal::Depth => 4,
+        Refusal::Length => 5,
+        Refusal::Unsound => 6,
+        Refusal::Beat => 7,
+        Refusal::Form => 8,
+        Refusal::Entry => 9,
+        Refusal::Places => 10,
+        Refusal::Phase => 11,
+        Refusal::Done => 12,
+        Refusal::Joined => 13,
+        Refusal::Proposer => 14,
+        Refusal::Number => 15,
+        Refusal::Voted => 16,
+        Refusal::Slot => 17,
+        Refusal::Buffer => 18,
+        Refusal::Proposal => 19,
+    }
+}
+
+// Whether a call was carried out, or why not.
+pub fn verdict(reply: Reply) -> Verdict
+    ensures { λ r. ⌜ verdictOf r ≡ verdictIn (replyOf reply) ⌝ }
+{
+    match reply {
+        Reply::Done => Verdict::Pass,
+        Reply::Received(_) => Verdict::Pass,
+        Reply::Block(_) => Verdict::Pass,
+        Reply::Refused(refusal) => Verdict::Refuse(refusal),
+    }
+}
+
+// The answers of Head, Deep and Fast together. Head and Deep never answer Nothing.
+fn gathered(head: Answer, deep: Answer, fast: Answer) -> Answers
+    ensures { λ r. ⌜ Gathers (answerOf head) (answerOf deep) (answerOf fast) (answersOf r) ⌝ }
+{
+    match head {
+        Answer::Refused(refusal) => Answers::Refused(refusal),
+        Answer::Nothing => Answers::Refused(Refusal::Slot),
+        Answer::Block(first) => match deep {
+            Answer::Refused(refusal) => Answers::Refused(refusal),
+            Answer::Nothing => Answers::Refused(Refusal::Slot),
+            Answer::Block(second) => match fast {
+                Answer::Refused(refusal) => Answers::Refused(refusal),
+                Answer::Nothing => Answers::Found {
+                    head: first,
+                    deep: second,
+                    fast: confirm::Answer::Nothing,
+                },
+                Answer::Block(third) => Answers::Found {
+                    head: first,
+                    deep: second,
+                    fast: confirm::Answer::Chosen(third),
+                },
+            },
+        },
+    }
+}
+
+fn queried(
+    settings: Settings,
+    clock: Clock,
+    blocks: &[u64],
+    blocks_used: usize,
+    votes: &[u64],
+    votes_used: usize,
+    slot: u64,
+) -> Answers
+    requires { ⌜ lentSound settings (lent (now blocks) (now votes) «blocks_used» «votes_used» clock) ≡ true ⌝ }
+    ensures { λ r. ⌜ answersOf r ≡ askAll settings slot (placesOf (lent (now (blocks .entry)) (now (votes .entry)) «blocks_used» «votes_used» clock))
+        (nodeOf (lent (now (blocks .entry)) (now (votes .entry)) «blocks_used» «votes_used» clock)) ⌝ }
+{
+    let head = queries::head(
+        settings,
+        clock,
+        blocks,
+        blocks_used,
+        votes,
+        votes_used,
+        slot,
+    );
+    let deep = queries::deep(
+        settings,
+        clock,
+        blocks,
+        blocks_used,
+        votes,
+        votes_used,
+        slot,
+    );
+    let fast = queries::fast(
+        settings,
+        clock,
+        blocks,
+        blocks_used,
+        votes,
+        votes_used,
+        slot,
+    );
+    gathered(head, deep, fast)
+}
+
+fn merged(
+    settings: Settings,
+    clock: Clock,
+    blocks: &mut [u64],
+    blocks_used: &mut usize,
+    votes: &mut [u64],
+    votes_used: &mut usize,
+    beat: u64,
+    slot: u64,
+) -> Answers
+    requires { ⌜ lentSound settings (lent (now blocks) (now votes) (now «blocks_used») (now «votes_used») clock) ≡ true ⌝ }
+    ensures { λ r. ⌜ answersOf r ≡ mergeAndAsk settings beat slot
+        (placesOf (lent (now (blocks .entry)) (now (votes .entry)) (now («blocks_used» .entry)) (now («votes_used» .entry)) clock))
+        (nodeOf (lent (now (blocks .entry)) (now (votes .entry)) (now («blocks_used» .entry)) (now («votes_used» .entry)) clock)) ⌝ }
+{
+    let moved = node::merge(
+        settings,
+        clock,
+        blocks,
+        blocks_used,
+        votes,
+        votes_used,
+        beat,
+    );
+    let reply = moved.reply;
+    let done = verdict(reply);
+    match done {
+        Verdict::Refuse(refusal) => Answers::Refused(refusal),
+        Verdict::Pass => queried(
+            settings,
+            moved.clock,
+            blocks,
+            *blocks_used,
+            votes,
+            *votes_used,
+            slot,
+        ),
+    }
+}
+
+fn received(
+    settings: Settings,
+    clock: Clock,
+    blocks: &mut [u64],
+    blocks_used: &mut usize,
+    votes: &mut [u64],
+    votes_used: &mut usize,
+    beat: u64,
+    slot: u64,
+    packet: &[u8],
+) -> Answers
+    requires { ⌜ lentSound settings (lent (now blocks) (now votes) (now «blocks_used») (now «votes_used») clock) ≡ true ⌝ }
+    ensures { λ r. ⌜ answersOf r ≡ receiveAndAsk settings beat slot (now (packet .entry))
+        (placesOf (lent (now (blocks .entry)) (now (votes .entry)) (now («blocks_used» .entry)) (now («votes_used» .entry)) clock))
+        (nodeOf (lent (now (blocks .entry)) (now (votes .entry)) (now («blocks_used» .entry)) (now («votes_used» .entry)) clock)) ⌝ }
+{
+    let moved = node::receive(
+        settings,
+        clock,
+        blocks,
+        blocks_used,
+        votes,
+        votes_used,
+        beat,
+        packet,
+    );
+    let reply = moved.reply;
+    let done = verdict(reply);
+    match done {
+        Verdict::Refuse(refusal) => Answers::Refused(refusal),
+        Verdict::Pass => merged(
+            settings,
+            moved.clock,
+            blocks,
+            blocks_used,
+            votes,
+            votes_used,
+            beat,
+            slot,
+        ),
+    }
+}
+
+// On tables of 512 and of 1,024 places.
+fn opened(
+    settings: Settings,
+    blocks: &mut [u64],
+    votes: &mut [u64],
+    slot: u64,
+    packet: &[u8],
+) -> Answers
+    requires { ⌜ (placesIn (now blocks) ≡ 512) × (placesIn (now votes) ≡ 1024) × (slot < 2 ^ 32) ⌝ }
+    ensures { λ r. ⌜ answersOf r ≡ openAndAsk settings slot (now (packet .entry)) ⌝ }
+{
+    let mut blocks_used = 0;
+    let mut votes_used = 0;
+    let clock = Clock {
+        seen: 0,
+        done: 0,
+        merged: 0,
+        proposed: 0,
+    };
+    let moved = node::open(
+        settings,
+        clock,
+        blocks,
+        &mut blocks_used,
+        votes,
+        &mut votes_used,
+    );
+    let reply = moved.reply;
+    let done = verdict(reply);
+    match done {
+        Verdict::Refuse(refusal) => Answers::Refused(refusal),
+        Verdict::Pass => received(
+            settings,
+            moved.clock,
+            blocks,
+            &mut blocks_used,
+            votes,
+            &mut votes_used,
+            3 * slot + 2,
+            slot,
+            packet,
+        ),
+    }
+}
+
+// The length is tested before anything else.
+pub fn asked(input: &[u8]) -> Answers
+    ensures { λ r. ⌜ answersOf r ≡ askWith (now (input .entry)) ⌝ }
+{
+    if input.len() < 9 {
+        return Answers::Refused(Refusal::Form);
+    }
+    if 32768 < input.len() {
+        return Answers::Refused(Refusal::Form);
+    }
+    let settings = Settings {
+        nodes: packets::number_at(input, 0, 1),
+        own: 0,
+        expiry: packets::number_at(input, 1, 2),
+        depth: packets::number_at(input, 3, 2),
+    };
+    let slot = packets::number_at(input, 5, 4);
+    let mut blocks = [0u64; 2048];
+    let mut votes = [0u64; 4096];
+    opened(settings, &mut blocks, &mut votes, slot, &input[9..])
+}
+
+// A word and a number on a line.
+fn line(to: i32, word: &[u8], n: u64) {
+    io::write_all(to, word);
+    io::print_decimal(to, n);
+    io::write_all(to, b"\n");
+}
+
+fn show(to: i32, a: Answers) {
+    match a {
+        Answers::Refused(refusal) => {
+            line(to, b"refused ", number(refusal));
+        }
+        Answers::Found { head, deep, fast } => {
+            line(to, b"head ", head);
+            line(to, b"deep ", deep);
+            match fast {
+                confirm::Answer::Chosen(block) => {
+                    line(to, b"fast ", block);
+                }
+                confirm::Answer::Nothing => {
+                    io::write_all(to, b"fast none\n");
+                }
+            }
+        }
+    }
+}
+
+// Reads one byte more than is allowed, so that what is too long is seen.
+pub fn ask(from: i32, to: i32) {
+    let mut buf = [0u8; 32769];
+    let n = io::read_full(from, &mut buf);
+    let a = asked(&buf[..n]);
+    show(to, a);
+}

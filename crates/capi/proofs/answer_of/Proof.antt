@@ -1,0 +1,55 @@
+-- `capi::answer_of` meets its contract: the struct of every answer of a call that changes the memory. Assumes nothing.
+use borrow.Author.Needs.{needs}
+use Prim.Native.Nat.{ℕ}
+use mathlib.Core.Bool.{Bool, true, false, cond}
+use mathlib.Core.Path.{_≡_, refl, ap, sym, _∙_}
+use mir.Val.{boolByte}
+use Rattle.answers.specs.declared.Taken.{Taken}
+use Rattle.capi.specs.declared.Clock.{Clock}
+use Rattle.capi.specs.declared.Answer.{Answer}
+use Rattle.capi.specs.Structs.{answerOf}
+use Rattle.capi.proofs.answer_of.Statement.{statement}
+use Rattle.capi.proofs.answer_of.Tie as tie
+
+-- the cast makes 1 of true and 0 of false
+as-number : (t : Bool) → boolByte t ≡ cond t 1 0
+as-number true = refl
+as-number false = refl
+
+abbrev broughtBy : ℕ → Taken → Clock → Answer
+broughtBy n t k =
+    record { refusal = 0; value = 0; «new_blocks» = t .«new_blocks»; «new_votes» = t .«new_votes»; brought = n; clock = k }
+
+abbrev refusedBy : ℕ → Clock → Answer
+refusedBy n k = record { refusal = n; value = 0; «new_blocks» = 0; «new_votes» = 0; brought = 0; clock = k }
+
+returns : tie.Need-returns
+returns c = sym (ap (answerOf _) (c .enum-told .given .1))
+
+returns-2 : tie.Need-returns-2
+returns-2 c =
+    let t = c .before .before in
+    ap (λ (n : ℕ). broughtBy n (t .reply .given .0 .0) (t .before .before .args .clock)) (as-number (t .reply .given .0 .0 .brought)) ∙ sym (ap (answerOf _) (t .reply .given .1))
+
+returns-3 : tie.Need-returns-3
+returns-3 c = sym (ap (answerOf _) (c .before .reply2 .given .1))
+
+returns-4 : tie.Need-returns-4
+returns-4 c =
+    let t = c .before .before in
+    ap (λ (n : ℕ). refusedBy n (t .before .before .args .clock)) (c .number .ensures) ∙ sym (ap (answerOf _) (t .reply3 .given .1))
+
+pub answer-of-spec : {M : Type 1} → statement M
+answer-of-spec =
+    tie.close
+    (tie.spec
+    (λ c. search needs)
+    (λ c. search needs)
+    (λ c. search needs)
+    (λ c. search needs)
+    (λ c. search needs)
+    (λ c κs. search needs)
+    returns
+    returns-2
+    returns-3
+    returns-4)

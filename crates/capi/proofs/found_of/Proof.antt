@@ -1,0 +1,34 @@
+-- `capi::found_of` meets its contract: the struct of every answer of Head, Deep and Fast. Assumes nothing.
+use borrow.Author.Needs.{needs}
+use Prim.Native.Nat.{ℕ}
+use mathlib.Core.Path.{ap, sym, _∙_}
+use Rattle.capi.specs.declared.Found.{Found}
+use Rattle.capi.specs.Structs.{foundOf}
+use Rattle.capi.proofs.found_of.Statement.{statement}
+use Rattle.capi.proofs.found_of.Tie as tie
+
+abbrev refusedBy : ℕ → Found
+refusedBy n = record { refusal = n; found = 0; value = 0 }
+
+returns : tie.Need-returns
+returns c = sym (ap foundOf (c .before .answer .given .1))
+
+returns-2 : tie.Need-returns-2
+returns-2 c = sym (ap foundOf (c .enum-told .given .1))
+
+returns-3 : tie.Need-returns-3
+returns-3 c =
+    let t = c .before .before in
+    ap refusedBy (c .number .ensures) ∙ sym (ap foundOf (t .answer2 .given .1))
+
+pub found-of-spec : {M : Type 1} → statement M
+found-of-spec =
+    tie.close
+    (tie.spec
+    (λ c. search needs)
+    (λ c. search needs)
+    (λ c. search needs)
+    (λ c κs. search needs)
+    returns
+    returns-2
+    returns-3)

@@ -1,0 +1,25 @@
+-- `capi::likvost_merge` meets its contract: Merge. Assumes nothing.
+use borrow.Author.Needs.{needs}
+use Rattle.capi.proofs.Changes.{merges}
+use Rattle.capi.proofs.likvost_merge.Statement.{statement}
+use Rattle.capi.proofs.likvost_merge.Tie as tie
+
+returns : tie.Need-returns
+returns c =
+    let o = c .before in
+    let n = o .before .before .before .before .before .before in
+    let k = n .before .before .before .before .before in
+    merges _ _ _ _ _ (k .before .settings-in .ensures) (k .clock-in .ensures) (n .merge .ensures) (o .clock-out .ensures) (c .answer-of .ensures)
+
+pub likvost-merge-spec : {M : Type 1} → statement M
+likvost-merge-spec =
+    tie.close
+    (tie.spec
+    (λ c κs. search needs)
+    (λ c κs. search needs)
+    (λ c κs. search needs)
+    (λ c κs. search needs)
+    (λ c κs. search needs)
+    (λ c. search needs)
+    (λ c. search needs)
+    returns)

@@ -1,0 +1,25 @@
+-- `capi::likvost_open` meets its contract: Open. Assumes nothing.
+use borrow.Author.Needs.{needs}
+use Rattle.capi.proofs.Changes.{opens}
+use Rattle.capi.proofs.likvost_open.Statement.{statement}
+use Rattle.capi.proofs.likvost_open.Tie as tie
+
+returns : tie.Need-returns
+returns c =
+    let o = c .before in
+    let n = o .before .before .before .before .before .before in
+    let k = n .before .before .before .before .before in
+    opens _ _ _ _ (k .before .settings-in .ensures) (k .clock-in .ensures) (n .«open» .ensures) (o .clock-out .ensures) (c .answer-of .ensures)
+
+pub likvost-open-spec : {M : Type 1} → statement M
+likvost-open-spec =
+    tie.close
+    (tie.spec
+    (λ c κs. search needs)
+    (λ c κs. search needs)
+    (λ c κs. search needs)
+    (λ c κs. search needs)
+    (λ c κs. search needs)
+    (λ c. search needs)
+    (λ c. search needs)
+    returns)

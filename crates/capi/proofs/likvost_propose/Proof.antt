@@ -1,0 +1,25 @@
+-- `capi::likvost_propose` meets its contract: Propose. Assumes nothing.
+use borrow.Author.Needs.{needs}
+use Rattle.capi.proofs.Changes.{proposes}
+use Rattle.capi.proofs.likvost_propose.Statement.{statement}
+use Rattle.capi.proofs.likvost_propose.Tie as tie
+
+returns : tie.Need-returns
+returns c =
+    let o = c .before in
+    let n = o .before .before .before .before .before .before in
+    let k = n .before .before .before .before .before in
+    proposes _ _ _ _ _ _ (k .before .settings-in .ensures) (k .clock-in .ensures) (n .propose .ensures) (o .clock-out .ensures) (c .answer-of .ensures)
+
+pub likvost-propose-spec : {M : Type 1} → statement M
+likvost-propose-spec =
+    tie.close
+    (tie.spec
+    (λ c κs. search needs)
+    (λ c κs. search needs)
+    (λ c κs. search needs)
+    (λ c κs. search needs)
+    (λ c κs. search needs)
+    (λ c. search needs)
+    (λ c. search needs)
+    returns)

@@ -1,0 +1,25 @@
+-- `capi::likvost_vote` meets its contract: Vote. Assumes nothing.
+use borrow.Author.Needs.{needs}
+use Rattle.capi.proofs.Changes.{votes}
+use Rattle.capi.proofs.likvost_vote.Statement.{statement}
+use Rattle.capi.proofs.likvost_vote.Tie as tie
+
+returns : tie.Need-returns
+returns c =
+    let o = c .before in
+    let n = o .before .before .before .before .before .before in
+    let k = n .before .before .before .before .before in
+    votes _ _ _ _ _ (k .before .settings-in .ensures) (k .clock-in .ensures) (n .vote .ensures) (o .clock-out .ensures) (c .answer-of .ensures)
+
+pub likvost-vote-spec : {M : Type 1} → statement M
+likvost-vote-spec =
+    tie.close
+    (tie.spec
+    (λ c κs. search needs)
+    (λ c κs. search needs)
+    (λ c κs. search needs)
+    (λ c κs. search needs)
+    (λ c κs. search needs)
+    (λ c. search needs)
+    (λ c. search needs)
+    returns)

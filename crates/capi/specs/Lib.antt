@@ -1,0 +1,2 @@
+-- Which exported struct stands for which answer. Assumes nothing.
+pub mod Structs

@@ -1,0 +1,67 @@
+-- The exported structs: which settings and clock they hold, and which struct stands for which answer of the node.
+-- `refusal` is 0 if the call was carried out, else document 01's number; a field that the answer does not have is 0. Assumes nothing.
+use Prim.Native.Nat.{ℕ}
+use mathlib.Core.Path.{_≡_}
+use mathlib.Core.Bool.{cond}
+use Rattle.protocol.specs.declared.Settings as protocolSettings
+use Rattle.protocol.specs.declared.Clock as protocolClock
+use Rattle.verdicts.specs.Verdict.{numberOf}
+use Rattle.answers.specs.declared.Reply.{Reply}
+use Rattle.answers.specs.declared.Reply.the-variants as reply
+use Rattle.answers.specs.declared.Answer as answers
+use Rattle.answers.specs.declared.Answer.the-variants as answer
+use Rattle.answers.specs.declared.Written as answersWritten
+use Rattle.answers.specs.declared.Written.the-variants as written
+use Rattle.capi.specs.declared.Settings.{Settings}
+use Rattle.capi.specs.declared.Clock.{Clock}
+use Rattle.capi.specs.declared.Answer.{Answer}
+use Rattle.capi.specs.declared.Found.{Found}
+use Rattle.capi.specs.declared.Written.{Written}
+
+-- ---- settings and clock
+
+abbrev pub settingsIn : Settings → protocolSettings.Settings
+settingsIn s = record { nodes = s .nodes; own = s .own; expiry = s .expiry; depth = s .depth }
+
+abbrev pub clockIn : Clock → protocolClock.Clock
+clockIn k = record { seen = k .seen; done = k .done; merged = k .merged; proposed = k .proposed }
+
+abbrev pub clockOut : protocolClock.Clock → Clock
+clockOut k = record { seen = k .seen; done = k .done; merged = k .merged; proposed = k .proposed }
+
+-- ---- answers
+
+-- the clock is the one after the call
+abbrev pub answerOf : Clock → Reply → Answer
+answerOf k reply.Done =
+    record { refusal = 0; value = 0; «new_blocks» = 0; «new_votes» = 0; brought = 0; clock = k }
+answerOf k (reply.Received t) =
+    record {
+      refusal = 0;
+      value = 0;
+      «new_blocks» = t .«new_blocks»;
+      «new_votes» = t .«new_votes»;
+      brought = cond (t .brought) 1 0;
+      clock = k;
+    }
+answerOf k (reply.Block b) =
+    record { refusal = 0; value = b; «new_blocks» = 0; «new_votes» = 0; brought = 0; clock = k }
+answerOf k (reply.Refused e) =
+    record { refusal = numberOf e; value = 0; «new_blocks» = 0; «new_votes» = 0; brought = 0; clock = k }
+
+abbrev pub foundOf : answers.Answer → Found
+foundOf (answer.Block b) = record { refusal = 0; found = 1; value = b }
+foundOf answer.Nothing = record { refusal = 0; found = 0; value = 0 }
+foundOf (answer.Refused e) = record { refusal = numberOf e; found = 0; value = 0 }
+
+abbrev pub writtenOf : answersWritten.Written → Written
+writtenOf (written.Length n) = record { refusal = 0; length = n }
+writtenOf (written.Refused e) = record { refusal = numberOf e; length = 0 }
+
+-- ---- what every exported function promises
+
+-- an answer of the node that meets the node's promise, and the struct that stands for it
+pub record Stands {A S : Type 0} (promise : A → Type 0) (struct : A → S) (r : S) : Type 0 where
+  pub answer : A
+  pub promised : promise answer
+  pub stands : r ≡ struct answer

@@ -1,0 +1,4 @@
+// Answers the question on standard input.
+fn main() {
+    asking::ask(0, 1);
+}

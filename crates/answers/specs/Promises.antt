@@ -5,9 +5,7 @@ use mathlib.Core.Path.{_≡_}
 use mathlib.Core.Bool.{Bool}
 use mathlib.Core.List.{List}
 use Rattle.protocol.specs.declared.Settings.{Settings}
-use Rattle.protocol.specs.Store.{Places, Node}
-use Rattle.protocol.specs.Filters.{Choice, chosen}
-use Rattle.protocol.specs.Refusal as rules
+use Rattle.protocol.specs.Filters.{chosen}
 use Rattle.protocol.specs.Calls.Receive.{receive}
 use Rattle.protocol.specs.Calls.Propose.{propose}
 use Rattle.protocol.specs.Calls.Vote.{vote}

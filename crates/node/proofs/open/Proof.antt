@@ -1,6 +1,5 @@
 -- `node::open` meets its contract: Open. Assumes nothing.
 use borrow.Author.Needs.{needs}
-use denote.Ref.{now}
 use Rattle.protocol.specs.Store.{freshClock}
 use Rattle.protocol.specs.Lent.{cleared}
 use Rattle.node.proofs.Calls.{open-leaves, open-room, open-clears}

@@ -1,5 +1,4 @@
 -- `node::received_clock` meets its contract: the clock after Receive. Assumes nothing.
-use mathlib.Core.Path.{refl}
 use Rattle.node.proofs.received_clock.Statement.{statement}
 use Rattle.node.proofs.received_clock.Tie as tie
 

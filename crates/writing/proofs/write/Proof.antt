@@ -1,6 +1,5 @@
 -- `writing::write` meets its contract: Write. Assumes nothing.
 use borrow.Author.Needs.{needs}
-use denote.Ref.{now}
 use Rattle.writer.specs.Sent.{nodeIn}
 use Rattle.verdicts.proofs.Write.{readable}
 use Rattle.answers.proofs.Verdict.{passed-ready}

@@ -1,0 +1,47 @@
+//! The exported functions of crates/capi, as include/likvost.h declares them.
+
+use crate::{Clock, Settings};
+
+#[repr(C)]
+pub struct Answer {
+    pub refusal: u64,
+    pub value: u64,
+    pub new_blocks: u64,
+    pub new_votes: u64,
+    pub brought: u64,
+    pub clock: Clock,
+}
+
+#[repr(C)]
+pub struct Found {
+    pub refusal: u64,
+    pub found: u64,
+    pub value: u64,
+}
+
+#[repr(C)]
+pub struct Written {
+    pub refusal: u64,
+    pub length: u64,
+}
+
+extern "C" {
+    pub fn likvost_open(settings: Settings, clock: Clock, blocks: *mut u64, blocks_len: usize, blocks_used: *mut usize,
+        votes: *mut u64, votes_len: usize, votes_used: *mut usize) -> Answer;
+    pub fn likvost_receive(settings: Settings, clock: Clock, blocks: *mut u64, blocks_len: usize, blocks_used: *mut usize,
+        votes: *mut u64, votes_len: usize, votes_used: *mut usize, beat: u64, packet: *const u8, packet_len: usize) -> Answer;
+    pub fn likvost_propose(settings: Settings, clock: Clock, blocks: *mut u64, blocks_len: usize, blocks_used: *mut usize,
+        votes: *mut u64, votes_len: usize, votes_used: *mut usize, beat: u64, number: u64) -> Answer;
+    pub fn likvost_vote(settings: Settings, clock: Clock, blocks: *mut u64, blocks_len: usize, blocks_used: *mut usize,
+        votes: *mut u64, votes_len: usize, votes_used: *mut usize, beat: u64) -> Answer;
+    pub fn likvost_merge(settings: Settings, clock: Clock, blocks: *mut u64, blocks_len: usize, blocks_used: *mut usize,
+        votes: *mut u64, votes_len: usize, votes_used: *mut usize, beat: u64) -> Answer;
+    pub fn likvost_head(settings: Settings, clock: Clock, blocks: *const u64, blocks_len: usize, blocks_used: usize,
+        votes: *const u64, votes_len: usize, votes_used: usize, slot: u64) -> Found;
+    pub fn likvost_deep(settings: Settings, clock: Clock, blocks: *const u64, blocks_len: usize, blocks_used: usize,
+        votes: *const u64, votes_len: usize, votes_used: usize, slot: u64) -> Found;
+    pub fn likvost_fast(settings: Settings, clock: Clock, blocks: *const u64, blocks_len: usize, blocks_used: usize,
+        votes: *const u64, votes_len: usize, votes_used: usize, slot: u64) -> Found;
+    pub fn likvost_write(settings: Settings, clock: Clock, blocks: *const u64, blocks_len: usize, blocks_used: usize,
+        votes: *const u64, votes_len: usize, votes_used: usize, proposal: bool, buffer: *mut u8, buffer_len: usize) -> Written;
+}

@@ -1,0 +1,282 @@
+//! A consensus node for a small network whose members sleep and wake (RLMD-GHOST).
+//!
+//! The node itself is written in Rattle and proved: every call does what its definition says, or is refused by the first number
+//! that applies, and then nothing has changed. This crate owns the memory that the node works on and calls it.
+//!
+//! A beat is `3 * slot + phase`: phase 0 propose, 1 vote, 2 merge. The first beat of a fresh node is 3. At each beat an awake node makes
+//! the call that is due and then sends its gossip and, if it proposed, its proposal.
+//!
+//! ```
+//! use likvost::{Node, Settings};
+//!
+//! # fn main() -> Result<(), likvost::Refusal> {
+//! let settings = |own| Settings { nodes: 2, own, expiry: 4, depth: 1 };
+//! let mut a = Node::open(settings(0), 16, 32)?;
+//! let mut b = Node::open(settings(1), 16, 32)?;
+//!
+//! // Slot 1 is node 1's: it proposes block 11, and the proposal reaches node 0 in the same beat.
+//! assert_eq!(b.propose(3, 11)?, 0);
+//! let received = a.receive(3, &b.proposal()?)?;
+//! assert!(received.brought);
+//!
+//! // Both vote for it, exchange their votes and merge.
+//! assert_eq!(a.vote(4)?, 11);
+//! assert_eq!(b.vote(4)?, 11);
+//! let (from_a, from_b) = (a.gossip()?, b.gossip()?);
+//! a.receive(4, &from_b)?;
+//! b.receive(4, &from_a)?;
+//! a.merge(5)?;
+//! b.merge(5)?;
+//! assert_eq!(a.head(1)?, 11);
+//! assert_eq!(a.fast(1)?, Some(11));
+//! assert_eq!(a.deep(1)?, 0);
+//! # Ok(())
+//! # }
+//! ```
+
+#![warn(missing_docs)]
+
+mod ffi;
+mod refusal;
+
+pub use refusal::Refusal;
+
+/// What a node is opened with. All nodes of a network have the same `nodes`, `expiry` and `depth`.
+#[repr(C)]
+#[derive(Clone, Copy, Debug, PartialEq, Eq)]
+pub struct Settings {
+    /// How many nodes the network has: 1 to 64.
+    pub nodes: u64,
+    /// This node's index, below `nodes`.
+    pub own: u64,
+    /// Votes of the last `expiry` slots count: 1 to 4,096.
+    pub expiry: u64,
+    /// The deep block is at least `depth` slots old: 1 to 4,096.
+    pub depth: u64,
+}
+
+/// What a node knows of time.
+#[repr(C)]
+#[derive(Clone, Copy, Debug, Default, PartialEq, Eq)]
+pub struct Clock {
+    /// The beat last seen.
+    pub seen: u64,
+    /// The last beat done.
+    pub done: u64,
+    /// The slot last merged.
+    pub merged: u64,
+    /// The slot of the last proposal that was made or brought into view.
+    pub proposed: u64,
+}
+
+/// What a Receive that was carried out answers.
+#[derive(Clone, Copy, Debug, PartialEq, Eq)]
+pub struct Received {
+    /// How many blocks were new.
+    pub new_blocks: u64,
+    /// How many votes were new.
+    pub new_votes: u64,
+    /// Whether the packet came into view at once.
+    pub brought: bool,
+}
+
+/// The memory of a node, as it is lent to every call: words, four to a row.
+///
+/// [`Node`] keeps it for you. It is public for tests and for storing a node. Every call takes any memory: what is unsound is refused.
+///
+/// ```
+/// use likvost::{Node, Refusal, Settings};
+///
+/// let settings = Settings { nodes: 3, own: 1, expiry: 4, depth: 1 };
+/// let node = Node::open(settings, 16, 32).unwrap();
+/// let mut memory = node.into_memory();
+/// assert_eq!(Node::from_memory(settings, memory.clone()).merge(5), Ok(()));
+///
+/// memory.blocks_used = usize::MAX;
+/// assert_eq!(Node::from_memory(settings, memory).merge(5), Err(Refusal::Unsound));
+/// ```
+#[derive(Clone, Debug, PartialEq, Eq)]
+pub struct Memory {
+    /// number, parent, slot, mark of each block
+    pub blocks: Vec<u64>,
+    /// voter, slot, number, mark of each vote
+    pub votes: Vec<u64>,
+    /// how many rows of `blocks` are in use
+    pub blocks_used: usize,
+    /// how many rows of `votes` are in use
+    pub votes_used: usize,
+    /// the clock
+    pub clock: Clock,
+}
+
+/// A node with its own tables.
+#[derive(Clone, Debug, PartialEq, Eq)]
+pub struct Node {
+    settings: Settings,
+    memory: Memory,
+}
+
+// The exported functions are proved for every memory, clock, settings, packet and buffer, so nothing of these is tested here. What
+// they ask of a caller is that pointers are aligned, valid for their lengths and do not overlap: each points to a vector, a slice or a
+// field of its own, which is borrowed for the call.
+
+/// The tables and counts of `$m` as a call that changes them wants them.
+macro_rules! lend {
+    ($m:expr) => {
+        ($m.blocks.as_mut_ptr(), $m.blocks.len(), &mut $m.blocks_used as *mut usize, $m.votes.as_mut_ptr(), $m.votes.len(),
+            &mut $m.votes_used as *mut usize)
+    };
+}
+
+impl Node {
+    /// A fresh node with so many places for blocks (1 to 2,048, block 0 included) and votes (1 to 8,192).
+    pub fn open(settings: Settings, block_places: usize, vote_places: usize) -> Result<Node, Refusal> {
+        // No table of more places is opened, so no more memory is asked for.
+        let words = |places: usize, limit: usize| if places > limit { 0 } else { 4 * places };
+        let mut memory = Memory {
+            blocks: vec![0; words(block_places, 2048)],
+            votes: vec![0; words(vote_places, 8192)],
+            blocks_used: 0,
+            votes_used: 0,
+            clock: Clock::default(),
+        };
+        Node::open_in(settings, &mut memory)?;
+        Ok(Node { settings, memory })
+    }
+
+    /// Opens a node in memory that may hold anything.
+    pub fn open_in(settings: Settings, memory: &mut Memory) -> Result<(), Refusal> {
+        let (b, bl, bu, v, vl, vu) = lend!(memory);
+        // SAFETY: the pointers are to live, separate vectors and numbers, with their lengths.
+        let a = unsafe { ffi::likvost_open(settings, memory.clock, b, bl, bu, v, vl, vu) };
+        Self::answered(memory, a).map(|_| ())
+    }
+
+    /// A node on memory that an earlier node left; every call refuses memory that is unsound.
+    pub fn from_memory(settings: Settings, memory: Memory) -> Node {
+        Node { settings, memory }
+    }
+
+    /// The settings.
+    pub fn settings(&self) -> Settings {
+        self.settings
+    }
+
+    /// The memory as the last call left it.
+    pub fn memory(&self) -> &Memory {
+        &self.memory
+    }
+
+    /// The memory, to store it or to look at it.
+    pub fn into_memory(self) -> Memory {
+        self.memory
+    }
+
+    /// Keeps the clock, and tells a refusal from an answer.
+    fn answered(memory: &mut Memory, a: ffi::Answer) -> Result<ffi::Answer, Refusal> {
+        memory.clock = a.clock;
+        match Refusal::from_number(a.refusal) {
+            None => Ok(a),
+            Some(refusal) => Err(refusal),
+        }
+    }
+
+    /// Takes a packet. Its new entries wait; the first proposal of the beat's slot, in phase 0, comes into view at once.
+    pub fn receive(&mut self, beat: u64, packet: &[u8]) -> Result<Received, Refusal> {
+        let m = &mut self.memory;
+        let (b, bl, bu, v, vl, vu) = lend!(m);
+        // SAFETY: as in `open_in`; the packet is only read.
+        let a = unsafe { ffi::likvost_receive(self.settings, m.clock, b, bl, bu, v, vl, vu, beat, packet.as_ptr(), packet.len()) };
+        Self::answered(m, a).map(|a| Received { new_blocks: a.new_blocks, new_votes: a.new_votes, brought: a.brought != 0 })
+    }
+
+    /// Builds a block with this number on the base, and answers the base.
+    pub fn propose(&mut self, beat: u64, number: u64) -> Result<u64, Refusal> {
+        let m = &mut self.memory;
+        let (b, bl, bu, v, vl, vu) = lend!(m);
+        // SAFETY: as in `open_in`.
+        let a = unsafe { ffi::likvost_propose(self.settings, m.clock, b, bl, bu, v, vl, vu, beat, number) };
+        Self::answered(m, a).map(|a| a.value)
+    }
+
+    /// Votes for the head, and answers it.
+    pub fn vote(&mut self, beat: u64) -> Result<u64, Refusal> {
+        let m = &mut self.memory;
+        let (b, bl, bu, v, vl, vu) = lend!(m);
+        // SAFETY: as in `open_in`.
+        let a = unsafe { ffi::likvost_vote(self.settings, m.clock, b, bl, bu, v, vl, vu, beat) };
+        Self::answered(m, a).map(|a| a.value)
+    }
+
+    /// Brings all waiting entries into view.
+    pub fn merge(&mut self, beat: u64) -> Result<(), Refusal> {
+        let m = &mut self.memory;
+        let (b, bl, bu, v, vl, vu) = lend!(m);
+        // SAFETY: as in `open_in`.
+        let a = unsafe { ffi::likvost_merge(self.settings, m.clock, b, bl, bu, v, vl, vu, beat) };
+        Self::answered(m, a).map(|_| ())
+    }
+
+    /// The head for a slot.
+    pub fn head(&self, slot: u64) -> Result<u64, Refusal> {
+        let m = &self.memory;
+        // SAFETY: the tables are only read, within their lengths.
+        let f = unsafe {
+            ffi::likvost_head(self.settings, m.clock, m.blocks.as_ptr(), m.blocks.len(), m.blocks_used, m.votes.as_ptr(),
+                m.votes.len(), m.votes_used, slot)
+        };
+        Refusal::from_number(f.refusal).map_or(Ok(f.value), Err)
+    }
+
+    /// The deep block for a slot.
+    pub fn deep(&self, slot: u64) -> Result<u64, Refusal> {
+        let m = &self.memory;
+        // SAFETY: as in `head`.
+        let f = unsafe {
+            ffi::likvost_deep(self.settings, m.clock, m.blocks.as_ptr(), m.blocks.len(), m.blocks_used, m.votes.as_ptr(),
+                m.votes.len(), m.votes_used, slot)
+        };
+        Refusal::from_number(f.refusal).map_or(Ok(f.value), Err)
+    }
+
+    /// The fast block for a slot, if there is one.
+    pub fn fast(&self, slot: u64) -> Result<Option<u64>, Refusal> {
+        let m = &self.memory;
+        // SAFETY: as in `head`.
+        let f = unsafe {
+            ffi::likvost_fast(self.settings, m.clock, m.blocks.as_ptr(), m.blocks.len(), m.blocks_used, m.votes.as_ptr(),
+                m.votes.len(), m.votes_used, slot)
+        };
+        Refusal::from_number(f.refusal).map_or(Ok((f.found != 0).then_some(f.value)), Err)
+    }
+
+    /// Writes gossip or, if `proposal`, the own proposal into a buffer, and answers the packet's length.
+    pub fn write(&self, proposal: bool, buffer: &mut [u8]) -> Result<usize, Refusal> {
+        let m = &self.memory;
+        // SAFETY: as in `head`; the buffer is written within its length.
+        let w = unsafe {
+            ffi::likvost_write(self.settings, m.clock, m.blocks.as_ptr(), m.blocks.len(), m.blocks_used, m.votes.as_ptr(),
+                m.votes.len(), m.votes_used, proposal, buffer.as_mut_ptr(), buffer.len())
+        };
+        Refusal::from_number(w.refusal).map_or(Ok(w.length as usize), Err)
+    }
+
+    /// The node's gossip: its whole store as a packet.
+    pub fn gossip(&self) -> Result<Vec<u8>, Refusal> {
+        self.packet(false)
+    }
+
+    /// The node's proposal of the beat seen: its view as a packet.
+    pub fn proposal(&self) -> Result<Vec<u8>, Refusal> {
+        self.packet(true)
+    }
+
+    fn packet(&self, proposal: bool) -> Result<Vec<u8>, Refusal> {
+        // Room for all rows that there can be in sound tables.
+        let room = 17 + 20 * self.memory.blocks_used.min(2048) + 13 * self.memory.votes_used.min(8192);
+        let mut buffer = vec![0; room];
+        let length = self.write(proposal, &mut buffer)?;
+        buffer.truncate(length);
+        Ok(buffer)
+    }
+}

@@ -1,0 +1,64 @@
+//! Random calls on the proved library and on the model, side by side. After every call the answer, both tables, both counts, the
+//! clock and the buffer are compared, word for word.
+//!
+//! `LIKVOST_SEED` and `LIKVOST_CALLS` choose the calls; a difference is reported with both. The whole comparison:
+//!
+//! ```text
+//! LIKVOST_CALLS=10000000 cargo test --release --offline --test against_model -- --nocapture
+//! ```
+
+mod both;
+mod full;
+mod packets;
+mod random;
+mod world;
+
+use both::Call;
+use random::Random;
+use world::{Run, World};
+
+fn setting(name: &str, default: u64) -> u64 {
+    match std::env::var(name) {
+        Ok(text) => text.parse().unwrap_or_else(|_| panic!("{name} is not a number: {text}")),
+        Err(_) => default,
+    }
+}
+
+/// What each call may answer: 0, carried out, and its refusals.
+const REPLIES: [&[usize]; 9] = [
+    &[0, 1, 2, 3, 4, 5],
+    &[0, 6, 7, 8, 9, 10],
+    &[0, 6, 7, 11, 12, 13, 14, 15, 10],
+    &[0, 6, 7, 11, 12, 13, 16, 10],
+    &[0, 6, 7, 11, 12],
+    &[0, 6, 17],
+    &[0, 6, 17],
+    &[0, 6, 17],
+    &[0, 6, 19, 18],
+];
+
+#[test]
+fn random_calls() {
+    let seed = setting("LIKVOST_SEED", 20_261_115);
+    let calls = setting("LIKVOST_CALLS", 200_000);
+    println!("LIKVOST_SEED={seed} LIKVOST_CALLS={calls}");
+    let mut run = Run::new(seed);
+    let mut worlds = Random::new(seed);
+    while run.calls < calls {
+        let random = Random::new(worlds.word());
+        World::new(&mut run, random).go(calls);
+    }
+    for (name, replies) in Call::NAMES.iter().zip(&run.replies) {
+        let refused: Vec<String> = (1..20).filter(|&k| replies[k] > 0).map(|k| format!("{k}: {}", replies[k])).collect();
+        println!("{name}: {} carried out; refused by {}", replies[0], refused.join(", "));
+    }
+    println!("{} proposals came into view on arrival, {} fast blocks", run.brought, run.fast);
+    if calls >= 20_000 {
+        for (call, expected) in REPLIES.iter().enumerate() {
+            for &reply in *expected {
+                assert!(run.replies[call][reply] > 0, "no {} answered {reply}", Call::NAMES[call]);
+            }
+        }
+        assert!(run.brought > 0 && run.fast > 0);
+    }
+}

@@ -1,0 +1,368 @@
+//! A few nodes of one network that make calls, exchange packets and are lent damaged memory.
+
+use crate::both::{Answer, Both, Call, Reply};
+use crate::packets;
+use crate::random::Random;
+use likvost_model::{Clock, Memory, Settings};
+
+/// The last beat of the last slot.
+const LAST_BEAT: u64 = 3 * 1_000_000_000 + 2;
+
+/// All calls of a test: how many there were, what they answered, and the seed that repeats them.
+pub struct Run {
+    seed: u64,
+    pub calls: u64,
+    /// By call and refusal; 0 stands for a call that was carried out.
+    pub replies: [[u64; 20]; 9],
+    /// Proposals that came into view on arrival, and Fast blocks.
+    pub brought: u64,
+    pub fast: u64,
+}
+
+impl Run {
+    pub fn new(seed: u64) -> Run {
+        Run { seed, calls: 0, replies: [[0; 20]; 9], brought: 0, fast: 0 }
+    }
+
+    /// Makes a call on both sides; ends the test if they differ.
+    pub fn make(&mut self, node: &mut Both, call: &Call, buffer: &mut [u8]) -> Reply {
+        self.calls += 1;
+        let reply = node.make(call, buffer).unwrap_or_else(|difference| {
+            panic!("LIKVOST_SEED={}, call {}: {call:?} of {:?}: {difference}", self.seed, self.calls, node.settings())
+        });
+        self.replies[call.index()][reply.err().unwrap_or(0) as usize] += 1;
+        match reply {
+            Ok(Answer::Received { brought: true, .. }) => self.brought += 1,
+            Ok(Answer::Block(_)) if matches!(call, Call::Fast { .. }) => self.fast += 1,
+            _ => {}
+        }
+        reply
+    }
+}
+
+pub struct World<'a> {
+    run: &'a mut Run,
+    random: Random,
+    nodes: Vec<Both>,
+    beat: u64,
+    packets: Vec<Vec<u8>>,
+}
+
+impl<'a> World<'a> {
+    pub fn new(run: &'a mut Run, mut random: Random) -> World<'a> {
+        let size = random.pick(&[1, 2, 3, 4, 5, 5, 7, 16, 33, 63, 64]);
+        let expiry = random.pick(&[1, 2, 2, 3, 5, 100, 4096]);
+        let depth = random.pick(&[1, 2, 3, 4, 7, 4096]);
+        let mut nodes = Vec::new();
+        for i in 0..size.min(random.between(1, 4)) {
+            let own = if random.once_in(2) { i } else { size - 1 - i };
+            let settings = Settings { nodes: size, own, expiry, depth };
+            let (blocks, votes) = match random.below(20) {
+                0..=4 => (random.between(1, 4), random.between(1, 4)),
+                5 => (random.between(25, 64), random.between(65, 256)),
+                _ => (random.between(5, 24), random.between(5, 64)),
+            };
+            let mut memory = Memory::zeroed(blocks as usize, votes as usize);
+            fill(&mut random, &mut memory);
+            let mut node = Both::new(settings, memory);
+            run.make(&mut node, &Call::Open, &mut []).expect("the settings are in range");
+            if random.once_in(2) {
+                // unused places may hold anything
+                let mut memory = node.memory().clone();
+                fill_unused(&mut random, &mut memory);
+                node = Both::new(settings, memory);
+            }
+            nodes.push(node);
+        }
+        let mut world = World { run, random, nodes, beat: 2, packets: Vec::new() };
+        if world.random.once_in(5) {
+            world.beat = LAST_BEAT - 3 * world.random.between(0, 8);
+            for node in 0..world.nodes.len() {
+                let beat = world.beat;
+                let _ = world.make(node, Call::Merge { beat });
+            }
+        }
+        world
+    }
+
+    /// Runs until this many calls were made, or the slots are over.
+    pub fn go(&mut self, calls: u64) {
+        let end = self.run.calls + self.random.between(100, 900);
+        while self.run.calls < calls.min(end) && self.beat <= LAST_BEAT + 2 {
+            match self.random.below(100) {
+                0..=19 => self.tick(),
+                20..=42 => self.deliver(),
+                43..=59 => self.receive_made(),
+                60..=75 => self.ask(),
+                76..=80 => self.late(),
+                81..=84 => self.write_odd(),
+                85..=98 => self.trial(),
+                _ => self.reopen(),
+            }
+        }
+    }
+
+    fn any(&mut self) -> usize {
+        self.random.below(self.nodes.len() as u64) as usize
+    }
+
+    fn make(&mut self, node: usize, call: Call) -> Reply {
+        self.run.make(&mut self.nodes[node], &call, &mut [])
+    }
+
+    /// The next beat: each node that is awake makes the call that is due and sends its packets.
+    fn tick(&mut self) {
+        self.beat += if self.random.once_in(30) { self.random.between(2, 20) } else { 1 };
+        let beat = self.beat;
+        for node in 0..self.nodes.len() {
+            if self.random.once_in(5) {
+                continue;
+            }
+            self.due(node);
+            self.send(node, false);
+            if beat % 3 == 0 {
+                self.send(node, true);
+            }
+        }
+    }
+
+    /// The call that is due at this beat.
+    fn due(&mut self, node: usize) {
+        let beat = self.beat;
+        let call = match beat % 3 {
+            0 => Call::Propose { beat, number: self.number(node) },
+            1 => Call::Vote { beat },
+            _ => Call::Merge { beat },
+        };
+        let _ = self.make(node, call);
+    }
+
+    /// A node makes its call late in the beat, after it has received packets, or makes it again.
+    fn late(&mut self) {
+        let node = self.any();
+        self.due(node);
+        self.send(node, self.beat % 3 == 0);
+    }
+
+    /// A block number, mostly new.
+    fn number(&mut self, node: usize) -> u64 {
+        let memory = self.nodes[node].memory();
+        let rows = memory.blocks_used.min(memory.blocks.len() / 4) as u64;
+        match self.random.below(12) {
+            0 => self.random.word(),
+            1 if rows > 0 => memory.blocks[4 * self.random.below(rows) as usize],
+            2 => self.random.between(1, 400),
+            _ => 1_000 + self.random.below(1_000_000),
+        }
+    }
+
+    /// Write, and the packet stays for others to receive.
+    fn send(&mut self, node: usize, proposal: bool) {
+        let memory = self.nodes[node].memory();
+        let room = 17 + 20 * memory.blocks_used.min(100) + 13 * memory.votes_used.min(300);
+        let mut buffer = vec![0xa5; room];
+        if let Ok(Answer::Length(length)) = self.run.make(&mut self.nodes[node], &Call::Write { proposal }, &mut buffer) {
+            buffer.truncate(length);
+            if self.packets.len() == 24 {
+                let at = self.random.below(24) as usize;
+                self.packets.swap_remove(at);
+            }
+            self.packets.push(buffer);
+        }
+    }
+
+    /// A sent packet reaches a node, sometimes damaged.
+    fn deliver(&mut self) {
+        if self.packets.is_empty() {
+            return self.tick();
+        }
+        let last = self.packets.len() as u64 - 1;
+        let at = if self.random.once_in(2) { last } else { self.random.below(last + 1) } as usize;
+        let mut packet = self.packets[at].clone();
+        if self.random.once_in(4) {
+            packet = packets::damaged(&mut self.random, &packet);
+        }
+        let (node, beat) = (self.any(), self.beat);
+        let _ = self.make(node, Call::Receive { beat, packet });
+    }
+
+    fn made_packet(&mut self, node: usize) -> Vec<u8> {
+        let both = &self.nodes[node];
+        packets::made(&mut self.random, both.settings().nodes, both.memory(), self.beat).encode()
+    }
+
+    /// A packet that was made for the node.
+    fn receive_made(&mut self) {
+        let (node, beat) = (self.any(), self.beat);
+        let packet = self.made_packet(node);
+        let _ = self.make(node, Call::Receive { beat, packet });
+    }
+
+    fn slot(&mut self, node: usize) -> u64 {
+        let seen = self.nodes[node].memory().clock.seen / 3;
+        match self.random.below(24) {
+            0 => 0,
+            1 => seen.saturating_add(1),
+            2 => self.random.word(),
+            3 => self.random.between(0, seen),
+            4..=11 => seen.saturating_sub(self.random.below(6)),
+            _ => seen,
+        }
+    }
+
+    fn ask(&mut self) {
+        let node = self.any();
+        let slot = self.slot(node);
+        let calls = [Call::Head { slot }, Call::Deep { slot }, Call::Fast { slot }];
+        let call = calls[self.random.below(3) as usize].clone();
+        let _ = self.make(node, call);
+    }
+
+    /// Write with a buffer of any length.
+    fn write_odd(&mut self) {
+        let node = self.any();
+        let mut buffer = vec![0; self.random.pick(&[0, 1, 16, 17, 18, 37, 50, 200, 700, 3000])];
+        buffer.iter_mut().for_each(|byte| *byte = self.random.word() as u8);
+        let proposal = self.random.once_in(2);
+        let _ = self.run.make(&mut self.nodes[node], &Call::Write { proposal }, &mut buffer);
+    }
+
+    /// Opens a node again.
+    fn reopen(&mut self) {
+        let node = self.any();
+        let _ = self.make(node, Call::Open);
+    }
+
+    /// A few calls on a copy of a node, most with odd arguments, and on damaged memory half of the time.
+    fn trial(&mut self) {
+        let node = self.any();
+        let mut copy = self.nodes[node].clone();
+        if self.random.once_in(2) {
+            let mut settings = copy.settings();
+            let mut memory = copy.memory().clone();
+            match self.random.below(8) {
+                0 | 1 => damage_settings(&mut self.random, &mut settings),
+                2 => damage_clock(&mut self.random, &mut memory.clock),
+                3 => damage_lengths(&mut self.random, &mut memory),
+                _ => damage_rows(&mut self.random, &mut memory),
+            }
+            copy = Both::new(settings, memory);
+        }
+        for _ in 0..self.random.between(1, 3) {
+            let beat = self.odd_beat();
+            let slot = self.slot(node);
+            let call = match self.random.below(12) {
+                0 | 1 => Call::Receive { beat, packet: self.made_packet(node) },
+                2 => Call::Propose { beat, number: self.number(node) },
+                3 => Call::Vote { beat },
+                4 => Call::Merge { beat },
+                5 => Call::Head { slot },
+                6 => Call::Deep { slot },
+                7 => Call::Fast { slot },
+                8 => Call::Write { proposal: self.random.once_in(2) },
+                _ => Call::Open,
+            };
+            let mut buffer = [7; 700];
+            let _ = self.run.make(&mut copy, &call, &mut buffer);
+        }
+    }
+
+    fn odd_beat(&mut self) -> u64 {
+        let ahead = self.random.between(1, 9);
+        self.random.pick(&[
+            self.beat,
+            self.beat,
+            self.beat + 1,
+            self.beat + ahead,
+            self.beat.saturating_sub(ahead),
+            0,
+            2,
+            3,
+            LAST_BEAT,
+            LAST_BEAT - ahead,
+            LAST_BEAT + 1,
+            u64::MAX,
+        ])
+    }
+}
+
+fn fill(random: &mut Random, memory: &mut Memory) {
+    memory.blocks.iter_mut().chain(&mut memory.votes).for_each(|word| *word = random.word());
+    memory.blocks_used = random.word() as usize;
+    memory.votes_used = random.word() as usize;
+    memory.clock = Clock { seen: random.word(), done: random.word(), merged: random.word(), proposed: random.word() };
+}
+
+fn fill_unused(random: &mut Random, memory: &mut Memory) {
+    let (blocks, votes) = (4 * memory.blocks_used, 4 * memory.votes_used);
+    memory.blocks[blocks..].iter_mut().chain(&mut memory.votes[votes..]).for_each(|word| *word = random.word());
+}
+
+fn damage_settings(random: &mut Random, settings: &mut Settings) {
+    let value = random.pick(&[0, 1, 2, 64, 65, 4096, 4097, u64::MAX]);
+    match random.below(4) {
+        0 => settings.nodes = value,
+        1 => settings.own = value,
+        2 => settings.expiry = value,
+        _ => settings.depth = value,
+    }
+}
+
+fn damage_clock(random: &mut Random, clock: &mut Clock) {
+    let field = match random.below(4) {
+        0 => &mut clock.seen,
+        1 => &mut clock.done,
+        2 => &mut clock.merged,
+        _ => &mut clock.proposed,
+    };
+    *field = match random.below(8) {
+        0 => u64::MAX,
+        1 => LAST_BEAT + random.below(3),
+        2 => 6_148_914_691_236_517_204 + random.below(3), // three times this is about 2^64
+        3 => random.below(4),
+        4 => field.wrapping_sub(1),
+        5 => *field ^ 1 << random.below(64),
+        _ => field.wrapping_add(random.between(1, 3)),
+    };
+}
+
+fn damage_lengths(random: &mut Random, memory: &mut Memory) {
+    let odd = random.pick(&[0, 1, usize::MAX, usize::MAX / 4, usize::MAX / 4 + 1, 1 << 62]);
+    let (words, used) =
+        if random.once_in(2) { (&mut memory.blocks, &mut memory.blocks_used) } else { (&mut memory.votes, &mut memory.votes_used) };
+    match random.below(8) {
+        0 => *used = odd,
+        1 => *used = used.wrapping_add(1),
+        2 => *used = used.wrapping_sub(1),
+        3 => *used = words.len() / 4 + random.below(2) as usize,
+        4 => words.clear(),
+        5 => words.truncate(random.below(words.len() as u64 + 1) as usize),
+        6 => words.resize(words.len() + random.between(1, 8) as usize, 0),
+        _ => words.resize(random.pick(&[4 * 2048, 4 * 2049, 4 * 8192, 4 * 8193]), 0),
+    }
+}
+
+/// One change in the used rows, which may leave the memory sound.
+fn damage_rows(random: &mut Random, memory: &mut Memory) {
+    let blocks = random.once_in(2);
+    let (words, used) = if blocks { (&mut memory.blocks, memory.blocks_used) } else { (&mut memory.votes, memory.votes_used) };
+    if used == 0 || used > words.len() / 4 {
+        return;
+    }
+    let (row, other) = (random.below(used as u64) as usize, random.below(used as u64) as usize);
+    let at = 4 * row + random.below(4) as usize;
+    match random.below(8) {
+        // two rows change places
+        0 => (0..4).for_each(|i| words.swap(4 * row + i, 4 * other + i)),
+        // a row stands twice
+        1 => words.copy_within(4 * row..4 * row + 4, 4 * other),
+        // a field of another row
+        2 => words[at] = words[4 * other + at % 4],
+        // the mark
+        3 => words[4 * row + 3] ^= 1,
+        4 => words[4 * row + 3] = random.pick(&[2, 256, 1 << 32, u64::MAX]),
+        5 => words[at] = random.word(),
+        6 => words[at] = words[at].wrapping_add(random.pick(&[1, u64::MAX])),
+        _ => words[at] = random.below(4),
+    }
+}

@@ -1,0 +1,25 @@
+-- `cases::show_rows` meets its contract. Assumes nothing.
+use Prim.Native.Nat.{_-_}
+use borrow.Author.Needs.{needs}
+use Rattle.cases.proofs.show_rows.Statement.{statement}
+use Rattle.cases.proofs.show_rows.Tie as tie
+
+abbrev Inv-loop : tie.InvT-loop
+Inv-loop words used i₀ i = Unit {0}
+
+abbrev μ-loop : tie.MeasureT-loop
+μ-loop words used i₀ i = 16 - i
+
+pub show-rows-spec : {M : Type 1} → statement M
+show-rows-spec =
+    tie.close
+    (tie.spec
+    Inv-loop
+    μ-loop
+    (λ c. search needs)
+    (λ c. search needs)
+    (λ c κs. search needs)
+    (λ c. search needs)
+    (λ c. search needs)
+    (λ c. search needs)
+    (λ c. search needs))

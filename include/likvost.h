@@ -1,0 +1,159 @@
+/* Likvost: a consensus node for a small network whose members sleep and wake (RLMD-GHOST), proved.
+ *
+ * The caller lends all memory. A node is its settings, its clock and two tables of 64-bit words:
+ *   blocks: 4 words to a row: number, parent, slot, mark      1 to 2,048 rows
+ *   votes:  4 words to a row: voter, slot, number, mark       1 to 8,192 rows
+ * A table of p places has 4 * p words. `*_used` counts the rows in use. A mark is 1 (in view) or 0 (waiting).
+ * Only likvost_* calls write this memory; keep it as the last call left it. The node keeps nothing else.
+ *
+ * A beat is 3 * slot + phase: phase 0 propose, 1 vote, 2 merge. The first beat of a fresh node is 3.
+ * At each beat an awake node makes the call that is due (propose if slot % nodes == own, vote, merge), then sends its gossip
+ * and, if it proposed, its proposal. Between beats it receives packets with the beat last begun.
+ *
+ * Every call may be refused. Then `refusal` is the number below, nothing in the lent memory has changed, and the clock that
+ * is returned is the one that was passed. Otherwise `refusal` is 0. So always store the returned clock:
+ *
+ *     likvost_answer a = likvost_vote(settings, clock, blocks, blocks_len, &blocks_used, votes, votes_len, &votes_used, beat);
+ *     clock = a.clock;
+ *
+ * The calls take any settings, clock, counts, words and bytes: what is not as it should be is refused. All that a caller must see to
+ * are the pointers: none is NULL, also where a length is 0; each is aligned and valid for its length; none overlaps another.
+ * No call allocates, keeps a pointer or waits.
+ * Different nodes may be called from different threads; calls on one node are made one after another.
+ *
+ * Build the archive with `rt staticlib capi`, and link target/staticlib/libcapi.a (Linux on x86-64). It needs memset alone.
+ */
+#ifndef LIKVOST_H
+#define LIKVOST_H
+
+#include <stdbool.h>
+#include <stddef.h>
+#include <stdint.h>
+
+#ifdef __cplusplus
+extern "C" {
+#endif
+
+/* What a node is opened with. All nodes of a network have the same nodes, expiry and depth. */
+typedef struct {
+    uint64_t nodes;  /* 1 to 64 */
+    uint64_t own;    /* this node's index, below nodes */
+    uint64_t expiry; /* E: votes of the last E slots count, 1 to 4,096 */
+    uint64_t depth;  /* K: the deep block is at least K slots old, 1 to 4,096 */
+} likvost_settings;
+
+/* What a node knows of time. Pass zeros to likvost_open; afterwards pass what the last call returned. */
+typedef struct {
+    uint64_t seen;     /* the beat last seen */
+    uint64_t done;     /* the last beat done */
+    uint64_t merged;   /* the slot last merged */
+    uint64_t proposed; /* the slot of the last proposal made or brought into view */
+} likvost_clock;
+
+/* Why a call was refused: the first of these that applies, in the order that each call lists. */
+enum {
+    LIKVOST_OK = 0,
+    LIKVOST_NODES = 1,        /* nodes out of range */
+    LIKVOST_OWN = 2,          /* own index not below nodes */
+    LIKVOST_EXPIRY = 3,       /* expiry out of range */
+    LIKVOST_DEPTH = 4,        /* depth out of range */
+    LIKVOST_LENGTH = 5,       /* a table's length out of range, or no multiple of 4 words */
+    LIKVOST_UNSOUND = 6,      /* the lent memory is not as a call left it */
+    LIKVOST_BEAT = 7,         /* beat below the one seen, or slot above 1,000,000,000 */
+    LIKVOST_FORM = 8,         /* packet's length, kind or zero fields wrong */
+    LIKVOST_ENTRY = 9,        /* an entry of the packet breaks a rule */
+    LIKVOST_PLACES = 10,      /* fewer free places than new entries */
+    LIKVOST_PHASE = 11,       /* not the phase of this call */
+    LIKVOST_DONE = 12,        /* beat already done */
+    LIKVOST_JOINED = 13,      /* the slot before was not merged */
+    LIKVOST_PROPOSER = 14,    /* another node's slot */
+    LIKVOST_NUMBER = 15,      /* the number is known */
+    LIKVOST_VOTED = 16,       /* an own vote of this slot is known */
+    LIKVOST_SLOT = 17,        /* slot 0, or above the slot seen */
+    LIKVOST_BUFFER = 18,      /* buffer too short */
+    LIKVOST_PROPOSAL = 19     /* no own proposal of the beat seen */
+};
+
+/* A readable message for a refusal number, for logs. */
+static inline const char *likvost_refusal_message(uint64_t refusal)
+{
+    static const char *const messages[] = {
+        "carried out", "nodes out of range", "own index not below nodes", "expiry out of range", "depth out of range",
+        "a table's length is out of range", "the lent memory is unsound", "beat below the one seen, or slot above the limit",
+        "malformed packet", "an entry of the packet breaks a rule", "not enough free places", "not the phase of this call",
+        "beat already done", "not joined for this slot", "another node's slot", "block number already known",
+        "already voted in this slot", "slot 0 or above the slot seen", "buffer too short", "no own proposal of this beat"};
+    return refusal < 20 ? messages[refusal] : "unknown refusal";
+}
+
+/* The answer of a call that changes the memory. */
+typedef struct {
+    uint64_t refusal;
+    uint64_t value;      /* likvost_propose: the base; likvost_vote: the head; else 0 */
+    uint64_t new_blocks; /* likvost_receive: how many blocks were new */
+    uint64_t new_votes;  /* likvost_receive: how many votes were new */
+    uint64_t brought;    /* likvost_receive: 1 if the packet came into view at once */
+    likvost_clock clock; /* the clock after the call */
+} likvost_answer;
+
+/* The answer of a question. */
+typedef struct {
+    uint64_t refusal;
+    uint64_t found; /* 1 if there is a block; likvost_fast may answer 0 */
+    uint64_t value; /* the block's number */
+} likvost_found;
+
+/* The answer of likvost_write. */
+typedef struct {
+    uint64_t refusal;
+    uint64_t length; /* how many bytes of the buffer the packet takes */
+} likvost_written;
+
+/* Block 0 alone in view, every other place zero, a fresh clock. What stood in the memory does not matter.
+ * Refusals: 1 2 3 4 5. */
+likvost_answer likvost_open(likvost_settings settings, likvost_clock clock, uint64_t *blocks, size_t blocks_len,
+                            size_t *blocks_used, uint64_t *votes, size_t votes_len, size_t *votes_used);
+
+/* Takes a packet: its new entries wait at the tables' ends. The first proposal of the beat's slot, in phase 0, comes into view at
+ * once. Refusals: 6 7 8 9 10. */
+likvost_answer likvost_receive(likvost_settings settings, likvost_clock clock, uint64_t *blocks, size_t blocks_len,
+                               size_t *blocks_used, uint64_t *votes, size_t votes_len, size_t *votes_used, uint64_t beat,
+                               const uint8_t *packet, size_t packet_len);
+
+/* Builds a block with this number on the base, and brings the whole store into view. Refusals: 6 7 11 12 13 14 15 10. */
+likvost_answer likvost_propose(likvost_settings settings, likvost_clock clock, uint64_t *blocks, size_t blocks_len,
+                               size_t *blocks_used, uint64_t *votes, size_t votes_len, size_t *votes_used, uint64_t beat,
+                               uint64_t number);
+
+/* Votes for the head; the vote waits. Refusals: 6 7 11 12 13 16 10. */
+likvost_answer likvost_vote(likvost_settings settings, likvost_clock clock, uint64_t *blocks, size_t blocks_len,
+                            size_t *blocks_used, uint64_t *votes, size_t votes_len, size_t *votes_used, uint64_t beat);
+
+/* Brings all waiting entries into view. Refusals: 6 7 11 12. */
+likvost_answer likvost_merge(likvost_settings settings, likvost_clock clock, uint64_t *blocks, size_t blocks_len,
+                             size_t *blocks_used, uint64_t *votes, size_t votes_len, size_t *votes_used, uint64_t beat);
+
+/* The head for a slot, over the view. Refusals: 6 17. */
+likvost_found likvost_head(likvost_settings settings, likvost_clock clock, const uint64_t *blocks, size_t blocks_len,
+                           size_t blocks_used, const uint64_t *votes, size_t votes_len, size_t votes_used, uint64_t slot);
+
+/* The highest block of the head's chain that is at least `depth` slots older than the slot. Refusals: 6 17. */
+likvost_found likvost_deep(likvost_settings settings, likvost_clock clock, const uint64_t *blocks, size_t blocks_len,
+                           size_t blocks_used, const uint64_t *votes, size_t votes_len, size_t votes_used, uint64_t slot);
+
+/* The block farthest from block 0 with the votes of three quarters of the nodes in this slot, if any. Refusals: 6 17. */
+likvost_found likvost_fast(likvost_settings settings, likvost_clock clock, const uint64_t *blocks, size_t blocks_len,
+                           size_t blocks_used, const uint64_t *votes, size_t votes_len, size_t votes_used, uint64_t slot);
+
+/* Writes the node's gossip (its whole store) or its proposal (its view) into the buffer. Bytes beyond the packet stay.
+ * A packet takes 17 + 20 bytes for each block but block 0 + 13 bytes for each vote: at most 147,453 bytes.
+ * Refusals: 6 19 18. */
+likvost_written likvost_write(likvost_settings settings, likvost_clock clock, const uint64_t *blocks, size_t blocks_len,
+                              size_t blocks_used, const uint64_t *votes, size_t votes_len, size_t votes_used, bool proposal,
+                              uint8_t *buffer, size_t buffer_len);
+
+#ifdef __cplusplus
+}
+#endif
+
+#endif

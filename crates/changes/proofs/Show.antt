@@ -10,9 +10,10 @@ use Rattle.protocol.specs.Store.{Marked, show}
 use Rattle.protocol.specs.Lent.{Make, rowsOf, wordsOf, stored, marksSound}
 use Rattle.protocol.proofs.Store.Growth.{show-append}
 use Rattle.protocol.proofs.Store.Views.{length-show}
+use Rattle.protocol.proofs.Lent.Rows.{Codec, length-rowsOf}
 use Rattle.rows.specs.Rows.{rowAt, putRow}
-use Rattle.rows.proofs.Rows.{length-rowsOf, take-rowsOf}
-use Rattle.rows.proofs.Stored.{Codec, put-end, row-after, stored-read, mark-row}
+use Rattle.rows.proofs.Rows.{take-rowsOf}
+use Rattle.rows.proofs.Stored.{put-end, row-after, stored-read, mark-row}
 
 module _ {A : Type 0} {make : Make (Marked A)} {row : Marked A → List ℕ} (codec : Codec (Marked A) make row) (p : A → Bool) (ws₀ : List ℕ) (n : ℕ) where
   abbrev pub shownTo : ℕ → List ℕ

@@ -17,8 +17,8 @@ use Rattle.protocol.specs.Lent.{rowsOf, makeBlock}
 use Rattle.protocol.proofs.Basics.Tests.{and-left, and-right}
 use Rattle.protocol.proofs.Chain.Relations.{In, Sound}
 use Rattle.protocol.proofs.Store.Follow.{allFollow, blockFollows, Follows, follows-true}
-use Rattle.protocol.proofs.Store.Tables.{Table, table-true, table-sound, table-front, Closed}
-use Rattle.protocol.proofs.Store.Views.{entries-append, view-stored}
+use Rattle.protocol.proofs.Store.Tables.{Table, table-true, table-sound, closed-sound, table-front, Closed}
+use Rattle.protocol.proofs.Store.Views.{entries-append}
 use Rattle.rows.specs.Rows.{rowAt}
 use Rattle.rows.proofs.Rows.{drop-rowsOf, rows-front}
 use Rattle.ballots.specs.Latest.{selected}
@@ -79,24 +79,10 @@ pub record Held (w : Bool) (ws : List ℕ) (n : ℕ) : Type 0 where
   pub sound : Sound (blocksIn w ws n)
 
 module _ (slot : ℕ) (ws : List ℕ) (n : ℕ) (T : Table slot (rowsOf makeBlock ws n)) (C : Closed (inView (rowsOf makeBlock ws n))) where
-  view-sound : Sound (inView (rowsOf makeBlock ws n))
-  view-sound =
-      let S = table-sound T in
-      let st = view-stored (rowsOf makeBlock ws n) in
-      record {
-        start = T .shown;
-        unique = λ c d m k q. S .unique c d (st c m) (st d k) q;
-        parents = λ c m z.
-            let p = S .parents c (st c m) z in
-            let q = C c m in
-            let e = S .unique (q .0) (p .0) (st (q .0) (q .1)) (p .1) (q .2 ∙ sym (p .2)) in
-            (q .0, q .1, q .2, rw e (p .3));
-      }
-
   all-sound : (w : Bool) → Sound (blocksIn w ws n)
   unfolding selected
   all-sound true = table-sound T
-  all-sound false = view-sound
+  all-sound false = closed-sound T C
 
   stored-in : (k : ℕ) → entries (rowsOf makeBlock ws k) ≡ blocksIn true ws k
   unfolding selected

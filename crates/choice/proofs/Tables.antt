@@ -1,22 +1,19 @@
 -- What a sound node's tables give: its blocks by places, voters that fit a word, votes for known blocks; and the weights of the words. Assumes nothing.
-use Prim.Native.Nat.{ℕ, _+_, _*_, _/_, _%_, _≤_, _<_}
-use mathlib.Core.Bool.{Bool, true, false, cond}
+use Prim.Native.Nat.{ℕ, _+_, _/_, _≤_, _<_}
+use mathlib.Core.Bool.{Bool, true, false}
 use mathlib.Core.List.{List}
 use mathlib.Core.Path.{_≡_, refl, ap, sym, _∙_}
 use native.Mathlib.Numerals.{add-one}
 use native.Mathlib.Omega.{arith}
-use lib.Dec.{eqb}
-use lib.ListN.{length}
 use Rattle.protocol.specs.declared.Settings.{Settings}
 use Rattle.protocol.specs.declared.Block.{Block}
 use Rattle.protocol.specs.declared.Vote.{Vote}
 use Rattle.protocol.specs.Store.{entries, inView, Node}
-use Rattle.protocol.specs.Lent.{Lent, rowsOf, makeBlock, makeVote, placesIn, placesOf, nodeOf, marksSound, lentSound}
+use Rattle.protocol.specs.Lent.{Lent, rowsOf, makeBlock, makeVote, placesOf, nodeOf, lentSound}
 use Rattle.protocol.specs.Chain.{genesis}
 use Rattle.protocol.specs.Filters.{chosen, kept}
 use Rattle.protocol.specs.Walk.{walk, weightAt, head, base}
 use Rattle.protocol.proofs.Basics.Members.{same-refl}
-use Rattle.protocol.proofs.Basics.Tests.{and-right}
 use Rattle.protocol.proofs.Chain.Relations.{Known, Sound}
 use Rattle.protocol.proofs.Filters.Kept.{kept-is}
 use Rattle.protocol.proofs.Filters.Relations.{Cast}
@@ -25,8 +22,9 @@ use Rattle.protocol.proofs.Store.Tables.{table-holds}
 use Rattle.protocol.proofs.Store.Views.{view-stored}
 use Rattle.protocol.proofs.Walk.Best.{walk-is, walk-one, walk-known}
 use Rattle.protocol.proofs.Walk.Sameness.{walk-to}
+use Rattle.protocol.proofs.Lent.Memory.{lent-true}
+use Rattle.protocol.proofs.Lent.Rows.{length-rowsOf, places-fit}
 use Rattle.rows.specs.Rows.{rowAt}
-use Rattle.rows.proofs.Rows.{length-rowsOf}
 use Rattle.ballots.specs.Latest.{selected, votesIn, VotersFit, Kept}
 use Rattle.subtrees.specs.Places.{blockAt, blocksIn, BlocksSound}
 use Rattle.subtrees.specs.Subtrees.{Subtrees}
@@ -129,18 +127,10 @@ base-number bw bu vw vu n E t e = e
 
 -- ---- from the test that the node makes
 
-places-fit : (ws : List ℕ) (n : ℕ) → n ≤ placesIn ws → 4 * n ≤ length ws
-unfolding placesIn
-places-fit ws n h = go (eqb (length ws % 4) 0) h
-  where
-    go : (b : Bool) → n ≤ cond b (length ws / 4) 0 → 4 * n ≤ length ws
-    go true l = omega arith
-    go false l = omega arith
-
 pub lent-tables : (s : Settings) (m : Lent) → lentSound s m ≡ true → TablesSound s (m .blocks) (m .blocksUsed) (m .votes) (m .votesUsed)
-unfolding lentSound nodeOf placesOf
+unfolding nodeOf placesOf
 lent-tables s m e =
-    let a = and-right (marksSound (m .votes) (m .votesUsed)) _ (and-right (marksSound (m .blocks) (m .blocksUsed)) _ e) in
+    let a = lent-true s m e .node in
     let G = sound-true s (placesOf m) (nodeOf m) a in
     record {
       places = placesOf m;

@@ -5,19 +5,21 @@ use mathlib.Core.List.{List}
 use mathlib.Core.Logic.{_⊎_, inl, inr}
 use mathlib.Core.Path.{_≡_, refl, ap, sym, _∙_}
 use native.Mathlib.Decide.{decLt}
+use native.Mathlib.Nat.{le-of-eq}
 use native.Mathlib.Omega.{arith}
 use lib.Dec.{leb}
 use Rattle.protocol.specs.declared.Block.{Block}
 use Rattle.protocol.specs.declared.Vote.{Vote}
-use Rattle.protocol.specs.Chain.{Found, found, missing}
 use Rattle.protocol.specs.Filters.{Choice, chosen, nothing, kept}
 use Rattle.protocol.specs.Store.{Marked, inView}
 use Rattle.protocol.specs.Lent.{rowsOf, makeBlock, makeVote}
 use Rattle.protocol.specs.Walk.{supports, weight, weightAt}
-use Rattle.protocol.specs.Confirm.{validVote, quorum, height, highest, numberIn, fast}
+use Rattle.protocol.specs.Confirm.{validVote, quorum, height, fast}
 use Rattle.protocol.proofs.Basics.Counting.{count-ext}
 use Rattle.protocol.proofs.Basics.Tests.{clashing}
 use Rattle.protocol.proofs.Chain.Relations.{Above, here, up}
+use Rattle.protocol.proofs.Confirm.Fast.{IsFarthest, FastIs, fast-of}
+use Rattle.protocol.proofs.Confirm.Height.{height-above}
 use Rattle.protocol.proofs.Confirm.Quorum.{quorum-compare}
 use Rattle.protocol.proofs.Filters.Relations.{Cast}
 use Rattle.rows.specs.Rows.{rowAt}
@@ -28,7 +30,6 @@ use Rattle.choice.specs.Walks.{weightAtPlace}
 use Rattle.choice.specs.Tables.{Weighed}
 use Rattle.choice.proofs.Held.{Held, isIn, Stands, listed, lists, parent-is, place-pos, by-number}
 use Rattle.confirm.specs.Top.{topChoice}
-use Rattle.confirm.proofs.Height.{height-above, IsHighest, HighestIs, highest-is}
 
 -- a block above another stands after it
 above-place : {w : Bool} {ws : List ℕ} {n : ℕ} → Held w ws n → {b y : ℕ} → Above (blocksIn w ws n) b y → (i j : ℕ) → i < n → j < n → blockAt ws i .number ≡ b → blockAt ws j .number ≡ y → i ≤ j
@@ -110,52 +111,40 @@ module _ {bw : List ℕ} {bu : ℕ} {vw : List ℕ} {vu n : ℕ} (t : ℕ) {mask
       (λ v. supports (blocksIn false bw bu) (validVote (votesIn false vw vu) t v) (blockAt bw j .number)) n
       (λ v h. ap (λ (o : Choice). supports (blocksIn false bw bu) o (blockAt bw j .number)) (sym (valid-kept (votesIn false vw vu) t v real))))
 
-  -- a block that passes stands below the last place that does
+  -- the last place that passes is the farthest block that does
   pub fast-is : topChoice bw masks n bu ≡ fast (blocksIn false bw bu) (votesIn false vw vu) n t
-  unfolding fast numberIn
-  fast-is =
-      go (topChoice bw masks n bu) (top-is bw masks n bu)
-      (highest (quorum (blocksIn false bw bu) (votesIn false vw vu) n t) (blocksIn false bw bu) (blocksIn false bw bu))
-      (highest-is (quorum (blocksIn false bw bu) (votesIn false vw vu) n t) (blocksIn false bw bu) (blocksIn false bw bu))
+  fast-is = sym (fast-of (H .sound) (votesIn false vw vu) n t some (topChoice bw masks n bu) (go (topChoice bw masks n bu) (top-is bw masks n bu)))
     where
-      -- the highest block is at the last place
-      same : (j : ℕ) → IsTop (passesAt masks n) bw bu j → (d : Block) → IsHighest (quorum (blocksIn false bw bu) (votesIn false vw vu) n t) (blocksIn false bw bu) (blocksIn false bw bu) d
-          → Stands false bw bu d → d ≡ blockAt bw j
-      same j T d D (i, l, s, e) = at (decLt i j) (decLt j i)
+      shares : (i : ℕ) → i < bu → (d : Block) → d ≡ blockAt bw i → quorum (blocksIn false bw bu) (votesIn false vw vu) n t (d .number) ≡ true → passesAt masks n i ≡ true
+      shares i l d e q = passes-is i l ∙ ap (λ o. quorum (blocksIn false bw bu) (votesIn false vw vu) n t (o .number)) (sym e) ∙ q
+
+      farthest : (j : ℕ) → IsTop (passesAt masks n) bw bu j → IsFarthest (quorum (blocksIn false bw bu) (votesIn false vw vu) n t) (blocksIn false bw bu) (blocksIn false bw bu) (blockAt bw j)
+      farthest j T = record { mem = lists false bw bu j (T .inside) (T .shown); share = share; top = λ d m q. top d q (listed false bw bu d m) }
         where
-          hi : quorum (blocksIn false bw bu) (votesIn false vw vu) n t (blockAt bw i .number) ≡ true
-          hi = ap (λ o. quorum (blocksIn false bw bu) (votesIn false vw vu) n t (o .number)) (sym e) ∙ D .passes
+          share : quorum (blocksIn false bw bu) (votesIn false vw vu) n t (blockAt bw j .number) ≡ true
+          share = sym (passes-is j (T .inside)) ∙ T .passes
 
-          hj : quorum (blocksIn false bw bu) (votesIn false vw vu) n t (blockAt bw j .number) ≡ true
-          hj = sym (passes-is j (T .inside)) ∙ T .passes
-
-          top : height (blocksIn false bw bu) (blockAt bw j .number) ≤ height (blocksIn false bw bu) (blockAt bw i .number)
-          top = rw e at (D .top (blockAt bw j) (lists false bw bu j (T .inside) (T .shown)) hj)
-
-          below : Above (blocksIn false bw bu) (blockAt bw i .number) (blockAt bw j .number) ⊎ Above (blocksIn false bw bu) (blockAt bw j .number) (blockAt bw i .number) → i < j → ⊥
-          below (inl a) k = at-or (height-above (H .sound) a)
+          top : (d : Block) → quorum (blocksIn false bw bu) (votesIn false vw vu) n t (d .number) ≡ true → Stands false bw bu d
+              → height (blocksIn false bw bu) (d .number) ≤ height (blocksIn false bw bu) (blockAt bw j .number)
+          top d q (i, l, s, e) = on (quorum-compare (H .sound) (votesIn false vw vu) n t (d .number) (blockAt bw j .number) some q share)
             where
-              at-or : (blockAt bw j .number ≡ blockAt bw i .number) ⊎ (height (blocksIn false bw bu) (blockAt bw i .number) < height (blocksIn false bw bu) (blockAt bw j .number)) → ⊥
-              at-or (inl z) = let y = H .differ j i (T .inside) l z in omega arith
-              at-or (inr z) = omega (arith, top)
-          below (inr a) k = let y = above-place H a j i (T .inside) l refl refl in omega arith
+              on : Above (blocksIn false bw bu) (d .number) (blockAt bw j .number) ⊎ Above (blocksIn false bw bu) (blockAt bw j .number) (d .number)
+                  → height (blocksIn false bw bu) (d .number) ≤ height (blocksIn false bw bu) (blockAt bw j .number)
+              on (inl a) = height-above (H .sound) a
+              on (inr a) = at (decLt j i) (above-place H a j i (T .inside) l refl (ap (λ o. o .number) (sym e)))
+                where
+                  at : Dec (j < i) → j ≤ i → height (blocksIn false bw bu) (d .number) ≤ height (blocksIn false bw bu) (blockAt bw j .number)
+                  at (yes k) o = absurd (clashing (shares i l d e q) (T .last i k l s))
+                  at (no k) o =
+                      let z : i ≡ j = omega arith in
+                      le-of-eq (ap (λ o. height (blocksIn false bw bu) (o .number)) (e ∙ ap (blockAt bw) z))
 
-          at : Dec (i < j) → Dec (j < i) → d ≡ blockAt bw j
-          at (yes k) o = absurd (below (quorum-compare (H .sound) (votesIn false vw vu) n t (blockAt bw i .number) (blockAt bw j .number) some hi hj) k)
-          at (no k) (yes o) = absurd (clashing (passes-is i l ∙ hi) (T .last i o l s))
-          at (no k) (no o) = let z : i ≡ j = omega arith in e ∙ ap (blockAt bw) z
-
-      go : (o : Choice) → TopIs (passesAt masks n) bw bu o → (f : Found)
-          → HighestIs (quorum (blocksIn false bw bu) (votesIn false vw vu) n t) (blocksIn false bw bu) (blocksIn false bw bu) f → o ≡ numberIn f
-      go nothing r missing h = unfold numberIn in refl
-      go nothing r (found d) h = absurd (none (listed false bw bu d (h .mem)))
+      go : (o : Choice) → TopIs (passesAt masks n) bw bu o → FastIs (blocksIn false bw bu) (votesIn false vw vu) n t o
+      go nothing r = λ d m q. none d q (listed false bw bu d m)
         where
-          none : Stands false bw bu d → ⊥
-          none (i, l, s, e) = clashing (passes-is i l ∙ ap (λ o. quorum (blocksIn false bw bu) (votesIn false vw vu) n t (o .number)) (sym e) ∙ h .passes) (r i l s)
-      go (chosen x) (j, T, e) missing h =
-          absurd (clashing (sym (passes-is j (T .inside)) ∙ T .passes) (h (blockAt bw j) (lists false bw bu j (T .inside) (T .shown))))
-      go (chosen x) (j, T, e) (found d) h =
-          unfold numberIn in (ap chosen (e ∙ ap (λ o. o .number) (sym (same j T d h (listed false bw bu d (h .mem))))))
+          none : (d : Block) → quorum (blocksIn false bw bu) (votesIn false vw vu) n t (d .number) ≡ true → Stands false bw bu d → ⊥
+          none d q (i, l, s, e) = clashing (shares i l d e q) (r i l s)
+      go (chosen x) (j, T, e) = (blockAt bw j, farthest j T, sym e)
 
 -- as the definition has it
 pub fast-view : (bw : List ℕ) (bu : ℕ) (vw : List ℕ) (vu n t : ℕ) → fast (blocksIn false bw bu) (votesIn false vw vu) n t ≡ fast (inView (rowsOf makeBlock bw bu)) (inView (rowsOf makeVote vw vu)) n t

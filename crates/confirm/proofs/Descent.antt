@@ -1,80 +1,36 @@
 -- The deep block, one step of the way down at a time. Assumes nothing.
-use Prim.Native.Nat.{ℕ, zero, suc, _+_, _-_, _≤_, _<_}
-use mathlib.Core.Bool.{Bool, true, false}
+use Prim.Native.Nat.{ℕ, _+_, _-_, _≤_, _<_}
+use mathlib.Core.Bool.{true, false}
 use mathlib.Core.List.{List}
-use mathlib.Core.Logic.{_⊎_, inl, inr}
+use mathlib.Core.Logic.{inl}
 use mathlib.Core.Path.{_≡_, refl, ap, sym, _∙_}
-use native.Mathlib.Nat.{eq-zero-or-pos}
 use native.Mathlib.Omega.{arith}
-use lib.Dec.{leb}
-use borrow.Author.Tests.{leb-false, le-leb, lt-leb}
 use Rattle.protocol.specs.declared.Block.{Block}
-use Rattle.protocol.specs.Chain.{slotIn, genesis}
-use Rattle.protocol.specs.Confirm.{deepGo, deepStep, deepIn, deepFrom, deep}
-use Rattle.protocol.proofs.Chain.Find.{find-holds}
+use Rattle.protocol.specs.Confirm.{deepFrom, deep}
 use Rattle.protocol.specs.Store.{Marked, inView}
 use Rattle.protocol.specs.Lent.{rowsOf, makeBlock, makeVote}
 use Rattle.protocol.specs.Walk.{walk, weightAt}
-use Rattle.protocol.proofs.Chain.Relations.{In, Sound}
+use Rattle.protocol.proofs.Chain.Relations.{In, Sound, here}
+use Rattle.protocol.proofs.Confirm.Deep.{late-number, deep-next, deepFrom-is, deep-one}
 use Rattle.rows.specs.Rows.{rowAt}
 use Rattle.subtrees.specs.Places.{blockAt, blocksIn, lastPlace, parentPlace}
 use Rattle.ballots.specs.Latest.{selected, votesIn}
 use Rattle.choice.proofs.Tables.{head-number}
 use Rattle.choice.proofs.Held.{Held, isIn, lists, parent-is, parent-in, place-pos}
 
-module _ {bs : List Block} (S : Sound bs) where
-  -- a block of a slot above 0 is not block 0
-  late-number : (c : Block) → In c bs → 0 < c .slot → 0 < c .number
-  late-number c m l = go (eq-zero-or-pos (c .number))
-    where
-      go : (c .number ≡ 0) ⊎ (0 < c .number) → 0 < c .number
-      go (inl e) = absurd (omega (arith, ap (λ o. o .slot) (S .unique c genesis m (S .start) e)))
-      go (inr z) = z
+module _ {bs : List Block} (S : Sound bs) (m : ℕ) where
+  -- early enough: here it is
+  deep-here : (c : Block) → In c bs → c .slot ≤ m → deepFrom bs m (c .number) ≡ c .number
+  deep-here c i l =
+      let r = deepFrom-is S m c i refl in
+      sym (r .2) ∙ deep-one S (r .0) c (r .1) (record { mem = i; under = here refl; early = inl (omega arith); top = λ e n o k. o })
 
-  -- a block of slot 0 is block 0
-  early-number : (c : Block) → In c bs → c .slot ≤ 0 → c .number ≡ 0
-  early-number c m l = go (eq-zero-or-pos (c .number))
-    where
-      go : (c .number ≡ 0) ⊎ (0 < c .number) → c .number ≡ 0
-      go (inl e) = e
-      go (inr z) = let p = S .parents c m z in absurd (omega (arith, p .3))
-
-  module _ (m : ℕ) where
-    deep-first : (k : ℕ) (c : Block) → In c bs → deepIn bs (suc k) m (c .number) ≡ deepGo (leb (c .slot) m) (λ y. deepIn bs k m y) c
-    unfolding deepIn deepStep
-    deep-first k c i = rw (find-holds bs S c i)
-
-    -- as many steps as the slot says are enough
-    deep-fuel : (k l : ℕ) (c : Block) → In c bs → c .slot ≤ k → c .slot ≤ l → deepIn bs k m (c .number) ≡ deepIn bs l m (c .number)
-    deep-fuel zero zero c i a b = refl
-    deep-fuel zero (suc l) c i a b = sym (deep-first l c i ∙ unfold deepGo deepIn in (rw (le-leb (c .slot) m (omega arith)) (early-number c i a)))
-    deep-fuel (suc k) zero c i a b = deep-first k c i ∙ unfold deepGo deepIn in (rw (le-leb (c .slot) m (omega arith)) (early-number c i b))
-    deep-fuel (suc k) (suc l) c i a b = deep-first k c i ∙ go (leb (c .slot) m) refl (λ p q x y. deep-fuel k l p q x y) ∙ sym (deep-first l c i)
-      where
-        go : (t : Bool) → leb (c .slot) m ≡ t → ((p : Block) → In p bs → p .slot ≤ k → p .slot ≤ l → deepIn bs k m (p .number) ≡ deepIn bs l m (p .number))
-            → deepGo t (λ y. deepIn bs k m y) c ≡ deepGo t (λ y. deepIn bs l m y) c
-        go true e rec = unfold deepGo in refl
-        go false e rec = unfold deepGo in (
-            let p = S .parents c i (late-number c i (omega (arith, leb-false (c .slot) m e))) in
-            ap (deepIn bs k m) (sym (p .2)) ∙ rec (p .0) (p .1) (omega (arith, p .3)) (omega (arith, p .3)) ∙ ap (deepIn bs l m) (p .2))
-
-    deep-from : (c : Block) → In c bs → deepFrom bs m (c .number) ≡ deepIn bs (suc (c .slot)) m (c .number)
-    unfolding deepFrom slotIn
-    deep-from c i = rw (find-holds bs S c i) (deep-fuel (c .slot) (suc (c .slot)) c i (omega arith) (omega arith))
-
-    -- early enough: here it is
-    pub deep-here : (c : Block) → In c bs → c .slot ≤ m → deepFrom bs m (c .number) ≡ c .number
-    unfolding deepGo
-    deep-here c i l = deep-from c i ∙ deep-first (c .slot) c i ∙ rw (le-leb (c .slot) m l)
-
-    -- too late: its parent's
-    pub deep-up : (c p : Block) → In c bs → In p bs → p .number ≡ c .parent → m < c .slot → deepFrom bs m (c .number) ≡ deepFrom bs m (p .number)
-    unfolding deepGo
-    deep-up c p i j e l =
-        let q = S .parents c i (late-number c i (omega arith)) in
-        let s : p .slot ≡ q .0 .slot = ap (λ o. o .slot) (S .unique p (q .0) j (q .1) (e ∙ sym (q .2))) in
-        deep-from c i ∙ deep-first (c .slot) c i ∙ rw (lt-leb (c .slot) m l)
-        (ap (deepIn bs (c .slot) m) (sym e) ∙ deep-fuel (c .slot) (suc (p .slot)) p j (omega (arith, q .3)) (omega arith) ∙ sym (deep-from p j))
+  -- too late: its parent's
+  deep-up : (c p : Block) → In c bs → In p bs → p .number ≡ c .parent → m < c .slot → deepFrom bs m (c .number) ≡ deepFrom bs m (p .number)
+  deep-up c p i j e l =
+      let r = deepFrom-is S m c i refl in
+      let q = deepFrom-is S m p j e in
+      sym (r .2) ∙ deep-one S (r .0) (q .0) (r .1) (deep-next S m c (q .0) i refl l (q .1)) ∙ q .2 ∙ ap (deepFrom bs m) (sym e)
 
 -- ---- by places
 
@@ -94,7 +50,7 @@ module _ {ws : List ℕ} {n : ℕ} (H : Held false ws n) (m : ℕ) {x i : ℕ} (
       ∙ sym (D .is ∙ deep-here (H .sound) m (blockAt ws i) here-in (rw (ap (λ o. o .entry .slot) e) at l))
 
   pub down-pos : (r : Marked Block) → r ≡ rowAt makeBlock ws i → m < r .entry .slot → 0 < i
-  down-pos r e l = place-pos H i (late-number (H .sound) (blockAt ws i) here-in (omega (arith, ap (λ o. o .entry .slot) e)))
+  down-pos r e l = place-pos H i (late-number (H .sound) m (blockAt ws i) here-in (omega (arith, ap (λ o. o .entry .slot) e)))
 
   pub down-on : (r : Marked Block) (p : ℕ) → r ≡ rowAt makeBlock ws i → m < r .entry .slot → p ≡ lastPlace ws i (r .entry .parent) → (p < i) × Down ws n m x p
   down-on r p e l q =

@@ -1,4 +1,3 @@
 -- The laws of the deep and of the fast block, and the proofs of the functions. Assumes nothing.
 pub mod Descent
-pub mod Height
 pub mod Candidates

@@ -26,9 +26,7 @@ use Rattle.protocol.specs.Lent.{Lent, rowsOf, stored, makeBlock, makeVote, bloc
 use Rattle.protocol.proofs.Basics.Tests.{and-left, and-right}
 use Rattle.protocol.proofs.Calls.Passed as passed
 use Rattle.protocol.proofs.Calls.Passed.{opens}
-use Rattle.protocol.proofs.Lent.Rows.{places-fit}
-use Rattle.rows.proofs.Rows.{length-rowsOf}
-use Rattle.rows.proofs.Stored.{block-codec, vote-codec, stored-same}
+use Rattle.protocol.proofs.Lent.Rows.{places-fit, block-codec, vote-codec, stored-same, length-rowsOf}
 use Rattle.admission.specs.Lookup.{onlyBlocks}
 use Rattle.storing.specs.Grown.{Holds}
 use Rattle.receiving.specs.Accepted.{Accepted, onlyVotes, onlyClock}

@@ -8,9 +8,8 @@ use lib.ListN.{length, drop, length-append, length-drop}
 use Rattle.protocol.specs.Store.{Marked, allWaiting, show, showAll, Node}
 use Rattle.protocol.specs.Lent.{Lent, Make, rowsOf, stored, blockRow, voteRow, placesIn, marksSound, storeNode}
 use Rattle.protocol.proofs.Store.Views.{length-show}
-use Rattle.protocol.proofs.Lent.Rows.{places-fit}
-use Rattle.rows.proofs.Rows.{length-rowsOf}
-use Rattle.rows.proofs.Stored.{Codec, rows-stored, marks-stored, stored-longer}
+use Rattle.protocol.proofs.Lent.Rows.{places-fit, Codec, rows-stored, marks-stored, length-rowsOf}
+use Rattle.rows.proofs.Stored.{stored-longer}
 use Rattle.verdicts.specs.Lent.{lent}
 
 -- ---- a node stored, place by place

@@ -1,3 +1,2 @@
 -- The proofs of the functions. Assumes nothing.
 pub mod Beats
-pub mod Room

@@ -17,8 +17,7 @@ use Rattle.protocol.proofs.Store.Follow.{known-found}
 use Rattle.protocol.proofs.Store.Tables.{table-true}
 use Rattle.protocol.proofs.Basics.Members.{all-true}
 use Rattle.protocol.proofs.Store.Views.{length-show}
-use Rattle.rows.proofs.Rows.{length-rowsOf}
-use Rattle.rows.proofs.Stored.{block-codec}
+use Rattle.protocol.proofs.Lent.Rows.{block-codec, length-rowsOf}
 use Rattle.views.specs.Ancestors.{Ordered, showAncestors, named}
 use Rattle.views.proofs.Order.{table-ordered, ordered-show}
 use Rattle.views.proofs.Shows.{show-both}

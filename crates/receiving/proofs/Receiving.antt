@@ -5,7 +5,6 @@ use mathlib.Core.List.{List, _++_}
 use mathlib.Core.Path.{_≡_, refl, ap, sym, _∙_}
 use native.Mathlib.Omega.{arith}
 use lib.ListN.{length, drop}
-use lib.Seq.{drop-at}
 use Rattle.protocol.specs.declared.Block.{Block}
 use Rattle.protocol.specs.declared.Vote.{Vote}
 use Rattle.protocol.specs.Lists.{any, all}
@@ -16,17 +15,17 @@ use Rattle.protocol.specs.Lent.{Make, rowsOf, stored, makeBlock, blockRow, mark
 use Rattle.protocol.specs.Calls.Receive.{addBlocks, addVotes, blocksAfter, votesAfter, blocksAllowed, voteAllowed, headerAllowed, packetAllowed, stoodOn, receiveInto}
 use Rattle.protocol.proofs.Basics.Tests.{and-left, and-right}
 use Rattle.protocol.proofs.Store.Growth.{Added, added-blocks, table-grow}
-use Rattle.protocol.proofs.Store.New as added
-use Rattle.protocol.proofs.Store.New.{newBlocksOf}
+use Rattle.protocol.proofs.Store.New.{newBlocksOf, knowsBlock, adding-blocks}
 use Rattle.protocol.proofs.Store.Sound.{vote-true}
 use Rattle.protocol.proofs.Store.Follow.{found-known}
 use Rattle.protocol.proofs.Store.Tables.{Table, Closed, table-true, table-holds, table-sound}
 use Rattle.protocol.proofs.Basics.Members.{all-true, all-holds}
-use Rattle.protocol.proofs.Store.Views.{entries-waiting, length-entries, length-show, show-none, grown-none}
-use Rattle.rows.proofs.Stored.{Codec, block-codec, rows-stored, marks-stored, stored-longer}
+use Rattle.protocol.proofs.Store.Views.{entries-waiting, length-show, show-none, grown-none}
+use Rattle.protocol.proofs.Lent.Rows.{Codec, block-codec, rows-stored, marks-stored}
+use Rattle.rows.proofs.Stored.{stored-longer}
 use Rattle.admission.specs.Lookup.{onlyBlocks}
 use Rattle.storing.specs.Grown.{grown, Holds}
-use Rattle.storing.proofs.Adding.{hasBlock, blocks-added, entries-grown}
+use Rattle.storing.proofs.Adding.{grown-new, entries-grown}
 use Rattle.receiving.specs.Accepted.{Carried, Accepted, onlyVotes}
 
 -- ---- an accepted packet is carried by the table that it was added to
@@ -58,13 +57,10 @@ module _ (ms : List (Marked Block)) (p : Packet) (K : Accepted ms p) where
   extra = newBlocksOf (entries ms) (p .blocks)
 
   new-is : new ≡ ms ++ allWaiting extra
-  unfolding grown
-  new-is =
-      ap (λ (l : List Block). ms ++ allWaiting l)
-      (ap (λ (l : List Block). drop (length ms) l) (added.blocks-added (entries ms) (p .blocks)) ∙ drop-at (entries ms) extra (length ms) (length-entries ms))
+  new-is = grown-new knowsBlock addBlocks adding-blocks ms (p .blocks)
 
   entries-new : entries new ≡ addBlocks (entries ms) (p .blocks)
-  entries-new = entries-grown hasBlock addBlocks blocks-added ms (p .blocks)
+  entries-new = entries-grown knowsBlock addBlocks adding-blocks ms (p .blocks)
 
   view-new : inView new ≡ inView ms
   view-new =
@@ -97,7 +93,7 @@ module _ (ms : List (Marked Block)) (p : Packet) where
       ≡ show (λ b. stoodOn (entries (grown addBlocks ms (p .blocks))) p b) (grown addBlocks ms (p .blocks))
   blocks-brought =
       unfold receiveInto blocksAfter grown in (
-      ap (λ (bs : List Block). show (λ b. stoodOn bs p b) (grown addBlocks ms (p .blocks))) (sym (entries-grown hasBlock addBlocks blocks-added ms (p .blocks))))
+      ap (λ (bs : List Block). show (λ b. stoodOn bs p b) (grown addBlocks ms (p .blocks))) (sym (entries-grown knowsBlock addBlocks adding-blocks ms (p .blocks))))
 
 module _ (ms : List (Marked Vote)) (p : Packet) where
   pub votes-kept : receiveInto false 0 (onlyVotes ms) p .votes ≡ grown addVotes ms (p .votes)

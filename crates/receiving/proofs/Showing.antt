@@ -11,8 +11,8 @@ use Rattle.protocol.specs.Lists.{any}
 use Rattle.protocol.specs.Store.{Marked, show}
 use Rattle.protocol.specs.Lent.{Make, rowsOf, stored, marksSound}
 use Rattle.protocol.proofs.Store.Views.{length-show, show-none}
-use Rattle.rows.proofs.Rows.{length-rowsOf}
-use Rattle.rows.proofs.Stored.{Codec, rows-stored, marks-stored, stored-same, stored-longer}
+use Rattle.protocol.proofs.Lent.Rows.{Codec, rows-stored, marks-stored, stored-same, length-rowsOf}
+use Rattle.rows.proofs.Stored.{stored-longer}
 use Rattle.views.proofs.Shows.{show-one}
 use Rattle.admission.proofs.Entries.{front-entry}
 

@@ -13,10 +13,11 @@ use Rattle.protocol.specs.Lists.{any}
 use Rattle.protocol.specs.Chain.{find, found, missing, foundWith, known, genesis}
 use Rattle.protocol.specs.Store.{Marked, entries, visible}
 use Rattle.protocol.specs.Lent.{rowsOf, makeBlock}
+use Rattle.protocol.proofs.Lent.Rows.{length-rowsOf}
 use Rattle.rows.specs.declared.Place.the-variants.{At, Missing}
 use Rattle.rows.specs.Rows.{rowAt}
 use Rattle.rows.specs.Find.{placeFrom, placeOf}
-use Rattle.rows.proofs.Rows.{length-rowsOf, getD-rowsOf, drop-read, drop-end}
+use Rattle.rows.proofs.Rows.{getD-rowsOf, drop-read, drop-end}
 
 -- ---- one turn, where row i was read as m
 

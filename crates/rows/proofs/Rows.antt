@@ -1,4 +1,4 @@
--- Laws of decoded rows, once for every table: their number, row i, a front of them, and one turn of a loop over them.
+-- Laws of decoded rows, once for every table: row i, a front of them, and one turn of a loop over them.
 -- Assumes nothing.
 use Prim.Native.Nat.{ℕ, zero, suc, _+_, _*_, _≤_, _<_}
 use mathlib.Core.Bool.{Bool, true, false}
@@ -11,15 +11,11 @@ use lib.ListN.{length, getD, take, drop, drop-of-length-le}
 use lib.Seq.{getD-drop, drop-drop, drop-cons, take-suc}
 use Rattle.protocol.specs.Lists.{any, all}
 use Rattle.protocol.specs.Lent.{Make, rowsOf}
+use Rattle.protocol.proofs.Lent.Rows.{length-rowsOf}
 use Rattle.rows.specs.Rows.{rowAt, fold}
 
 module _ {A : Type 0} (make : Make A) where
   -- ---- the rows
-
-  pub length-rowsOf : (ws : List ℕ) (n : ℕ) → length (rowsOf make ws n) ≡ n
-  unfolding rowsOf
-  length-rowsOf ws zero = refl
-  length-rowsOf ws (suc n) = ap suc (length-rowsOf (drop 4 ws) n)
 
   abbrev pub headRow : List ℕ → A
   headRow ws = make (getD ws 0 0) (getD ws 1 0) (getD ws 2 0) (getD ws 3 0)
@@ -43,7 +39,7 @@ module _ {A : Type 0} (make : Make A) where
   -- the rows from i on
   pub drop-rowsOf : (ws : List ℕ) (n i : ℕ) → i < n → drop i (rowsOf make ws n) ≡ rowAt make ws i ∷ drop (i + 1) (rowsOf make ws n)
   drop-rowsOf ws n i h =
-      let l : i < length (rowsOf make ws n) = omega (arith, length-rowsOf ws n) in
+      let l : i < length (rowsOf make ws n) = omega (arith, length-rowsOf make ws n) in
       rw (add-one i) (drop-cons (rowsOf make ws n) i (headRow []) l ∙ rw (getD-rowsOf ws n i (headRow []) h))
 
   -- the same where row i was read as a
@@ -52,13 +48,13 @@ module _ {A : Type 0} (make : Make A) where
 
   pub drop-end : (ws : List ℕ) (n i : ℕ) → n ≤ i → drop i (rowsOf make ws n) ≡ []
   drop-end ws n i h =
-      let l : length (rowsOf make ws n) ≤ i = omega (arith, length-rowsOf ws n) in
+      let l : length (rowsOf make ws n) ≤ i = omega (arith, length-rowsOf make ws n) in
       drop-of-length-le (rowsOf make ws n) l
 
   -- the first i + 1 rows are the first i, and row i
   pub take-rowsOf : (ws : List ℕ) (n i : ℕ) → i < n → take (i + 1) (rowsOf make ws n) ≡ take i (rowsOf make ws n) ++ (rowAt make ws i ∷ [])
   take-rowsOf ws n i h =
-      let l : i < length (rowsOf make ws n) = omega (arith, length-rowsOf ws n) in
+      let l : i < length (rowsOf make ws n) = omega (arith, length-rowsOf make ws n) in
       rw (add-one i) (take-suc (rowsOf make ws n) i (headRow []) l ∙ rw (getD-rowsOf ws n i (headRow []) h))
 
   -- fewer rows are a front of more

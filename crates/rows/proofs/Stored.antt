@@ -1,57 +1,19 @@
 -- Laws of stored rows, once for every table: what a table holds after a change, unused places included. Assumes nothing.
-use Prim.Native.Nat.{ℕ, zero, suc, _+_, _-_, _*_, _≤_, _<_}
-use mathlib.Core.Bool.{Bool, true, false}
+use Prim.Native.Nat.{ℕ, zero, suc, _+_, _*_, _≤_, _<_}
+use mathlib.Core.Bool.{true}
 use mathlib.Core.List.{List, [], _∷_, _++_, append-assoc, append-nil}
 use mathlib.Core.Path.{_≡_, refl, ap, sym, _∙_}
 use native.Mathlib.Omega.{arith}
-use lib.Dec.{eqb, leb}
-use lib.ListN.{length, getD, take, drop, set, length-append, length-drop}
-use lib.Seq.{drop-drop, take-at, drop-at, drop-append-add, length-take-le, split-at, set-split, getD-drop, drop-cons}
-use borrow.Author.Tests.{leb-true, le-leb}
-use Rattle.protocol.specs.declared.Block.{Block}
-use Rattle.protocol.specs.declared.Vote.{Vote}
+use lib.Dec.{leb}
+use lib.ListN.{length, getD, take, drop, set, length-append}
+use lib.Seq.{take-at, drop-at, drop-append-add, length-take-le, split-at, set-split, getD-drop, drop-cons}
+use borrow.Author.Tests.{leb-true}
 use Rattle.protocol.specs.Lists.{all}
-use Rattle.protocol.specs.Store.{Marked}
-use Rattle.protocol.specs.Lent.{Make, rowsOf, wordsOf, stored, markOf, makeBlock, makeVote, blockRow, voteRow, marksSound}
-use Rattle.protocol.proofs.Basics.Tests.{both, and-left, and-right}
+use Rattle.protocol.specs.Lent.{Make, rowsOf, wordsOf, stored, marksSound}
+use Rattle.protocol.proofs.Basics.Tests.{and-left, and-right}
+use Rattle.protocol.proofs.Lent.Rows.{Codec, length-rowsOf, length-wordsOf, drop-stored, stored-same}
 use Rattle.rows.specs.Rows.{rowAt, putRow}
-use Rattle.rows.proofs.Rows.{headRow, head-at, length-rowsOf}
-
--- Rows rs words: four of them, the last a mark. What is written is read back; what is read is written back where the mark is one.
-pub record Codec (A : Type 0) (make : Make A) (row : A → List ℕ) : Type 0 where
-  pub four : (a : A) → length (row a) ≡ 4
-  pub reads : (a : A) (ws : List ℕ) → rowAt make (row a ++ ws) 0 ≡ a
-  pub writes : (a b c m : ℕ) → m ≤ 1 → row (make a b c m) ≡ a ∷ b ∷ c ∷ m ∷ []
-  pub mark : (a : A) (ws : List ℕ) → getD (row a ++ ws) 3 0 ≤ 1
-
-mark-flag : (b : Bool) → eqb (markOf b) 1 ≡ b
-mark-flag true = refl
-mark-flag false = refl
-
-flag-mark : (m : ℕ) → m ≤ 1 → markOf (eqb m 1) ≡ m
-flag-mark zero h = refl
-flag-mark (suc zero) h = refl
-flag-mark (suc (suc m)) h = absurd (omega arith)
-
-mark-one : (b : Bool) → markOf b ≤ 1
-mark-one true = omega arith
-mark-one false = omega arith
-
-pub block-codec : Codec (Marked Block) makeBlock blockRow
-block-codec = record {
-  four = λ m. refl;
-  reads = λ m ws. λ i. record { entry = m .entry; shown = mark-flag (m .shown) i };
-  writes = λ a b c m h. ap (λ (x : ℕ). a ∷ b ∷ c ∷ x ∷ []) (flag-mark m h);
-  mark = λ m ws. mark-one (m .shown);
-}
-
-pub vote-codec : Codec (Marked Vote) makeVote voteRow
-vote-codec = record {
-  four = λ m. refl;
-  reads = λ m ws. λ i. record { entry = m .entry; shown = mark-flag (m .shown) i };
-  writes = λ a b c m h. ap (λ (x : ℕ). a ∷ b ∷ c ∷ x ∷ []) (flag-mark m h);
-  mark = λ m ws. mark-one (m .shown);
-}
+use Rattle.rows.proofs.Rows.{headRow, head-at}
 
 four-words : (ws : List ℕ) (k : ℕ) → k + 4 ≤ length ws → drop k ws ≡ getD ws k 0 ∷ getD ws (k + 1) 0 ∷ getD ws (k + 2) 0 ∷ getD ws (k + 3) 0 ∷ drop (k + 4) ws
 four-words ws k h =
@@ -65,75 +27,10 @@ four-words ws k h =
     (drop-cons ws (suc (suc k)) 0 (omega arith) ∙ ap (λ (t : List ℕ). getD ws (suc (suc k)) 0 ∷ t) (drop-cons ws (suc (suc (suc k))) 0 (omega arith)))))
 
 module _ {A : Type 0} {make : Make A} {row : A → List ℕ} (codec : Codec A make row) where
-  -- ---- rows stored
-
-  pub length-wordsOf : (rs : List A) → length (wordsOf row rs) ≡ 4 * length rs
-  unfolding wordsOf
-  length-wordsOf [] = refl
-  length-wordsOf (a ∷ rs) = length-append (row a) (wordsOf row rs) ∙ omega (arith, codec .four a, length-wordsOf rs)
-
-  pub length-stored : (rs : List A) (ws : List ℕ) → 4 * length rs ≤ length ws → length (stored row rs ws) ≡ length ws
-  unfolding stored
-  length-stored rs ws h = rw (length-append, length-wordsOf, length-drop) (omega arith)
-
-  rows-words : (rs : List A) (ws : List ℕ) → rowsOf make (wordsOf row rs ++ ws) (length rs) ≡ rs
-  unfolding rowsOf wordsOf
-  rows-words [] ws = refl
-  rows-words (a ∷ rs) ws =
-      let rest = wordsOf row rs ++ ws in
-      ap (λ (w : List ℕ). rowsOf make w (suc (length rs))) (append-assoc (row a) (wordsOf row rs) ws)
-      ∙ (λ i. codec .reads a rest i ∷ rowsOf make (drop-at (row a) rest 4 (codec .four a) i) (length rs))
-      ∙ ap (λ (l : List A). a ∷ l) (rows-words rs ws)
-
-  -- what was stored is read back
-  pub rows-stored : (rs : List A) (ws : List ℕ) (n : ℕ) → length rs ≡ n → rowsOf make (stored row rs ws) n ≡ rs
-  unfolding stored
-  rows-stored rs ws n e = rw (← e) (rows-words rs (drop (4 * length rs) ws))
-
-  marks-words : (rs : List A) (ws : List ℕ) → marksSound (wordsOf row rs ++ ws) (length rs) ≡ true
-  unfolding marksSound all rowsOf wordsOf
-  marks-words [] ws = refl
-  marks-words (a ∷ rs) ws =
-      let rest = wordsOf row rs ++ ws in
-      ap (λ (w : List ℕ). marksSound w (suc (length rs))) (append-assoc (row a) (wordsOf row rs) ws)
-      ∙ both (le-leb (getD (row a ++ rest) 3 0) 1 (codec .mark a rest))
-      (rw (drop-at (row a) rest 4 (codec .four a)) (marks-words rs ws))
-
-  -- its marks are sound
-  pub marks-stored : (rs : List A) (ws : List ℕ) (n : ℕ) → length rs ≡ n → marksSound (stored row rs ws) n ≡ true
-  unfolding stored
-  marks-stored rs ws n e = rw (← e) (marks-words rs (drop (4 * length rs) ws))
-
-  words-rows : (ws : List ℕ) (n : ℕ) → marksSound ws n ≡ true → 4 * n ≤ length ws → wordsOf row (rowsOf make ws n) ++ drop (4 * n) ws ≡ ws
-  unfolding rowsOf wordsOf marksSound all
-  words-rows ws zero k h = refl
-  words-rows [] (suc n) k h = absurd (omega arith)
-  words-rows (a ∷ []) (suc n) k h = absurd (omega arith)
-  words-rows (a ∷ b ∷ []) (suc n) k h = absurd (omega arith)
-  words-rows (a ∷ b ∷ c ∷ []) (suc n) k h = absurd (omega arith)
-  words-rows (a ∷ b ∷ c ∷ m ∷ ws) (suc n) k h =
-      let e : 4 * suc n ≡ suc (suc (suc (suc (4 * n)))) = omega arith in
-      rw (e, codec .writes a b c m (leb-true m 1 (and-left (leb m 1) _ k)))
-      (ap (λ (l : List ℕ). a ∷ b ∷ c ∷ m ∷ l) (words-rows ws n (and-right (leb m 1) _ k) (omega arith)))
-
-  -- nothing changed
-  pub stored-same : (ws : List ℕ) (n : ℕ) → marksSound ws n ≡ true → 4 * n ≤ length ws → stored row (rowsOf make ws n) ws ≡ ws
-  unfolding stored
-  stored-same ws n k h = rw (length-rowsOf make ws n) (words-rows ws n k h)
-
-  drop-stored : (rs : List A) (ws : List ℕ) (k : ℕ) → 4 * length rs ≤ k → drop k (stored row rs ws) ≡ drop k ws
-  unfolding stored
-  drop-stored rs ws k h =
-      let j = k - 4 * length rs in
-      let e : k ≡ length (wordsOf row rs) + j = omega (arith, length-wordsOf rs) in
-      let f : 4 * length rs + j ≡ k = omega arith in
-      ap (λ (n : ℕ). drop n (stored row rs ws)) e ∙ drop-append-add (wordsOf row rs) (drop (4 * length rs) ws) j
-      ∙ drop-drop j (4 * length rs) ws ∙ ap (λ (n : ℕ). drop n ws) f
-
   -- a store of no fewer rows covers the store before it
   pub stored-longer : (xs rs : List A) (ws : List ℕ) → length rs ≤ length xs → stored row xs (stored row rs ws) ≡ stored row xs ws
   unfolding stored
-  stored-longer xs rs ws h = ap (λ (t : List ℕ). wordsOf row xs ++ t) (drop-stored rs ws (4 * length xs) (omega arith))
+  stored-longer xs rs ws h = ap (λ (t : List ℕ). wordsOf row xs ++ t) (drop-stored codec rs ws (4 * length xs) (omega arith))
 
   -- ---- a row written
 
@@ -147,9 +44,9 @@ module _ {A : Type 0} {make : Make A} {row : A → List ℕ} (codec : Codec A ma
   unfolding putRow stored
   put-end rs ws a n e =
       let front = wordsOf row rs in
-      let l : length front ≡ 4 * n = omega (arith, length-wordsOf rs) in
+      let l : length front ≡ 4 * n = omega (arith, length-wordsOf codec rs) in
       let t : take (4 * n) (stored row rs ws) ≡ front = take-at front (drop (4 * length rs) ws) (4 * n) l in
-      let d : drop (4 * n + 4) (stored row rs ws) ≡ drop (4 * n + 4) ws = drop-stored rs ws (4 * n + 4) (omega arith) in
+      let d : drop (4 * n + 4) (stored row rs ws) ≡ drop (4 * n + 4) ws = drop-stored codec rs ws (4 * n + 4) (omega arith) in
       let m : 4 * length (rs ++ (a ∷ [])) ≡ 4 * n + 4 = ap (λ (k : ℕ). 4 * k) (length-append rs (a ∷ [])) ∙ omega arith in
       rw (t, d, m, wordsOf-end rs a) (sym (append-assoc front (row a) (drop (4 * n + 4) ws)))
 
@@ -157,12 +54,12 @@ module _ {A : Type 0} {make : Make A} {row : A → List ℕ} (codec : Codec A ma
   pub put-after : (ws : List ℕ) (n : ℕ) (a : A) → marksSound ws n ≡ true → 4 * n ≤ length ws
       → putRow ws n (row a) ≡ stored row (rowsOf make ws n ++ (a ∷ [])) ws
   put-after ws n a k h =
-      ap (λ (w : List ℕ). putRow w n (row a)) (sym (stored-same ws n k h)) ∙ put-end (rowsOf make ws n) ws a n (length-rowsOf make ws n)
+      ap (λ (w : List ℕ). putRow w n (row a)) (sym (stored-same codec ws n k h)) ∙ put-end (rowsOf make ws n) ws a n (length-rowsOf make ws n)
 
   -- the row after those stored is as it was
   pub row-after : (rs : List A) (ws : List ℕ) (n : ℕ) → length rs ≡ n → rowAt make (stored row rs ws) n ≡ rowAt make ws n
   row-after rs ws n e =
-      sym (head-at make (stored row rs ws) n) ∙ ap (headRow make) (drop-stored rs ws (4 * n) (omega arith)) ∙ head-at make ws n
+      sym (head-at make (stored row rs ws) n) ∙ ap (headRow make) (drop-stored codec rs ws (4 * n) (omega arith)) ∙ head-at make ws n
 
   wordsOf-append : (xs ys : List A) → wordsOf row (xs ++ ys) ≡ wordsOf row xs ++ wordsOf row ys
   unfolding wordsOf
@@ -183,10 +80,10 @@ module _ {A : Type 0} {make : Make A} {row : A → List ℕ} (codec : Codec A ma
   put-split xs ys x a ws =
       let front = wordsOf row xs in
       let t = wordsOf row ys ++ drop (4 * (length xs + suc (length ys))) ws in
-      let k : 4 * length xs + 4 ≡ length front + 4 = omega (arith, length-wordsOf xs) in
+      let k : 4 * length xs + 4 ≡ length front + 4 = omega (arith, length-wordsOf codec xs) in
       let d : drop (4 * length xs + 4) (front ++ (row x ++ t)) ≡ t
       = ap (λ (n : ℕ). drop n (front ++ (row x ++ t))) k ∙ drop-append-add front (row x ++ t) 4 ∙ drop-at (row x) t 4 (codec .four x) in
-      rw (stored-split xs ys x ws, stored-split xs ys a ws, take-at front (row x ++ t) (4 * length xs) (length-wordsOf xs), d)
+      rw (stored-split xs ys x ws, stored-split xs ys a ws, take-at front (row x ++ t) (4 * length xs) (length-wordsOf codec xs), d)
 
   -- among the rows stored
   pub put-set : (rs : List A) (ws : List ℕ) (i : ℕ) (a : A) → i < length rs → putRow (stored row rs ws) i (row a) ≡ stored row (set rs i a) ws

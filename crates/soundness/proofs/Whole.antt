@@ -9,7 +9,7 @@ use Rattle.protocol.specs.declared.Clock.{Clock}
 use Rattle.protocol.specs.Store.{Places}
 use Rattle.protocol.specs.Sound.{settingsSound, placesSound, clockSound, blocksSound, votesSound, sound}
 use Rattle.protocol.specs.Lent.{Lent, rowsOf, makeBlock, makeVote, placesIn, placesOf, nodeOf, marksSound, lentSound}
-use Rattle.rows.proofs.Rows.{length-rowsOf}
+use Rattle.protocol.proofs.Lent.Rows.{length-rowsOf}
 
 module _ (s : Settings) (clock : Clock) (bw : List ℕ) (bu : ℕ) (vw : List ℕ) (vu : ℕ) where
   abbrev lent : Lent

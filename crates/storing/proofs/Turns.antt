@@ -10,13 +10,14 @@ use lib.Seq.{take-all}
 use mir.Val.{boolByte}
 use Rattle.protocol.specs.Store.{Marked, waiting, entries}
 use Rattle.protocol.specs.Lent.{Make, rowsOf, stored, markOf, marksSound}
+use Rattle.protocol.proofs.Store.New.{Adding}
 use Rattle.protocol.proofs.Store.Views.{length-entries}
-use Rattle.rows.proofs.Rows.{length-rowsOf}
+use Rattle.protocol.proofs.Lent.Rows.{Codec, rows-stored, marks-stored, stored-same, length-rowsOf}
 use Rattle.rows.proofs.Words.{mark-word}
-use Rattle.rows.proofs.Stored.{Codec, rows-stored, marks-stored, stored-same, stored-longer}
+use Rattle.rows.proofs.Stored.{stored-longer}
 use Rattle.admission.proofs.Entries.{front-entry}
 use Rattle.storing.specs.Grown.{grown, Holds}
-use Rattle.storing.proofs.Adding.{addOne, addAll, added-end, length-one, length-grows, length-front, enter, enterAll, entered-end, length-entered, length-enter, grown-entered}
+use Rattle.storing.proofs.Adding.{addOne, added-one, added-end, length-one, length-grows, length-front, enter, enterAll, entered-end, length-entered, length-enter, grown-entered}
 
 -- a flag counts at most one
 pub flag-one : (b : Bool) → boolByte b ≤ 1
@@ -24,25 +25,21 @@ flag-one true = omega arith
 flag-one false = omega arith
 
 -- `add` adds entries to a store that `has` does not find there
-module _ {A : Type 0} (has : List A → A → Bool) (add : List A → List A → List A) (is : (xs ys : List A) → add xs ys ≡ addAll has xs ys) where
+module _ {A : Type 0} (has : List A → A → Bool) (add : List A → List A → List A) (is : Adding has add) where
   -- ---- counting: k entries stood there, n more were new among the first i
 
   module _ (old xs : List A) (k : ℕ) where
     pub count-begin : length old ≡ k → k + 0 ≡ length (add old (take 0 xs))
-    unfolding addAll
-    count-begin e = omega (arith, e, ap length (is old []))
+    count-begin e = omega (arith, e, ap length (is .none old))
 
     pub count-turn : (d : A) (n i : ℕ) {t : Bool} → i < length xs → k + n ≡ length (add old (take i xs))
         → t ≡ not (has (add old (take i xs)) (getD xs i d)) → k + (n + boolByte t) ≡ length (add old (take (i + 1) xs))
     count-turn d n i {t} h e q =
-        let s = is old (take i xs) in
         rw (
           mark-word t,
-          is old (take (i + 1) xs),
           front-entry xs d i h refl,
-          added-end has old (take i xs) (getD xs i d),
-          length-one has (addAll has old (take i xs)) (getD xs i d),
-          ← s,
+          added-end has add is old (take i xs) (getD xs i d),
+          length-one has (add old (take i xs)) (getD xs i d),
           ← q,
         ) (omega (arith, e))
 
@@ -59,7 +56,7 @@ module _ {A : Type 0} (has : List A → A → Bool) (add : List A → List A →
     pub room-now : (ws : List ℕ) (u : ℕ) (xs : List A) → 4 * length (add (entries (rowsOf make ws u)) xs) ≤ length ws → 4 * u ≤ length ws
     room-now ws u xs h =
         let r = rowsOf make ws u in
-        omega (arith, h, ap length (is (entries r) xs), length-grows has (entries r) xs, length-entries r ∙ length-rowsOf make ws u)
+        omega (arith, h, length-grows has add is (entries r) xs, length-entries r ∙ length-rowsOf make ws u)
 
     -- one entry: it is there, or it goes to the end
     module _ (ws : List ℕ) (u : ℕ) (a : A) where
@@ -80,11 +77,10 @@ module _ {A : Type 0} (has : List A → A → Bool) (add : List A → List A →
           rw (one, e) (record { words = p; used = q ∙ sym (length-append (rowsOf make ws u) (waiting a ∷ []) ∙ ap (λ (n : ℕ). n + 1) (length-rowsOf make ws u)) })
 
       pub room-new : has (entries (rowsOf make ws u)) a ≡ false → 4 * length (add (entries (rowsOf make ws u)) (a ∷ [])) ≤ length ws → 4 * (u + 1) ≤ length ws
-      unfolding addAll
       room-new e h =
           let r = entries (rowsOf make ws u) in
           let n = length-one has r a ∙ ap (λ (t : Bool). length r + markOf (not t)) e in
-          omega (arith, h, n, ap length (is r (a ∷ [])), length-entries (rowsOf make ws u) ∙ length-rowsOf make ws u)
+          omega (arith, h, n, ap length (added-one has add is r a), length-entries (rowsOf make ws u) ∙ length-rowsOf make ws u)
 
     -- i entries were added to the table in ws₀
     module _ (ws₀ : List ℕ) (u₀ : ℕ) (xs : List A) where
@@ -113,13 +109,12 @@ module _ {A : Type 0} (has : List A → A → Bool) (add : List A → List A →
         -- where there is room for all, there is room for the next
         pub add-room : (d : A) {a : A} → i < length xs → a ≡ getD xs i d → 4 * length (add (entries (rowsOf make ws₀ u₀)) xs) ≤ length ws₀
             → length ws ≡ length ws₀ → 4 * length (add (entries (rowsOf make ws u)) (a ∷ [])) ≤ length ws
-        unfolding addAll
         add-room d {a} h e l m =
             let r₀ = entries (rowsOf make ws₀ u₀) in
             let r = entries (rowsOf make ws u) in
-            let n : length (addOne has r a) ≡ length (addAll has r₀ (take (i + 1) xs))
-            = sym (length-enter has (rowsOf make ws u) a) ∙ ap length (next-rows d h e ∙ after-entered (i + 1)) ∙ length-entered has (rowsOf make ws₀ u₀) (take (i + 1) xs) in
-            omega (arith, n, l, m, length-front has r₀ xs (i + 1), ap length (is r₀ xs), ap length (is r (a ∷ [])))
+            let n : length (addOne has r a) ≡ length (add r₀ (take (i + 1) xs))
+            = sym (length-enter has (rowsOf make ws u) a) ∙ ap length (next-rows d h e ∙ after-entered (i + 1)) ∙ length-entered has add is (rowsOf make ws₀ u₀) (take (i + 1) xs) in
+            omega (arith, n, l, m, length-front has add is r₀ xs (i + 1), ap length (added-one has add is r a))
 
         pub add-turn : (d : A) {a : A} {ws′ : List ℕ} {u′ : ℕ} → i < length xs → a ≡ getD xs i d
             → Table (grown add (rowsOf make ws u) (a ∷ [])) ws ws′ u′ → Table (after (i + 1)) ws₀ ws′ u′

@@ -15,9 +15,9 @@ use Rattle.protocol.specs.Refusal.{Test, pass, refuse, first}
 use Rattle.protocol.specs.Lent.{Lent, rowsOf, makeBlock, makeVote, placesIn, placesOf, nodeOf, lentSound}
 use Rattle.protocol.proofs.Basics.Tests.{facts, and-left, and-right}
 use Rattle.protocol.proofs.Store.Sound.{ClockSound, Ranges, ranges, places-few}
-use Rattle.rows.proofs.Rows.{length-rowsOf}
-use Rattle.protocol.proofs.Lent.Memory as memory
-use Rattle.soundness.proofs.Facts.{SoundMemory, lent-true}
+use Rattle.protocol.proofs.Lent.Memory.{lent-true}
+use Rattle.protocol.proofs.Lent.Rows.{length-rowsOf}
+use Rattle.soundness.proofs.Facts.{SoundMemory, sound-memory}
 use Rattle.verdicts.specs.Lent.{lentVerdict}
 
 -- ---- sound memory, as code goes on with it
@@ -47,9 +47,9 @@ sound-blocks s p x e = search facts
 pub ready : (s : Settings) (m : Lent) → lentSound s m ≡ true → Ready s m
 unfolding nodeOf placesOf
 ready s m e =
-    let M = lent-true s m e in
+    let M = sound-memory s m e in
     let N = M .node in
-    let o = first-row (m .clock .seen / 3) (m .blocks) (m .blocksUsed) (sound-blocks s (placesOf m) (nodeOf m) (memory.lent-true s m e .node)) in
+    let o = first-row (m .clock .seen / 3) (m .blocks) (m .blocksUsed) (sound-blocks s (placesOf m) (nodeOf m) (lent-true s m e .node)) in
     let b : m .blocksUsed ≤ placesIn (m .blocks) = omega (arith, N .fit-blocks, length-rowsOf makeBlock (m .blocks) (m .blocksUsed)) in
     let v : m .votesUsed ≤ placesIn (m .votes) = omega (arith, N .fit-votes, length-rowsOf makeVote (m .votes) (m .votesUsed)) in
     let f = places-few (placesOf m) (N .places) in

@@ -8,11 +8,12 @@ use lib.ListN.{length}
 use Rattle.protocol.specs.declared.Block.{Block}
 use Rattle.protocol.specs.Store.{Marked, visible, show}
 use Rattle.protocol.specs.Lent.{rowsOf, stored, makeBlock, blockRow, marksSound}
+use Rattle.protocol.proofs.Lent.Rows.{block-codec, stored-same, length-rowsOf}
 use Rattle.rows.specs.declared.Place.the-variants.{At, Missing}
 use Rattle.rows.specs.Rows.{rowAt, putRow}
 use Rattle.rows.specs.Find.{placeOf}
-use Rattle.rows.proofs.Rows.{length-rowsOf, getD-rowsOf}
-use Rattle.rows.proofs.Stored.{block-codec, put-set, stored-same}
+use Rattle.rows.proofs.Rows.{getD-rowsOf}
+use Rattle.rows.proofs.Stored.{put-set}
 use Rattle.rows.proofs.Find.{place-below}
 use Rattle.views.specs.Ancestors.{Ordered}
 use Rattle.views.proofs.Order.{numbered, ordered-apart, set-show, missing-show}

@@ -10,9 +10,10 @@ use Rattle.protocol.specs.Store.{Marked, inView, show}
 use Rattle.protocol.specs.Lent.{rowsOf, stored, makeBlock, blockRow, marksSound}
 use Rattle.protocol.proofs.Store.Tables.{Closed}
 use Rattle.protocol.proofs.Store.Views.{length-show}
+use Rattle.protocol.proofs.Lent.Rows.{block-codec, rows-stored, marks-stored, stored-same, length-rowsOf}
 use Rattle.rows.specs.Rows.{rowAt}
-use Rattle.rows.proofs.Rows.{length-rowsOf, drop-read, drop-end}
-use Rattle.rows.proofs.Stored.{block-codec, rows-stored, marks-stored, stored-same, stored-longer}
+use Rattle.rows.proofs.Rows.{drop-read, drop-end}
+use Rattle.rows.proofs.Stored.{stored-longer}
 use Rattle.views.specs.Ancestors.{Ordered, showAncestors}
 use Rattle.views.proofs.Order.{numbered, ordered-show}
 use Rattle.views.proofs.Ancestors.{ClosedFrom, closed-end, closed-waits, closed-brings, closed-all, closed-same, parent-same, row-shown, row-number}

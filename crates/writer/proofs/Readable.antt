@@ -1,26 +1,17 @@
 -- The writer can be called on sound memory, and what it writes is the packet of the node that the memory holds. Assumes nothing.
-use Prim.Native.Nat.{ℕ, zero, suc, _*_, _/_, _%_, _≤_}
+use Prim.Native.Nat.{ℕ, zero, suc, _/_, _≤_}
 use mathlib.Core.Path.{_≡_, refl}
-use mathlib.Core.Bool.{Bool, true, false, cond, false≢true}
+use mathlib.Core.Bool.{Bool, true, false, false≢true}
 use mathlib.Core.List.{List}
 use native.Mathlib.Omega.{arith}
-use lib.Dec.{eqb}
 use lib.ListN.{length, getD}
 use Rattle.protocol.specs.declared.Settings.{Settings}
 use Rattle.protocol.specs.Sound.{between, placesSound, blocksSound, sound}
 use Rattle.protocol.specs.Calls.Write.{gossipOf, proposalOf, packetOut}
 use Rattle.protocol.specs.Lent.{Lent, rowsOf, makeBlock, makeVote, placesIn, placesOf, nodeOf, lentSound}
 use Rattle.protocol.proofs.Basics.Tests.{facts, and-left, and-right}
+use Rattle.protocol.proofs.Lent.Rows.{length-rowsOf, places-fit}
 use Rattle.writer.specs.Sent.{nodeIn, Readable}
-use Rattle.writer.proofs.Rows.{rows-count}
-
-places-rows : (ws : List ℕ) (used : ℕ) → used ≤ placesIn ws → 4 * used ≤ length ws
-unfolding placesIn
-places-rows ws used = go (eqb (length ws % 4) 0)
-  where
-    go : (t : Bool) → used ≤ cond t (length ws / 4) 0 → 4 * used ≤ length ws
-    go true h = omega arith
-    go false h = omega arith
 
 first-shown : (slot : ℕ) (ws : List ℕ) (used : ℕ) → blocksSound slot (rowsOf makeBlock ws used) ≡ true → getD ws 3 0 ≡ 1
 unfolding blocksSound rowsOf
@@ -34,11 +25,11 @@ sound-readable s m e =
     let v : length (rowsOf makeVote (m .votes) (m .votesUsed)) ≤ placesIn (m .votes) = search facts depth 14 in
     let most : placesIn (m .blocks) ≤ 2048 = search facts depth 14 in
     let most′ : placesIn (m .votes) ≤ 8192 = search facts depth 14 in
-    let bs : m .blocksUsed ≤ placesIn (m .blocks) = rw (rows-count makeBlock (m .blocks) (m .blocksUsed)) at b in
-    let vs : m .votesUsed ≤ placesIn (m .votes) = rw (rows-count makeVote (m .votes) (m .votesUsed)) at v in
+    let bs : m .blocksUsed ≤ placesIn (m .blocks) = rw (length-rowsOf makeBlock (m .blocks) (m .blocksUsed)) at b in
+    let vs : m .votesUsed ≤ placesIn (m .votes) = rw (length-rowsOf makeVote (m .votes) (m .votesUsed)) at v in
     record {
-      blockRows = places-rows (m .blocks) (m .blocksUsed) bs;
-      voteRows = places-rows (m .votes) (m .votesUsed) vs;
+      blockRows = places-fit (m .blocks) (m .blocksUsed) bs;
+      voteRows = places-fit (m .votes) (m .votesUsed) vs;
       blockCount = omega (arith, bs, most);
       voteCount = omega (arith, vs, most′);
       first = first-shown (m .clock .seen / 3) (m .blocks) (m .blocksUsed) (search (and-left, and-right) depth 14);

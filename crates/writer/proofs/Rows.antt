@@ -1,6 +1,6 @@
 -- The rows that are sent, one more at each turn of a loop, and their bytes. Assumes nothing.
 use Prim.Native.Nat.{ℕ, zero, suc, _+_, _*_, _-_, _<_, _≤_}
-use mathlib.Core.Path.{_≡_, refl, sym, ap, _∙_}
+use mathlib.Core.Path.{_≡_, refl, sym, _∙_}
 use mathlib.Core.Bool.{Bool, true, false, cond}
 use mathlib.Core.List.{List, [], _∷_, _++_, map}
 use native.Mathlib.Numerals.{add-one}
@@ -9,17 +9,13 @@ use lib.ListN.{length, take, drop, length-append, length-drop, drop-of-length-le
 use lib.Seq.{sets, getD-drop}
 use Rattle.protocol.specs.Packet.{bytesOf, flat, section}
 use Rattle.protocol.specs.Calls.Write.{over}
-use Rattle.protocol.specs.Lent.{Make, rowsOf}
+use Rattle.protocol.specs.Lent.{rowsOf}
+use Rattle.protocol.proofs.Lent.Rows.{length-rowsOf}
 use Rattle.protocol.proofs.Packet.Numbers.{le-length}
 use Rattle.writer.specs.declared.Row.{Row}
 use Rattle.writer.specs.declared.Widths.{Widths}
 use Rattle.writer.specs.Rows.{makeRow, rowAt, isSent, sentRows, sentFrom, rowBytes, entryBytes, entriesBytes}
 use Rattle.writer.proofs.Places.{sets-behind, sets-over, lent-rest}
-
-pub rows-count : {A : Type 0} (make : Make A) (ws : List ℕ) (n : ℕ) → length (rowsOf make ws n) ≡ n
-unfolding rowsOf
-rows-count make ws zero = refl
-rows-count make ws (suc n) = ap suc (rows-count make (drop 4 ws) n)
 
 rows-next : (ws : List ℕ) (n i : ℕ) → i < n → drop i (rowsOf makeRow ws n) ≡ rowAt ws i ∷ drop (suc i) (rowsOf makeRow ws n)
 unfolding rowsOf
@@ -49,7 +45,7 @@ module _ (proposal : Bool) (ws : List ℕ) (used : ℕ) where
 
   sent-end : (i : ℕ) → used ≤ i → sentFrom proposal ws i used ≡ []
   unfolding sentFrom sentRows
-  sent-end i h = rw (drop-of-length-le (rowsOf makeRow ws used) {i = i} (rw rows-count h)) refl
+  sent-end i h = rw (drop-of-length-le (rowsOf makeRow ws used) {i = i} (rw length-rowsOf h)) refl
 
   -- ---- how many
 
@@ -61,7 +57,7 @@ module _ (proposal : Bool) (ws : List ℕ) (used : ℕ) where
 
   pub count-most : (i : ℕ) → length (sentFrom proposal ws i used) ≤ used
   unfolding sentFrom
-  count-most i = omega (arith, sent-most proposal (drop i (rowsOf makeRow ws used)), length-drop i (rowsOf makeRow ws used), rows-count makeRow ws used)
+  count-most i = omega (arith, sent-most proposal (drop i (rowsOf makeRow ws used)), length-drop i (rowsOf makeRow ws used), length-rowsOf makeRow ws used)
 
   pub count-end : (i : ℕ) → used ≤ i → length (sentFrom proposal ws i used) ≡ 0
   count-end i h = rw (sent-end i h) refl

@@ -1,7 +1,7 @@
 -- `node::propose` meets its contract: Propose. Assumes nothing.
 use borrow.Author.Needs.{needs}
 use native.Mathlib.Omega.{arith}
-use Rattle.rows.proofs.Stored.{block-codec}
+use Rattle.protocol.proofs.Lent.Rows.{block-codec}
 use Rattle.answers.proofs.Verdict.{passed-ready, tables-sound}
 use Rattle.node.proofs.Tables.{shown-marks}
 use Rattle.node.proofs.Calls.{propose-leaves, propose-room, propose-stores}

@@ -25,11 +25,11 @@ module _ {A : Type 0} (knows : List A → A → Bool) where
   newOf old (a ∷ rest) = cond (knows old a) (newOf old rest) (a ∷ newOf (old ++ (a ∷ [])) rest)
 
   -- a function that adds one entry after the other, where it is not known
-  record Adding (add : List A → List A → List A) : Type 0 where
+  pub record Adding (add : List A → List A → List A) : Type 0 where
     pub none : (old : List A) → add old [] ≡ old
     pub one : (old : List A) (a : A) (rest : List A) → add old (a ∷ rest) ≡ add (cond (knows old a) old (old ++ (a ∷ []))) rest
 
-  adds-new : (add : List A → List A → List A) → Adding add → (old xs : List A) → add old xs ≡ old ++ newOf old xs
+  pub adds-new : (add : List A → List A → List A) → Adding add → (old xs : List A) → add old xs ≡ old ++ newOf old xs
   unfolding newOf
   adds-new add F old [] = F .none old ∙ sym (append-nil old)
   adds-new add F old (a ∷ rest) = F .one old a rest ∙ go (knows old a) (adds-new add F old rest) (adds-new add F (old ++ (a ∷ [])) rest)
@@ -103,11 +103,11 @@ newBlocksOf = newOf knowsBlock
 abbrev pub newVotesOf : List Vote → List Vote → List Vote
 newVotesOf = newOf knowsVote
 
-adding-blocks : Adding knowsBlock addBlocks
+pub adding-blocks : Adding knowsBlock addBlocks
 unfolding addBlocks addBlock
 adding-blocks = record { none = λ old. refl; one = λ old b rest. refl }
 
-adding-votes : Adding knowsVote addVotes
+pub adding-votes : Adding knowsVote addVotes
 unfolding addVotes addVote
 adding-votes = record { none = λ old. refl; one = λ old a rest. refl }
 

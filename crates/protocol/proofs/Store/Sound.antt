@@ -1,7 +1,7 @@
 -- A sound node as a record of facts, and back. Assumes nothing.
 use Rattle.protocol.proofs.Store.New.{apart}
 use Prim.Native.Nat.{ℕ, _+_, _*_, _/_, _≤_, _<_}
-use mathlib.Core.Path.{_≡_, refl, sym, ap, _∙_}
+use mathlib.Core.Path.{_≡_, refl, sym, ap}
 use mathlib.Core.Logic.{_⊎_, inl, inr}
 use mathlib.Core.Bool.{Bool, true, false, not, _||_}
 use mathlib.Core.List.{List, [], _∷_, List·Memᴰ·head, List·Memᴰ·tail, List·Memᴰ·cases-cons, List·Memᴰ·not-nil, List·Memᴰ·eq-of-singleton}
@@ -24,8 +24,8 @@ use Rattle.protocol.proofs.Chain.Relations.{In, Known, Sound}
 use Rattle.protocol.proofs.Filters.Relations.{Cast}
 use Rattle.protocol.proofs.Store.Growth.{distinct}
 use Rattle.protocol.proofs.Store.Follow.{allFollow, found-true, found-known, known-found, found-holds}
-use Rattle.protocol.proofs.Store.Tables.{Table, table-true, table-holds, table-sound, table-slot}
-use Rattle.protocol.proofs.Store.Views.{view-cases, view-here, view-there, view-stored}
+use Rattle.protocol.proofs.Store.Tables.{Table, table-true, table-holds, table-sound, table-slot, closed-sound}
+use Rattle.protocol.proofs.Store.Views.{view-cases, view-here, view-there}
 
 -- vote a is for a known block of no later slot
 pub record VoteSound (n slot : ℕ) (bs : List Block) (a : Vote) : Type 0 where
@@ -184,15 +184,7 @@ module _ {s : Settings} {pl : Places} {x : Node} (G : IsSound s pl x) where
   start-shown = G .blocks .shown
 
   pub view-sound : Sound (inView (x .blocks))
-  view-sound = record {
-    start = start-shown;
-    unique = λ c d m n q. store-sound .unique c d (view-stored (x .blocks) c m) (view-stored (x .blocks) d n) q;
-    parents = λ c m z.
-        let p = store-sound .parents c (view-stored (x .blocks) c m) z in
-        let q = G .closed-blocks c m in
-        let e = store-sound .unique (q .0) (p .0) (view-stored (x .blocks) (q .0) (q .1)) (p .1) (q .2 ∙ sym (p .2)) in
-        (q .0, q .1, q .2, rw e (p .3));
-  }
+  view-sound = closed-sound (G .blocks) (G .closed-blocks)
 
   pub slot-seen : (c : Block) → In c (entries (x .blocks)) → c .slot ≤ x .clock .seen / 3
   slot-seen c m = table-slot (G .blocks) c m

@@ -5,8 +5,9 @@ use denote.Ref.{now}
 use Rattle.protocol.specs.Packet.{packetOf}
 use Rattle.protocol.specs.Lent.{rowsOf, makeBlock}
 use Rattle.protocol.specs.Calls.Receive.{addBlocks}
-use Rattle.rows.proofs.Stored.{block-codec}
-use Rattle.storing.proofs.Adding.{hasBlock, blocks-added, length-grown}
+use Rattle.protocol.proofs.Lent.Rows.{block-codec}
+use Rattle.protocol.proofs.Store.New.{knowsBlock, adding-blocks}
+use Rattle.storing.proofs.Adding.{length-grown}
 use Rattle.receiving.proofs.Receiving.{accepted-carried, blocks-kept, blocks-shown, rows-held, marks-held}
 use Rattle.receiving.proofs.receive_blocks.Statement.{statement}
 use Rattle.receiving.proofs.receive_blocks.Tie as tie
@@ -18,7 +19,7 @@ show-stood-on-requires : tie.Need-show-stood-on-requires
 show-stood-on-requires c κs =
     let a = c .before .before .before .before .before in
     let s = a .before .before .before .before .before in (
-      omega (arith, a .add-blocks .kept .0, s .pre .0, a .add-blocks .ensures .used, length-grown hasBlock addBlocks blocks-added (rowsOf makeBlock (now (s .args .blocks)) (now (s .args .used))) (packetOf (now (s .args .bytes)) .blocks)),
+      omega (arith, a .add-blocks .kept .0, s .pre .0, a .add-blocks .ensures .used, length-grown knowsBlock addBlocks adding-blocks (rowsOf makeBlock (now (s .args .blocks)) (now (s .args .used))) (packetOf (now (s .args .bytes)) .blocks)),
       marks-held block-codec _ _ (a .add-blocks .ensures),
       rw (rows-held block-codec _ _ (a .add-blocks .ensures)) (accepted-carried _ _ (s .pre .2)),
     )

@@ -7,8 +7,9 @@ use Rattle.protocol.specs.Store.{sameVote}
 use Rattle.protocol.specs.Packet.{packetOf}
 use Rattle.protocol.specs.Lent.{rowsOf, makeVote}
 use Rattle.protocol.specs.Calls.Receive.{addVotes}
-use Rattle.rows.proofs.Stored.{vote-codec}
-use Rattle.storing.proofs.Adding.{hasVote, votes-added, length-grown}
+use Rattle.protocol.proofs.Lent.Rows.{vote-codec}
+use Rattle.protocol.proofs.Store.New.{knowsVote, adding-votes}
+use Rattle.storing.proofs.Adding.{length-grown}
 use Rattle.receiving.proofs.Receiving.{votes-kept, votes-brought, marks-held, shown-held}
 use Rattle.receiving.proofs.receive_votes.Statement.{statement}
 use Rattle.receiving.proofs.receive_votes.Tie as tie
@@ -17,7 +18,7 @@ show-votes-requires : tie.Need-show-votes-requires
 show-votes-requires c κs =
     let a = c .before .before .before .before .before in
     let s = a .before .before .before .before .before in (
-      omega (arith, a .add-votes .kept .0, s .pre .0, a .add-votes .ensures .used, length-grown hasVote addVotes votes-added (rowsOf makeVote (now (s .args .votes)) (now (s .args .used))) (packetOf (now (s .args .bytes)) .votes)),
+      omega (arith, a .add-votes .kept .0, s .pre .0, a .add-votes .ensures .used, length-grown knowsVote addVotes adding-votes (rowsOf makeVote (now (s .args .votes)) (now (s .args .used))) (packetOf (now (s .args .bytes)) .votes)),
       marks-held vote-codec _ _ (a .add-votes .ensures),
     )
 

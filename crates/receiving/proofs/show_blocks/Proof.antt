@@ -12,7 +12,7 @@ use Rattle.protocol.specs.Chain.{genesis}
 use Rattle.protocol.specs.Store.{show}
 use Rattle.protocol.specs.Packet.{packetOf}
 use Rattle.protocol.specs.Lent.{rowsOf, stored, makeBlock, blockRow}
-use Rattle.rows.proofs.Stored.{block-codec}
+use Rattle.protocol.proofs.Lent.Rows.{block-codec}
 use Rattle.admission.proofs.Header.{header-blocks}
 use Rattle.receiving.proofs.Carrying.{each-ordered}
 use Rattle.receiving.proofs.Showing.{shownFor, each-begin, each-marks, each-turn, each-end}

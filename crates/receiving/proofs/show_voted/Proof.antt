@@ -12,8 +12,8 @@ use Rattle.protocol.specs.declared.Vote.{Vote}
 use Rattle.protocol.specs.Store.{show}
 use Rattle.protocol.specs.Packet.{packetOf}
 use Rattle.protocol.specs.Lent.{rowsOf, stored, makeBlock, blockRow}
+use Rattle.protocol.proofs.Lent.Rows.{block-codec}
 use Rattle.packets.specs.Header.{noVote}
-use Rattle.rows.proofs.Stored.{block-codec}
 use Rattle.admission.proofs.Header.{header-votes}
 use Rattle.receiving.proofs.Carrying.{each-ordered}
 use Rattle.receiving.proofs.Showing.{shownFor, each-begin, each-marks, each-turn, each-end}

@@ -10,8 +10,8 @@ use Rattle.protocol.specs.declared.Vote.{Vote}
 use Rattle.protocol.specs.Store.{show, sameVote}
 use Rattle.protocol.specs.Packet.{packetOf}
 use Rattle.protocol.specs.Lent.{rowsOf, stored, makeVote, voteRow}
+use Rattle.protocol.proofs.Lent.Rows.{vote-codec}
 use Rattle.packets.specs.Header.{noVote}
-use Rattle.rows.proofs.Stored.{vote-codec}
 use Rattle.admission.proofs.Header.{header-votes}
 use Rattle.receiving.proofs.Showing.{shownFor, each-begin, each-marks, each-turn, each-end}
 use Rattle.receiving.proofs.show_votes.Statement.{statement}

@@ -1,11 +1,11 @@
 -- `lent_sound` meets its contract. Assumes nothing.
 use borrow.Author.Needs.{needs}
-use borrow.Author.Tests.{not-true, not-false}
+use borrow.Author.Tests.{leb-true, not-true, not-false}
 use Prim.Native.Nat.{_*_, _≤_}
 use mathlib.Core.Path.{sym, _∙_}
 use denote.Ref.{now}
 use lib.ListN.{length}
-use Rattle.ranges.proofs.Room.{fits-words}
+use Rattle.protocol.proofs.Lent.Rows.{places-fit}
 use Rattle.soundness.proofs.Whole.{no-settings, no-places, no-blocks-fit, no-votes-fit, no-clock, no-block-marks, no-vote-marks, no-blocks, votes-left}
 use Rattle.soundness.proofs.lent_sound.Statement.{statement}
 use Rattle.soundness.proofs.lent_sound.Tie as tie
@@ -34,12 +34,12 @@ blocks-fit : (c : tie.Else5) → let d = fit c .before .before in
     ≤ length (now (d .before .before .before .before .before .before .before .before .args .blocks))
 blocks-fit c =
     let d = fit c .before .before in
-    fits-words _ _ (sym (d .before .fits2 .ensures) ∙ not-false _ (d .if3 .left))
+    places-fit _ _ (leb-true _ _ (sym (d .before .fits2 .ensures) ∙ not-false _ (d .if3 .left)))
 
 votes-fit : (c : tie.Else5) → let d = fit c .before .before in
     4 * d .before .before .before .before .before .before .before .before .args .votes-used
     ≤ length (now (d .before .before .before .before .before .before .before .before .args .votes))
-votes-fit c = fits-words _ _ (sym (fit c .before .fits3 .ensures) ∙ not-false _ (fit c .if4 .left))
+votes-fit c = places-fit _ _ (leb-true _ _ (sym (fit c .before .fits3 .ensures) ∙ not-false _ (fit c .if4 .left)))
 
 returns-6 : tie.Need-returns-6
 returns-6 c = no-block-marks _ _ _ _ _ _ (sym (c .before .marks-sound .ensures) ∙ not-true _ (c .if6 .taken))

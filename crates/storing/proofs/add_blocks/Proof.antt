@@ -11,10 +11,10 @@ use Rattle.protocol.specs.Store.{Marked}
 use Rattle.protocol.specs.Packet.{packetOf}
 use Rattle.protocol.specs.Lent.{blockRow}
 use Rattle.protocol.specs.Calls.Receive.{addBlocks}
-use Rattle.rows.proofs.Stored.{block-codec}
+use Rattle.protocol.proofs.Lent.Rows.{block-codec}
+use Rattle.protocol.proofs.Store.New.{knowsBlock, adding-blocks}
 use Rattle.admission.proofs.Header.{header-blocks}
 use Rattle.storing.specs.Grown.{Holds}
-use Rattle.storing.proofs.Adding.{hasBlock, blocks-added}
 use Rattle.storing.proofs.Turns.{room-now, after, add-begin, add-room, add-marks, add-turn, add-end}
 use Rattle.storing.proofs.add_blocks.Statement.{statement}
 use Rattle.storing.proofs.add_blocks.Tie as tie
@@ -23,7 +23,7 @@ abbrev Inv-loop : tie.InvT-loop
 Inv-loop blocks₀ used₀ bytes count i₀ blocks used i =
     (count ≡ length (packetOf bytes .blocks))
     × (length blocks ≡ length blocks₀)
-    × Holds (Marked Block) blockRow (after hasBlock addBlocks blocks-added block-codec blocks₀ used₀ (packetOf bytes .blocks) i) blocks₀ blocks used
+    × Holds (Marked Block) blockRow (after knowsBlock addBlocks adding-blocks block-codec blocks₀ used₀ (packetOf bytes .blocks) i) blocks₀ blocks used
 
 abbrev μ-loop : tie.MeasureT-loop
 μ-loop blocks₀ used₀ bytes count i₀ blocks used i = count - i
@@ -33,8 +33,8 @@ loop-holds c =
     let s = c .before .before .before in (
       header-blocks _ (c .header-of .ensures),
       refl,
-      add-begin hasBlock addBlocks blocks-added block-codec _ _ (packetOf (now (s .args .bytes)) .blocks)
-          (room-now hasBlock addBlocks blocks-added block-codec _ _ _ (s .pre .0)) (s .pre .1),
+      add-begin knowsBlock addBlocks adding-blocks block-codec _ _ (packetOf (now (s .args .bytes)) .blocks)
+          (room-now knowsBlock addBlocks adding-blocks block-codec _ _ _ (s .pre .0)) (s .pre .1),
     )
 
 add-block-requires : tie.Need-add-block-requires Inv-loop μ-loop
@@ -42,9 +42,9 @@ add-block-requires c κs =
     let v = c .before .before in
     let l = v .before .before in
     let s = l .before .before .before .before in (
-      add-room hasBlock addBlocks blocks-added block-codec _ _ (packetOf (now (s .args .bytes)) .blocks) (l .loop .i) (l .loop .inv .2) genesis
+      add-room knowsBlock addBlocks adding-blocks block-codec _ _ (packetOf (now (s .args .bytes)) .blocks) (l .loop .i) (l .loop .inv .2) genesis
           (omega (arith, l .loop .inv .0, v .before .loop-test .taken)) (v .block-at .ensures) (s .pre .0) (l .loop .inv .1),
-      add-marks hasBlock addBlocks blocks-added block-codec _ _ (packetOf (now (s .args .bytes)) .blocks) (l .loop .i) (l .loop .inv .2),
+      add-marks knowsBlock addBlocks adding-blocks block-codec _ _ (packetOf (now (s .args .bytes)) .blocks) (l .loop .i) (l .loop .inv .2),
     )
 
 loop-again : tie.Need-loop-again Inv-loop μ-loop
@@ -55,7 +55,7 @@ loop-again c =
     let s = l .before .before .before .before in (
       l .loop .inv .0,
       a .add-block .kept .0 ∙ l .loop .inv .1,
-      add-turn hasBlock addBlocks blocks-added block-codec _ _ (packetOf (now (s .args .bytes)) .blocks) (l .loop .i) (l .loop .inv .2) genesis
+      add-turn knowsBlock addBlocks adding-blocks block-codec _ _ (packetOf (now (s .args .bytes)) .blocks) (l .loop .i) (l .loop .inv .2) genesis
           (omega (arith, l .loop .inv .0, v .before .loop-test .taken)) (v .block-at .ensures) (a .add-block .ensures),
     )
 
@@ -63,7 +63,7 @@ returns : tie.Need-returns Inv-loop μ-loop
 returns c =
     let l = c .before in
     let s = l .before .before .before .before in
-    add-end hasBlock addBlocks blocks-added block-codec _ _ (packetOf (now (s .args .bytes)) .blocks) (l .loop .i) (l .loop .inv .2)
+    add-end knowsBlock addBlocks adding-blocks block-codec _ _ (packetOf (now (s .args .bytes)) .blocks) (l .loop .i) (l .loop .inv .2)
     (omega (arith, l .loop .inv .0, c .loop-test .left))
 
 pub add-blocks-spec : {M : Type 1} → statement M

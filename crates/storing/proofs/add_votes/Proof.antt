@@ -11,10 +11,10 @@ use Rattle.protocol.specs.Store.{Marked}
 use Rattle.protocol.specs.Packet.{packetOf}
 use Rattle.protocol.specs.Lent.{voteRow}
 use Rattle.protocol.specs.Calls.Receive.{addVotes}
-use Rattle.rows.proofs.Stored.{vote-codec}
+use Rattle.protocol.proofs.Lent.Rows.{vote-codec}
+use Rattle.protocol.proofs.Store.New.{knowsVote, adding-votes}
 use Rattle.admission.proofs.Header.{header-votes}
 use Rattle.storing.specs.Grown.{Holds}
-use Rattle.storing.proofs.Adding.{hasVote, votes-added}
 use Rattle.storing.proofs.Turns.{room-now, after, add-begin, add-room, add-marks, add-turn, add-end}
 use Rattle.storing.proofs.add_votes.Statement.{statement}
 use Rattle.storing.proofs.add_votes.Tie as tie
@@ -23,7 +23,7 @@ abbrev Inv-loop : tie.InvT-loop
 Inv-loop votes₀ used₀ bytes count i₀ votes used i =
     (count ≡ length (packetOf bytes .votes))
     × (length votes ≡ length votes₀)
-    × Holds (Marked Vote) voteRow (after hasVote addVotes votes-added vote-codec votes₀ used₀ (packetOf bytes .votes) i) votes₀ votes used
+    × Holds (Marked Vote) voteRow (after knowsVote addVotes adding-votes vote-codec votes₀ used₀ (packetOf bytes .votes) i) votes₀ votes used
 
 abbrev μ-loop : tie.MeasureT-loop
 μ-loop votes₀ used₀ bytes count i₀ votes used i = count - i
@@ -33,8 +33,8 @@ loop-holds c =
     let s = c .before .before .before in (
       header-votes _ (c .header-of .ensures),
       refl,
-      add-begin hasVote addVotes votes-added vote-codec _ _ (packetOf (now (s .args .bytes)) .votes)
-          (room-now hasVote addVotes votes-added vote-codec _ _ _ (s .pre .0)) (s .pre .1),
+      add-begin knowsVote addVotes adding-votes vote-codec _ _ (packetOf (now (s .args .bytes)) .votes)
+          (room-now knowsVote addVotes adding-votes vote-codec _ _ _ (s .pre .0)) (s .pre .1),
     )
 
 add-vote-requires : tie.Need-add-vote-requires Inv-loop μ-loop
@@ -42,9 +42,9 @@ add-vote-requires c κs =
     let v = c .before .before in
     let l = v .before .before in
     let s = l .before .before .before .before in (
-      add-room hasVote addVotes votes-added vote-codec _ _ (packetOf (now (s .args .bytes)) .votes) (l .loop .i) (l .loop .inv .2) noVote
+      add-room knowsVote addVotes adding-votes vote-codec _ _ (packetOf (now (s .args .bytes)) .votes) (l .loop .i) (l .loop .inv .2) noVote
           (omega (arith, l .loop .inv .0, v .before .loop-test .taken)) (v .vote-at .ensures) (s .pre .0) (l .loop .inv .1),
-      add-marks hasVote addVotes votes-added vote-codec _ _ (packetOf (now (s .args .bytes)) .votes) (l .loop .i) (l .loop .inv .2),
+      add-marks knowsVote addVotes adding-votes vote-codec _ _ (packetOf (now (s .args .bytes)) .votes) (l .loop .i) (l .loop .inv .2),
     )
 
 loop-again : tie.Need-loop-again Inv-loop μ-loop
@@ -55,7 +55,7 @@ loop-again c =
     let s = l .before .before .before .before in (
       l .loop .inv .0,
       a .add-vote .kept .0 ∙ l .loop .inv .1,
-      add-turn hasVote addVotes votes-added vote-codec _ _ (packetOf (now (s .args .bytes)) .votes) (l .loop .i) (l .loop .inv .2) noVote
+      add-turn knowsVote addVotes adding-votes vote-codec _ _ (packetOf (now (s .args .bytes)) .votes) (l .loop .i) (l .loop .inv .2) noVote
           (omega (arith, l .loop .inv .0, v .before .loop-test .taken)) (v .vote-at .ensures) (a .add-vote .ensures),
     )
 
@@ -63,7 +63,7 @@ returns : tie.Need-returns Inv-loop μ-loop
 returns c =
     let l = c .before in
     let s = l .before .before .before .before in
-    add-end hasVote addVotes votes-added vote-codec _ _ (packetOf (now (s .args .bytes)) .votes) (l .loop .i) (l .loop .inv .2)
+    add-end knowsVote addVotes adding-votes vote-codec _ _ (packetOf (now (s .args .bytes)) .votes) (l .loop .i) (l .loop .inv .2)
     (omega (arith, l .loop .inv .0, c .loop-test .left))
 
 pub add-votes-spec : {M : Type 1} → statement M

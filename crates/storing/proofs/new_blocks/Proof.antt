@@ -11,9 +11,9 @@ use Rattle.protocol.specs.Packet.{packetOf}
 use Rattle.protocol.specs.Lent.{rowsOf, makeBlock}
 use Rattle.protocol.specs.Calls.Receive.{addBlocks}
 use Rattle.protocol.proofs.Store.Views.{length-entries}
-use Rattle.rows.proofs.Rows.{length-rowsOf}
+use Rattle.protocol.proofs.Lent.Rows.{length-rowsOf}
+use Rattle.protocol.proofs.Store.New.{knowsBlock, adding-blocks}
 use Rattle.admission.proofs.Header.{header-blocks}
-use Rattle.storing.proofs.Adding.{hasBlock, blocks-added}
 use Rattle.storing.proofs.Turns.{flag-one, count-begin, count-turn, count-end}
 use Rattle.storing.proofs.new_blocks.Statement.{statement}
 use Rattle.storing.proofs.new_blocks.Tie as tie
@@ -31,7 +31,7 @@ loop-holds : tie.Need-loop-holds Inv-loop μ-loop
 loop-holds c = (
   header-blocks _ (c .header-of .ensures),
   omega arith,
-  count-begin hasBlock addBlocks blocks-added _ (packetOf (now (c .before .before .before .args .bytes)) .blocks) _ (length-entries _ ∙ length-rowsOf makeBlock _ _),
+  count-begin knowsBlock addBlocks adding-blocks _ (packetOf (now (c .before .before .before .args .bytes)) .blocks) _ (length-entries _ ∙ length-rowsOf makeBlock _ _),
 )
 
 add-n : tie.Need-add-n Inv-loop μ-loop
@@ -46,14 +46,14 @@ loop-again c =
     let f = flag-one (c .is-new-block .result) in (
       l .loop .inv .0,
       omega (arith, f, l .loop .inv .1),
-      count-turn hasBlock addBlocks blocks-added _ (packetOf (now (l .before .before .before .before .args .bytes)) .blocks) _ genesis _ (l .loop .i)
+      count-turn knowsBlock addBlocks adding-blocks _ (packetOf (now (l .before .before .before .before .args .bytes)) .blocks) _ genesis _ (l .loop .i)
           (omega (arith, l .loop .inv .0, c .before .loop-test .taken)) (l .loop .inv .2) (c .is-new-block .ensures),
     )
 
 returns : tie.Need-returns Inv-loop μ-loop
 returns c =
     let l = c .before in
-    count-end hasBlock addBlocks blocks-added _ (packetOf (now (l .before .before .before .before .args .bytes)) .blocks) _ _ (l .loop .i)
+    count-end knowsBlock addBlocks adding-blocks _ (packetOf (now (l .before .before .before .before .args .bytes)) .blocks) _ _ (l .loop .i)
     (omega (arith, l .loop .inv .0, c .loop-test .left)) (l .loop .inv .2)
 
 pub new-blocks-spec : {M : Type 1} → statement M

@@ -11,9 +11,9 @@ use Rattle.protocol.specs.Packet.{packetOf}
 use Rattle.protocol.specs.Lent.{rowsOf, makeVote}
 use Rattle.protocol.specs.Calls.Receive.{addVotes}
 use Rattle.protocol.proofs.Store.Views.{length-entries}
-use Rattle.rows.proofs.Rows.{length-rowsOf}
+use Rattle.protocol.proofs.Lent.Rows.{length-rowsOf}
+use Rattle.protocol.proofs.Store.New.{knowsVote, adding-votes}
 use Rattle.admission.proofs.Header.{header-votes}
-use Rattle.storing.proofs.Adding.{hasVote, votes-added}
 use Rattle.storing.proofs.Turns.{flag-one, count-begin, count-turn, count-end}
 use Rattle.storing.proofs.new_votes.Statement.{statement}
 use Rattle.storing.proofs.new_votes.Tie as tie
@@ -31,7 +31,7 @@ loop-holds : tie.Need-loop-holds Inv-loop μ-loop
 loop-holds c = (
   header-votes _ (c .header-of .ensures),
   omega arith,
-  count-begin hasVote addVotes votes-added _ (packetOf (now (c .before .before .before .args .bytes)) .votes) _ (length-entries _ ∙ length-rowsOf makeVote _ _),
+  count-begin knowsVote addVotes adding-votes _ (packetOf (now (c .before .before .before .args .bytes)) .votes) _ (length-entries _ ∙ length-rowsOf makeVote _ _),
 )
 
 add-n : tie.Need-add-n Inv-loop μ-loop
@@ -46,14 +46,14 @@ loop-again c =
     let f = flag-one (c .is-new-vote .result) in (
       l .loop .inv .0,
       omega (arith, f, l .loop .inv .1),
-      count-turn hasVote addVotes votes-added _ (packetOf (now (l .before .before .before .before .args .bytes)) .votes) _ noVote _ (l .loop .i)
+      count-turn knowsVote addVotes adding-votes _ (packetOf (now (l .before .before .before .before .args .bytes)) .votes) _ noVote _ (l .loop .i)
           (omega (arith, l .loop .inv .0, c .before .loop-test .taken)) (l .loop .inv .2) (c .is-new-vote .ensures),
     )
 
 returns : tie.Need-returns Inv-loop μ-loop
 returns c =
     let l = c .before in
-    count-end hasVote addVotes votes-added _ (packetOf (now (l .before .before .before .before .args .bytes)) .votes) _ _ (l .loop .i)
+    count-end knowsVote addVotes adding-votes _ (packetOf (now (l .before .before .before .before .args .bytes)) .votes) _ _ (l .loop .i)
     (omega (arith, l .loop .inv .0, c .loop-test .left)) (l .loop .inv .2)
 
 pub new-votes-spec : {M : Type 1} → statement M

@@ -5,7 +5,7 @@ use mathlib.Core.Path.{sym, _∙_}
 use Rattle.protocol.specs.Refusal.{first}
 use Rattle.protocol.specs.Lent.{placesOf, nodeOf}
 use Rattle.protocol.specs.Calls.Propose.{proposeTests}
-use Rattle.rows.proofs.Rows.{length-rowsOf}
+use Rattle.protocol.proofs.Lent.Rows.{length-rowsOf}
 use Rattle.verdicts.proofs.Sequence.{refused-before, passed-before, sound-before, propose-front}
 use Rattle.verdicts.proofs.propose_verdict.Statement.{statement}
 use Rattle.verdicts.proofs.propose_verdict.Tie as tie

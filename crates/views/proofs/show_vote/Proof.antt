@@ -8,7 +8,7 @@ use mathlib.Core.Path.{_≡_, refl, sym, ap, _∙_}
 use denote.Ref.{now}
 use lib.ListN.{length}
 use Rattle.protocol.specs.Store.{sameVote}
-use Rattle.rows.proofs.Stored.{vote-codec}
+use Rattle.protocol.proofs.Lent.Rows.{vote-codec}
 use Rattle.changes.proofs.Show.{shownTo, show-begin, show-turn, show-skip, show-end}
 use Rattle.views.proofs.show_vote.Statement.{statement}
 use Rattle.views.proofs.show_vote.Tie as tie

@@ -34,6 +34,9 @@
 extern "C" {
 #endif
 
+/* No node sends a packet of more bytes: drop longer ones before likvost_receive, which takes long to refuse them. */
+#define LIKVOST_LARGEST_PACKET 147453
+
 /* What a node is opened with. All nodes of a network have the same nodes, expiry and depth. */
 typedef struct {
     uint64_t nodes;  /* 1 to 64 */
@@ -146,7 +149,7 @@ likvost_found likvost_fast(likvost_settings settings, likvost_clock clock, const
                            size_t blocks_used, const uint64_t *votes, size_t votes_len, size_t votes_used, uint64_t slot);
 
 /* Writes the node's gossip (its whole store) or its proposal (its view) into the buffer. Bytes beyond the packet stay.
- * A packet takes 17 + 20 bytes for each block but block 0 + 13 bytes for each vote: at most 147,453 bytes.
+ * A packet takes 17 bytes, 20 for each block but block 0 and 13 for each vote: at most LIKVOST_LARGEST_PACKET.
  * Refusals: 6 19 18. */
 likvost_written likvost_write(likvost_settings settings, likvost_clock clock, const uint64_t *blocks, size_t blocks_len,
                               size_t blocks_used, const uint64_t *votes, size_t votes_len, size_t votes_used, bool proposal,

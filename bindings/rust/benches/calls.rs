@@ -12,12 +12,14 @@ const SIZES: [(usize, usize); 3] = [(64, 256), (512, 1_024), (2_048, 8_192)];
 const NODES: [u64; 2] = [5, 64];
 
 /// A node whose tables hold so many blocks and votes. There is a block for each slot, on the one before, and each sixteenth on the one
-/// before that; every node votes in the last slots for the block of that slot. What is of the last eighth of the slots waits.
-/// The slot before the next was merged, and the next is the node's own.
+/// before that; every node votes in the last slots for the block of that slot. What is of the last eighth of these slots waits.
+/// The last slot was merged, and the next is the node's own.
 struct Case {
     settings: Settings,
     memory: Memory,
     last: u64,
+    /// The last slot whose entries are in view.
+    shown: u64,
 }
 
 impl Case {
@@ -25,7 +27,8 @@ impl Case {
         let last_block = used.0 as u64 - 1;
         let voted = (used.1 as u64).div_ceil(nodes);
         let last = last_block.max(voted);
-        let mark = |slot: u64| u64::from(slot <= last - last / 8);
+        let shown = last - voted / 8;
+        let mark = |slot: u64| u64::from(slot <= shown);
         let mut blocks = vec![0, 0, 0, 1];
         for slot in 1..=last_block {
             let parent = if slot % 16 == 0 { slot - 2 } else { slot - 1 };
@@ -50,6 +53,7 @@ impl Case {
                 clock: Clock { seen: done, done, merged: last, proposed: last },
             },
             last,
+            shown,
         }
     }
 
@@ -94,7 +98,7 @@ const CALLS: [&str; 10] = [
 fn median(mut run: impl FnMut() -> Duration) -> Duration {
     let mut times = vec![run()];
     let start = Instant::now();
-    while times.len() < 5 || (times.len() < 101 && start.elapsed() < Duration::from_millis(300)) {
+    while times.len() < 9 || (times.len() < 2001 && start.elapsed() < Duration::from_millis(300)) {
         times.push(run());
     }
     times.sort();
@@ -134,9 +138,9 @@ fn proved(case: &Case, call: usize, gossip: &[u8]) -> Duration {
             3 => timed(|| n.propose(beat, 1 << 40).unwrap()),
             4 => timed(|| n.vote(beat + 1).unwrap()),
             5 => timed(|| n.merge(beat + 2).unwrap()),
-            6 => timed(|| n.head(case.last).unwrap()),
-            7 => timed(|| n.deep(case.last).unwrap()),
-            8 => timed(|| n.fast(case.last).unwrap()),
+            6 => timed(|| n.head(case.shown).unwrap()),
+            7 => timed(|| n.deep(case.shown).unwrap()),
+            8 => timed(|| n.fast(case.shown).unwrap()),
             _ => timed(|| n.write(false, &mut buffer).unwrap()),
         }
     })
@@ -157,9 +161,9 @@ fn modelled(case: &Case, call: usize, gossip: &[u8]) -> Duration {
             3 => timed(|| model::propose(s, m, beat, 1 << 40).unwrap()),
             4 => timed(|| model::vote(s, m, beat + 1).unwrap()),
             5 => timed(|| model::merge(s, m, beat + 2).unwrap()),
-            6 => timed(|| model::head(s, m, case.last).unwrap()),
-            7 => timed(|| model::deep(s, m, case.last).unwrap()),
-            8 => timed(|| model::fast(s, m, case.last).unwrap()),
+            6 => timed(|| model::head(s, m, case.shown).unwrap()),
+            7 => timed(|| model::deep(s, m, case.shown).unwrap()),
+            8 => timed(|| model::fast(s, m, case.shown).unwrap()),
             _ => timed(|| model::write(s, m, false, &mut buffer).unwrap()),
         }
     })
@@ -177,7 +181,11 @@ fn micros(time: Duration) -> String {
 
 fn ratio(a: Duration, b: Duration) -> String {
     let r = a.as_secs_f64() / b.as_secs_f64().max(1e-9);
-    if r < 10.0 { format!("{r:.1}") } else { format!("{r:.0}") }
+    if r < 10.0 {
+        format!("{r:.1}")
+    } else {
+        format!("{r:.0}")
+    }
 }
 
 fn main() {
@@ -190,8 +198,14 @@ fn main() {
             let (full_gossip, half_gossip) = (gossip(&full), gossip(&half));
             let (full_pass, half_pass) = (pass(&full), pass(&half));
             println!("### {blocks} blocks, {votes} votes, {nodes} nodes\n");
-            println!("One pass over the full tables takes {} µs, over half-full ones {} µs.\n", micros(full_pass), micros(half_pass));
-            println!("| Call | Proved, half | Proved, full | Grows | To the pass | Model, half | Model, full | Grows | To the pass |");
+            println!(
+                "One pass over the full tables takes {} µs, over half-full ones {} µs.\n",
+                micros(full_pass),
+                micros(half_pass)
+            );
+            println!(
+                "| Call | Proved, half | Proved, full | Grows | To the pass | Model, half | Model, full | Grows | To the pass |"
+            );
             println!("|---|---|---|---|---|---|---|---|---|");
             for (call, name) in CALLS.iter().enumerate() {
                 let (ph, pf) = (proved(&half, call, &half_gossip), proved(&full, call, &full_gossip));

@@ -25,23 +25,111 @@ pub struct Written {
     pub length: u64,
 }
 
+/// Head, Deep or Fast.
+pub type Question = unsafe extern "C" fn(Settings, Clock, *const u64, usize, usize, *const u64, usize, usize, u64) -> Found;
+
 extern "C" {
-    pub fn likvost_open(settings: Settings, clock: Clock, blocks: *mut u64, blocks_len: usize, blocks_used: *mut usize,
-        votes: *mut u64, votes_len: usize, votes_used: *mut usize) -> Answer;
-    pub fn likvost_receive(settings: Settings, clock: Clock, blocks: *mut u64, blocks_len: usize, blocks_used: *mut usize,
-        votes: *mut u64, votes_len: usize, votes_used: *mut usize, beat: u64, packet: *const u8, packet_len: usize) -> Answer;
-    pub fn likvost_propose(settings: Settings, clock: Clock, blocks: *mut u64, blocks_len: usize, blocks_used: *mut usize,
-        votes: *mut u64, votes_len: usize, votes_used: *mut usize, beat: u64, number: u64) -> Answer;
-    pub fn likvost_vote(settings: Settings, clock: Clock, blocks: *mut u64, blocks_len: usize, blocks_used: *mut usize,
-        votes: *mut u64, votes_len: usize, votes_used: *mut usize, beat: u64) -> Answer;
-    pub fn likvost_merge(settings: Settings, clock: Clock, blocks: *mut u64, blocks_len: usize, blocks_used: *mut usize,
-        votes: *mut u64, votes_len: usize, votes_used: *mut usize, beat: u64) -> Answer;
-    pub fn likvost_head(settings: Settings, clock: Clock, blocks: *const u64, blocks_len: usize, blocks_used: usize,
-        votes: *const u64, votes_len: usize, votes_used: usize, slot: u64) -> Found;
-    pub fn likvost_deep(settings: Settings, clock: Clock, blocks: *const u64, blocks_len: usize, blocks_used: usize,
-        votes: *const u64, votes_len: usize, votes_used: usize, slot: u64) -> Found;
-    pub fn likvost_fast(settings: Settings, clock: Clock, blocks: *const u64, blocks_len: usize, blocks_used: usize,
-        votes: *const u64, votes_len: usize, votes_used: usize, slot: u64) -> Found;
-    pub fn likvost_write(settings: Settings, clock: Clock, blocks: *const u64, blocks_len: usize, blocks_used: usize,
-        votes: *const u64, votes_len: usize, votes_used: usize, proposal: bool, buffer: *mut u8, buffer_len: usize) -> Written;
+    pub fn likvost_open(
+        settings: Settings,
+        clock: Clock,
+        blocks: *mut u64,
+        blocks_len: usize,
+        blocks_used: *mut usize,
+        votes: *mut u64,
+        votes_len: usize,
+        votes_used: *mut usize,
+    ) -> Answer;
+    pub fn likvost_receive(
+        settings: Settings,
+        clock: Clock,
+        blocks: *mut u64,
+        blocks_len: usize,
+        blocks_used: *mut usize,
+        votes: *mut u64,
+        votes_len: usize,
+        votes_used: *mut usize,
+        beat: u64,
+        packet: *const u8,
+        packet_len: usize,
+    ) -> Answer;
+    pub fn likvost_propose(
+        settings: Settings,
+        clock: Clock,
+        blocks: *mut u64,
+        blocks_len: usize,
+        blocks_used: *mut usize,
+        votes: *mut u64,
+        votes_len: usize,
+        votes_used: *mut usize,
+        beat: u64,
+        number: u64,
+    ) -> Answer;
+    pub fn likvost_vote(
+        settings: Settings,
+        clock: Clock,
+        blocks: *mut u64,
+        blocks_len: usize,
+        blocks_used: *mut usize,
+        votes: *mut u64,
+        votes_len: usize,
+        votes_used: *mut usize,
+        beat: u64,
+    ) -> Answer;
+    pub fn likvost_merge(
+        settings: Settings,
+        clock: Clock,
+        blocks: *mut u64,
+        blocks_len: usize,
+        blocks_used: *mut usize,
+        votes: *mut u64,
+        votes_len: usize,
+        votes_used: *mut usize,
+        beat: u64,
+    ) -> Answer;
+    pub fn likvost_head(
+        settings: Settings,
+        clock: Clock,
+        blocks: *const u64,
+        blocks_len: usize,
+        blocks_used: usize,
+        votes: *const u64,
+        votes_len: usize,
+        votes_used: usize,
+        slot: u64,
+    ) -> Found;
+    pub fn likvost_deep(
+        settings: Settings,
+        clock: Clock,
+        blocks: *const u64,
+        blocks_len: usize,
+        blocks_used: usize,
+        votes: *const u64,
+        votes_len: usize,
+        votes_used: usize,
+        slot: u64,
+    ) -> Found;
+    pub fn likvost_fast(
+        settings: Settings,
+        clock: Clock,
+        blocks: *const u64,
+        blocks_len: usize,
+        blocks_used: usize,
+        votes: *const u64,
+        votes_len: usize,
+        votes_used: usize,
+        slot: u64,
+    ) -> Found;
+    pub fn likvost_write(
+        settings: Settings,
+        clock: Clock,
+        blocks: *const u64,
+        blocks_len: usize,
+        blocks_used: usize,
+        votes: *const u64,
+        votes_len: usize,
+        votes_used: usize,
+        proposal: bool,
+        buffer: *mut u8,
+        buffer_len: usize,
+    ) -> Written;
 }

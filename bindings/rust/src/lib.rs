@@ -41,6 +41,9 @@ mod refusal;
 
 pub use refusal::Refusal;
 
+/// No node sends a packet of more bytes. Drop longer ones before [`Node::receive`], which takes long to refuse them.
+pub const LARGEST_PACKET: usize = 17 + 20 * 2047 + 13 * 8192;
+
 /// What a node is opened with. All nodes of a network have the same `nodes`, `expiry` and `depth`.
 #[repr(C)]
 #[derive(Clone, Copy, Debug, PartialEq, Eq)]
@@ -123,8 +126,14 @@ pub struct Node {
 /// The tables and counts of `$m` as a call that changes them wants them.
 macro_rules! lend {
     ($m:expr) => {
-        ($m.blocks.as_mut_ptr(), $m.blocks.len(), &mut $m.blocks_used as *mut usize, $m.votes.as_mut_ptr(), $m.votes.len(),
-            &mut $m.votes_used as *mut usize)
+        (
+            $m.blocks.as_mut_ptr(),
+            $m.blocks.len(),
+            &mut $m.blocks_used as *mut usize,
+            $m.votes.as_mut_ptr(),
+            $m.votes.len(),
+            &mut $m.votes_used as *mut usize,
+        )
     };
 }
 
@@ -186,7 +195,8 @@ impl Node {
         let m = &mut self.memory;
         let (b, bl, bu, v, vl, vu) = lend!(m);
         // SAFETY: as in `open_in`; the packet is only read.
-        let a = unsafe { ffi::likvost_receive(self.settings, m.clock, b, bl, bu, v, vl, vu, beat, packet.as_ptr(), packet.len()) };
+        let a =
+            unsafe { ffi::likvost_receive(self.settings, m.clock, b, bl, bu, v, vl, vu, beat, packet.as_ptr(), packet.len()) };
         Self::answered(m, a).map(|a| Received { new_blocks: a.new_blocks, new_votes: a.new_votes, brought: a.brought != 0 })
     }
 
@@ -219,44 +229,50 @@ impl Node {
 
     /// The head for a slot.
     pub fn head(&self, slot: u64) -> Result<u64, Refusal> {
-        let m = &self.memory;
-        // SAFETY: the tables are only read, within their lengths.
-        let f = unsafe {
-            ffi::likvost_head(self.settings, m.clock, m.blocks.as_ptr(), m.blocks.len(), m.blocks_used, m.votes.as_ptr(),
-                m.votes.len(), m.votes_used, slot)
-        };
-        Refusal::from_number(f.refusal).map_or(Ok(f.value), Err)
+        self.ask(ffi::likvost_head, slot).map(|found| found.value)
     }
 
     /// The deep block for a slot.
     pub fn deep(&self, slot: u64) -> Result<u64, Refusal> {
-        let m = &self.memory;
-        // SAFETY: as in `head`.
-        let f = unsafe {
-            ffi::likvost_deep(self.settings, m.clock, m.blocks.as_ptr(), m.blocks.len(), m.blocks_used, m.votes.as_ptr(),
-                m.votes.len(), m.votes_used, slot)
-        };
-        Refusal::from_number(f.refusal).map_or(Ok(f.value), Err)
+        self.ask(ffi::likvost_deep, slot).map(|found| found.value)
     }
 
     /// The fast block for a slot, if there is one.
     pub fn fast(&self, slot: u64) -> Result<Option<u64>, Refusal> {
+        self.ask(ffi::likvost_fast, slot).map(|found| (found.found != 0).then_some(found.value))
+    }
+
+    fn ask(&self, question: ffi::Question, slot: u64) -> Result<ffi::Found, Refusal> {
         let m = &self.memory;
-        // SAFETY: as in `head`.
-        let f = unsafe {
-            ffi::likvost_fast(self.settings, m.clock, m.blocks.as_ptr(), m.blocks.len(), m.blocks_used, m.votes.as_ptr(),
-                m.votes.len(), m.votes_used, slot)
+        let (b, v) = (&m.blocks, &m.votes);
+        // SAFETY: the tables are only read, within their lengths.
+        let found = unsafe {
+            question(self.settings, m.clock, b.as_ptr(), b.len(), m.blocks_used, v.as_ptr(), v.len(), m.votes_used, slot)
         };
-        Refusal::from_number(f.refusal).map_or(Ok((f.found != 0).then_some(f.value)), Err)
+        match Refusal::from_number(found.refusal) {
+            None => Ok(found),
+            Some(refusal) => Err(refusal),
+        }
     }
 
     /// Writes gossip or, if `proposal`, the own proposal into a buffer, and answers the packet's length.
     pub fn write(&self, proposal: bool, buffer: &mut [u8]) -> Result<usize, Refusal> {
         let m = &self.memory;
-        // SAFETY: as in `head`; the buffer is written within its length.
+        // SAFETY: as in `ask`; the buffer is written within its length.
         let w = unsafe {
-            ffi::likvost_write(self.settings, m.clock, m.blocks.as_ptr(), m.blocks.len(), m.blocks_used, m.votes.as_ptr(),
-                m.votes.len(), m.votes_used, proposal, buffer.as_mut_ptr(), buffer.len())
+            ffi::likvost_write(
+                self.settings,
+                m.clock,
+                m.blocks.as_ptr(),
+                m.blocks.len(),
+                m.blocks_used,
+                m.votes.as_ptr(),
+                m.votes.len(),
+                m.votes_used,
+                proposal,
+                buffer.as_mut_ptr(),
+                buffer.len(),
+            )
         };
         Refusal::from_number(w.refusal).map_or(Ok(w.length as usize), Err)
     }

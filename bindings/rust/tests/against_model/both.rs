@@ -98,9 +98,11 @@ impl Both {
                 *node = Node::from_memory(settings, memory);
                 reply.map(|()| Answer::Done)
             }
-            Call::Receive { beat, packet } => node
-                .receive(*beat, packet)
-                .map(|r| Answer::Received { new_blocks: r.new_blocks, new_votes: r.new_votes, brought: r.brought }),
+            Call::Receive { beat, packet } => node.receive(*beat, packet).map(|r| Answer::Received {
+                new_blocks: r.new_blocks,
+                new_votes: r.new_votes,
+                brought: r.brought,
+            }),
             Call::Propose { beat, number } => node.propose(*beat, *number).map(Answer::Block),
             Call::Vote { beat } => node.vote(*beat).map(Answer::Block),
             Call::Merge { beat } => node.merge(*beat).map(|()| Answer::Done),
@@ -116,8 +118,11 @@ impl Both {
         let (s, m) = (&self.settings, &mut self.model);
         let reply = match call {
             Call::Open => model::open(s, m).map(|()| Answer::Done),
-            Call::Receive { beat, packet } => model::receive(s, m, *beat, packet)
-                .map(|r| Answer::Received { new_blocks: r.new_blocks, new_votes: r.new_votes, brought: r.brought }),
+            Call::Receive { beat, packet } => model::receive(s, m, *beat, packet).map(|r| Answer::Received {
+                new_blocks: r.new_blocks,
+                new_votes: r.new_votes,
+                brought: r.brought,
+            }),
             Call::Propose { beat, number } => model::propose(s, m, *beat, *number).map(Answer::Block),
             Call::Vote { beat } => model::vote(s, m, *beat).map(Answer::Block),
             Call::Merge { beat } => model::merge(s, m, *beat).map(|()| Answer::Done),

@@ -57,6 +57,9 @@ fn largest_tables() {
         let beat = beat + 2;
         assert_eq!(make(Call::Propose { beat, number: 9 }, &mut []), Err(14));
         assert_eq!(make(Call::Vote { beat: beat + 1 }, &mut []), Err(10));
-        assert_eq!(make(Call::Receive { beat, packet: packet.clone() }, &mut []), Ok(Answer::Received { new_blocks: 0, new_votes: 0, brought: false }));
+        assert_eq!(
+            make(Call::Receive { beat, packet: packet.clone() }, &mut []),
+            Ok(Answer::Received { new_blocks: 0, new_votes: 0, brought: false })
+        );
     }
 }

@@ -53,7 +53,7 @@ fn random_calls() {
         println!("{name}: {} carried out; refused by {}", replies[0], refused.join(", "));
     }
     println!("{} proposals came into view on arrival, {} fast blocks", run.brought, run.fast);
-    if calls >= 20_000 {
+    if calls >= 100_000 {
         for (call, expected) in REPLIES.iter().enumerate() {
             for &reply in *expected {
                 assert!(run.replies[call][reply] > 0, "no {} answered {reply}", Call::NAMES[call]);

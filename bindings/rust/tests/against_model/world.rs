@@ -328,8 +328,11 @@ fn damage_clock(random: &mut Random, clock: &mut Clock) {
 
 fn damage_lengths(random: &mut Random, memory: &mut Memory) {
     let odd = random.pick(&[0, 1, usize::MAX, usize::MAX / 4, usize::MAX / 4 + 1, 1 << 62]);
-    let (words, used) =
-        if random.once_in(2) { (&mut memory.blocks, &mut memory.blocks_used) } else { (&mut memory.votes, &mut memory.votes_used) };
+    let (words, used) = if random.once_in(2) {
+        (&mut memory.blocks, &mut memory.blocks_used)
+    } else {
+        (&mut memory.votes, &mut memory.votes_used)
+    };
     match random.below(8) {
         0 => *used = odd,
         1 => *used = used.wrapping_add(1),

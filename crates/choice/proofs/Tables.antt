@@ -22,7 +22,7 @@ use Rattle.protocol.proofs.Store.Tables.{table-holds}
 use Rattle.protocol.proofs.Store.Views.{view-stored}
 use Rattle.protocol.proofs.Walk.Best.{walk-is, walk-one, walk-known}
 use Rattle.protocol.proofs.Walk.Sameness.{walk-to}
-use Rattle.protocol.proofs.Lent.Memory.{lent-true}
+use Rattle.protocol.proofs.Lent.Memory.{lent-true, lent-used}
 use Rattle.protocol.proofs.Lent.Rows.{length-rowsOf, places-fit}
 use Rattle.rows.specs.Rows.{rowAt}
 use Rattle.ballots.specs.Latest.{selected, votesIn, VotersFit, Kept}
@@ -130,12 +130,11 @@ base-number bw bu vw vu n E t e = e
 pub lent-tables : (s : Settings) (m : Lent) → lentSound s m ≡ true → TablesSound s (m .blocks) (m .blocksUsed) (m .votes) (m .votesUsed)
 unfolding nodeOf placesOf
 lent-tables s m e =
-    let a = lent-true s m e .node in
-    let G = sound-true s (placesOf m) (nodeOf m) a in
+    let u = lent-used s m e in
     record {
       places = placesOf m;
       clock = m .clock;
-      blocks-fit = places-fit (m .blocks) (m .blocksUsed) (rw (length-rowsOf makeBlock (m .blocks) (m .blocksUsed)) at (G .fit-blocks));
-      votes-fit = places-fit (m .votes) (m .votesUsed) (rw (length-rowsOf makeVote (m .votes) (m .votesUsed)) at (G .fit-votes));
-      is-sound = a;
+      blocks-fit = places-fit (m .blocks) (m .blocksUsed) (u .0);
+      votes-fit = places-fit (m .votes) (m .votesUsed) (u .1);
+      is-sound = lent-true s m e .node;
     }

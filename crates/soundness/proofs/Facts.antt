@@ -4,10 +4,10 @@ use mathlib.Core.Bool.{true}
 use mathlib.Core.Path.{_≡_}
 use lib.ListN.{length}
 use Rattle.protocol.specs.declared.Settings.{Settings}
-use Rattle.protocol.specs.Lent.{Lent, makeBlock, makeVote, placesOf, nodeOf, marksSound, lentSound}
+use Rattle.protocol.specs.Lent.{Lent, placesOf, nodeOf, marksSound, lentSound}
 use Rattle.protocol.proofs.Store.Sound.{IsSound, sound-true}
-use Rattle.protocol.proofs.Lent.Memory.{lent-true}
-use Rattle.protocol.proofs.Lent.Rows.{length-rowsOf, places-fit}
+use Rattle.protocol.proofs.Lent.Memory.{lent-true, lent-used}
+use Rattle.protocol.proofs.Lent.Rows.{places-fit}
 
 pub record SoundMemory (s : Settings) (m : Lent) : Type 0 where
   pub block-words : 4 * m .blocksUsed ≤ length (m .blocks)
@@ -17,14 +17,13 @@ pub record SoundMemory (s : Settings) (m : Lent) : Type 0 where
   pub node : IsSound s (placesOf m) (nodeOf m)
 
 pub sound-memory : (s : Settings) (m : Lent) → lentSound s m ≡ true → SoundMemory s m
-unfolding placesOf nodeOf
 sound-memory s m e =
     let L = lent-true s m e in
-    let n = sound-true s (placesOf m) (nodeOf m) (L .node) in
+    let u = lent-used s m e in
     record {
-      block-words = places-fit (m .blocks) (m .blocksUsed) (rw (length-rowsOf makeBlock (m .blocks) (m .blocksUsed)) at (n .fit-blocks));
-      vote-words = places-fit (m .votes) (m .votesUsed) (rw (length-rowsOf makeVote (m .votes) (m .votesUsed)) at (n .fit-votes));
+      block-words = places-fit (m .blocks) (m .blocksUsed) (u .0);
+      vote-words = places-fit (m .votes) (m .votesUsed) (u .1);
       block-marks = L .mark-blocks;
       vote-marks = L .mark-votes;
-      node = n;
+      node = sound-true s (placesOf m) (nodeOf m) (L .node);
     }

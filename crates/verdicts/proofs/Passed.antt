@@ -12,11 +12,10 @@ use Rattle.protocol.specs.Chain.{genesis}
 use Rattle.protocol.specs.Store.{sameBlock, Places, Node}
 use Rattle.protocol.specs.Sound.{blocksSound, sound}
 use Rattle.protocol.specs.Refusal.{Test, pass, refuse, first}
-use Rattle.protocol.specs.Lent.{Lent, rowsOf, makeBlock, makeVote, placesIn, placesOf, nodeOf, lentSound}
+use Rattle.protocol.specs.Lent.{Lent, rowsOf, makeBlock, placesIn, placesOf, nodeOf, lentSound}
 use Rattle.protocol.proofs.Basics.Tests.{facts, and-left, and-right}
 use Rattle.protocol.proofs.Store.Sound.{ClockSound, Ranges, ranges, places-few}
-use Rattle.protocol.proofs.Lent.Memory.{lent-true}
-use Rattle.protocol.proofs.Lent.Rows.{length-rowsOf}
+use Rattle.protocol.proofs.Lent.Memory.{lent-true, lent-used}
 use Rattle.soundness.proofs.Facts.{SoundMemory, sound-memory}
 use Rattle.verdicts.specs.Lent.{lentVerdict}
 
@@ -50,17 +49,16 @@ ready s m e =
     let M = sound-memory s m e in
     let N = M .node in
     let o = first-row (m .clock .seen / 3) (m .blocks) (m .blocksUsed) (sound-blocks s (placesOf m) (nodeOf m) (lent-true s m e .node)) in
-    let b : m .blocksUsed ≤ placesIn (m .blocks) = omega (arith, N .fit-blocks, length-rowsOf makeBlock (m .blocks) (m .blocksUsed)) in
-    let v : m .votesUsed ≤ placesIn (m .votes) = omega (arith, N .fit-votes, length-rowsOf makeVote (m .votes) (m .votesUsed)) in
+    let u = lent-used s m e in
     let f = places-few (placesOf m) (N .places) in
     record {
       memory = M;
       settings = ranges s (N .settings);
       clock = N .time;
-      fit-blocks = b;
-      fit-votes = v;
-      few-blocks = omega (arith, f .0);
-      few-votes = omega (arith, f .1);
+      fit-blocks = u .0;
+      fit-votes = u .1;
+      few-blocks = omega (arith, u .0, f .0);
+      few-votes = omega (arith, u .1, f .1);
       some-blocks = o .0;
       first-mark = o .1;
     }

@@ -4,13 +4,14 @@ use mathlib.Core.Path.{_≡_, refl}
 use mathlib.Core.Bool.{Bool, true, false, false≢true}
 use mathlib.Core.List.{List}
 use native.Mathlib.Omega.{arith}
-use lib.ListN.{length, getD}
+use lib.ListN.{getD}
 use Rattle.protocol.specs.declared.Settings.{Settings}
 use Rattle.protocol.specs.Sound.{between, placesSound, blocksSound, sound}
 use Rattle.protocol.specs.Calls.Write.{gossipOf, proposalOf, packetOut}
-use Rattle.protocol.specs.Lent.{Lent, rowsOf, makeBlock, makeVote, placesIn, placesOf, nodeOf, lentSound}
+use Rattle.protocol.specs.Lent.{Lent, rowsOf, makeBlock, placesIn, placesOf, nodeOf, lentSound}
 use Rattle.protocol.proofs.Basics.Tests.{facts, and-left, and-right}
-use Rattle.protocol.proofs.Lent.Rows.{length-rowsOf, places-fit}
+use Rattle.protocol.proofs.Lent.Memory.{lent-used}
+use Rattle.protocol.proofs.Lent.Rows.{places-fit}
 use Rattle.writer.specs.Sent.{nodeIn, Readable}
 
 first-shown : (slot : ℕ) (ws : List ℕ) (used : ℕ) → blocksSound slot (rowsOf makeBlock ws used) ≡ true → getD ws 3 0 ≡ 1
@@ -21,17 +22,14 @@ first-shown slot ws (suc n) e = search facts
 pub sound-readable : (s : Settings) (m : Lent) → lentSound s m ≡ true → Readable (m .blocks) (m .blocksUsed) (m .votes) (m .votesUsed)
 unfolding lentSound sound placesSound between placesOf nodeOf
 sound-readable s m e =
-    let b : length (rowsOf makeBlock (m .blocks) (m .blocksUsed)) ≤ placesIn (m .blocks) = search facts depth 14 in
-    let v : length (rowsOf makeVote (m .votes) (m .votesUsed)) ≤ placesIn (m .votes) = search facts depth 14 in
+    let u = lent-used s m e in
     let most : placesIn (m .blocks) ≤ 2048 = search facts depth 14 in
     let most′ : placesIn (m .votes) ≤ 8192 = search facts depth 14 in
-    let bs : m .blocksUsed ≤ placesIn (m .blocks) = rw (length-rowsOf makeBlock (m .blocks) (m .blocksUsed)) at b in
-    let vs : m .votesUsed ≤ placesIn (m .votes) = rw (length-rowsOf makeVote (m .votes) (m .votesUsed)) at v in
     record {
-      blockRows = places-fit (m .blocks) (m .blocksUsed) bs;
-      voteRows = places-fit (m .votes) (m .votesUsed) vs;
-      blockCount = omega (arith, bs, most);
-      voteCount = omega (arith, vs, most′);
+      blockRows = places-fit (m .blocks) (m .blocksUsed) (u .0);
+      voteRows = places-fit (m .votes) (m .votesUsed) (u .1);
+      blockCount = omega (arith, u .0, most);
+      voteCount = omega (arith, u .1, most′);
       first = first-shown (m .clock .seen / 3) (m .blocks) (m .blocksUsed) (search (and-left, and-right) depth 14);
     }
 

@@ -8,7 +8,7 @@ use lib.ListN.{length, drop}
 use Rattle.protocol.specs.declared.Settings.{Settings}
 use Rattle.protocol.specs.Store.{Places, Node}
 use Rattle.protocol.specs.Sound.{sound}
-use Rattle.protocol.specs.Lent.{Lent, makeBlock, makeVote, placesOf, nodeOf, marksSound, lentSound, storeNode}
+use Rattle.protocol.specs.Lent.{Lent, makeBlock, makeVote, placesIn, placesOf, nodeOf, marksSound, lentSound, storeNode}
 use Rattle.protocol.proofs.Basics.Tests.{both, and-left, and-right}
 use Rattle.protocol.proofs.Store.Sound.{sound-true}
 use Rattle.protocol.proofs.Lent.Rows.{block-codec, vote-codec, length-rowsOf, rows-stored, marks-stored, length-stored, drop-stored, stored-same, places-fit, places-same}
@@ -33,6 +33,13 @@ lent-true s m e =
 pub lent-holds : (s : Settings) (m : Lent) → LentIsSound s m → lentSound s m ≡ true
 unfolding lentSound
 lent-holds s m L = both (L .mark-blocks) (both (L .mark-votes) (L .node))
+
+-- the used rows have places
+pub lent-used : (s : Settings) (m : Lent) → lentSound s m ≡ true → (m .blocksUsed ≤ placesIn (m .blocks)) × (m .votesUsed ≤ placesIn (m .votes))
+unfolding nodeOf placesOf
+lent-used s m e =
+    let G = sound-true s (placesOf m) (nodeOf m) (lent-true s m e .node) in
+    (omega (arith, G .fit-blocks, length-rowsOf makeBlock (m .blocks) (m .blocksUsed)), omega (arith, G .fit-votes, length-rowsOf makeVote (m .votes) (m .votesUsed)))
 
 -- ---- a node in the places
 
@@ -94,12 +101,12 @@ module _ (x : Node) (m : Lent) where
 -- ---- sound memory stores its own node without a change
 
 pub stored-again : (s : Settings) (m : Lent) → lentSound s m ≡ true → storeNode (nodeOf m) m ≡ m
-unfolding storeNode nodeOf placesOf
+unfolding storeNode nodeOf
 stored-again s m e =
     let L = lent-true s m e in
-    let H = sound-fits s (placesOf m) (nodeOf m) (L .node) in
+    let u = lent-used s m e in
     let kb = length-rowsOf makeBlock (m .blocks) (m .blocksUsed) in
     let kv = length-rowsOf makeVote (m .votes) (m .votesUsed) in
-    let b = stored-same block-codec (m .blocks) (m .blocksUsed) (L .mark-blocks) (places-fit (m .blocks) (m .blocksUsed) (omega (arith, H .blocks, kb))) in
-    let v = stored-same vote-codec (m .votes) (m .votesUsed) (L .mark-votes) (places-fit (m .votes) (m .votesUsed) (omega (arith, H .votes, kv))) in
+    let b = stored-same block-codec (m .blocks) (m .blocksUsed) (L .mark-blocks) (places-fit (m .blocks) (m .blocksUsed) (u .0)) in
+    let v = stored-same vote-codec (m .votes) (m .votesUsed) (L .mark-votes) (places-fit (m .votes) (m .votesUsed) (u .1)) in
     λ i. record { blocks = b i; votes = v i; blocksUsed = kb i; votesUsed = kv i; clock = m .clock }

@@ -1,7 +1,7 @@
 -- A packet's entries added to a store: what is looked up in the result is looked up in the store, and then in the packet.
 -- Assumes nothing.
 use Prim.Native.Nat.{ℕ}
-use mathlib.Core.Bool.{Bool, true, false, _||_, cond}
+use mathlib.Core.Bool.{Bool, true, false, _||_, or-assoc, or-false, cond}
 use mathlib.Core.List.{List, [], _∷_, _++_}
 use mathlib.Core.Path.{_≡_, refl, ap, sym, _∙_}
 use lib.Dec.{eqb}
@@ -12,6 +12,7 @@ use Rattle.protocol.specs.Lists.{any}
 use Rattle.protocol.specs.Chain.{Found, found, missing, find, foundWith}
 use Rattle.protocol.specs.Store.{sameVote}
 use Rattle.protocol.specs.Calls.Receive.{addBlock, addBlocks, addVote, addVotes}
+use Rattle.protocol.proofs.Basics.Members.{any-append}
 use Rattle.protocol.proofs.Store.Views.{vote-same}
 
 -- ---- blocks
@@ -80,30 +81,13 @@ addBlocks-end bs (d ∷ cs) c = addBlocks-end (addBlock bs d) cs c
 
 -- ---- votes
 
-any-append : {A : Type 0} (p : A → Bool) (xs ys : List A) → any p (xs ++ ys) ≡ (any p xs || any p ys)
-unfolding any
-any-append p [] ys = refl
-any-append p (x ∷ xs) ys = go (p x) (any-append p xs ys)
-  where
-    go : (t : Bool) → any p (xs ++ ys) ≡ (any p xs || any p ys) → (t || any p (xs ++ ys)) ≡ ((t || any p xs) || any p ys)
-    go true e = refl
-    go false e = e
-
-or-assoc : (a b c : Bool) → ((a || b) || c) ≡ (a || (b || c))
-or-assoc true b c = refl
-or-assoc false b c = refl
-
-or-none : (a : Bool) → (a || false) ≡ a
-or-none true = refl
-or-none false = refl
-
 any-one : (vs : List Vote) (b a : Vote) → any (sameVote a) (addVote vs b) ≡ (any (sameVote a) vs || any (sameVote a) (b ∷ []))
 unfolding addVote any
 any-one vs b a = go (any (sameVote b) vs) refl
   where
     old : (t : Bool) → sameVote a b ≡ t → any (sameVote b) vs ≡ true → any (sameVote a) vs ≡ (any (sameVote a) vs || (t || false))
     old true q e = rw (ap (λ (c : Vote). any (sameVote c) vs) (vote-same a b q) ∙ e) refl
-    old false q e = sym (or-none (any (sameVote a) vs))
+    old false q e = sym (or-false (any (sameVote a) vs))
 
     go : (t : Bool) → any (sameVote b) vs ≡ t → any (sameVote a) (cond t vs (vs ++ (b ∷ []))) ≡ (any (sameVote a) vs || (sameVote a b || false))
     go true e = old (sameVote a b) refl e
@@ -111,7 +95,7 @@ any-one vs b a = go (any (sameVote b) vs) refl
 
 pub any-added : (vs ws : List Vote) (a : Vote) → any (sameVote a) (addVotes vs ws) ≡ (any (sameVote a) vs || any (sameVote a) ws)
 unfolding addVotes any
-any-added vs [] a = sym (or-none (any (sameVote a) vs))
+any-added vs [] a = sym (or-false (any (sameVote a) vs))
 any-added vs (b ∷ ws) a =
     any-added (addVote vs b) ws a ∙ ap (λ (t : Bool). t || any (sameVote a) ws) (any-one vs b a)
     ∙ or-assoc (any (sameVote a) vs) (any (sameVote a) (b ∷ [])) (any (sameVote a) ws)

@@ -1,17 +1,13 @@
 -- One step of handing voters to the parents' rows, from the last row down: what is at row j once row i has handed on is what was there before,
 -- and, where j is the parent's place of i, what was at row i. Assumes nothing.
 use Prim.Native.Nat.{ℕ, zero, suc, _+_, _≤_, _<_}
-use mathlib.Core.Bool.{Bool, true, false, _||_, _&&_, and-true, and-false, or-false}
+use mathlib.Core.Bool.{false, _||_, _&&_, and-true, and-false, or-assoc, or-false}
 use mathlib.Core.Path.{_≡_, refl, sym}
 use native.Mathlib.Omega.{arith}
 use native.Mathlib.Decide.{decLt}
 use borrow.Author.Tests.{le-leb, lt-leb, eq-eqb, ne-eqb}
 use lib.Dec.{eqb, leb}
 use Rattle.subtrees.specs.Subtrees.{upTo}
-
-or-assoc : (a b c : Bool) → ((a || b) || c) ≡ (a || (b || c))
-or-assoc true b c = refl
-or-assoc false b c = refl
 
 module _ (up : ℕ → ℕ) (lower : (x : ℕ) → 0 < x → up x < x) where
   -- from below i no step is taken

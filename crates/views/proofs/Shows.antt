@@ -1,20 +1,12 @@
 -- What comes into view twice, by equal tests, or not at all. Assumes nothing.
 use Prim.Native.Nat.{ℕ, zero, suc}
-use mathlib.Core.Bool.{Bool, true, false, _||_, or-false, or-true}
+use mathlib.Core.Bool.{Bool, true, false, _||_, or-assoc, or-false, or-true}
 use mathlib.Core.List.{List, [], _∷_, _++_, List·Memᴰ, List·Memᴰ·head, List·Memᴰ·tail}
 use mathlib.Core.Path.{_≡_, refl, ap, sym, _∙_}
 use lib.ListN.{drop}
 use Rattle.protocol.specs.Lists.{any}
 use Rattle.protocol.specs.Store.{Marked, entries, show, showAll}
-
-or-assoc : (a b c : Bool) → ((a || b) || c) ≡ (a || (b || c))
-or-assoc true b c = refl
-or-assoc false b c = refl
-
-snoc : {B : Type 0} (p : B → Bool) (ds : List B) (c : B) → any p (ds ++ (c ∷ [])) ≡ (any p ds || p c)
-unfolding any
-snoc p [] c = or-false (p c)
-snoc p (d ∷ ds) c = ap (λ b. p d || b) (snoc p ds c) ∙ sym (or-assoc (p d) (any p ds) (p c))
+use Rattle.protocol.proofs.Basics.Members.{any-append}
 
 module _ {A : Type 0} where
   pub show-both : (p q : A → Bool) (ms : List (Marked A)) → show q (show p ms) ≡ show (λ a. p a || q a) ms
@@ -41,8 +33,9 @@ module _ {A : Type 0} where
   -- one by one: what passes for some of the entries ds, and then for c
   pub show-one : {B : Type 0} (q : B → A → Bool) (ds : List B) (c : B) (ms : List (Marked A))
       → show (q c) (show (λ a. any (λ d. q d a) ds) ms) ≡ show (λ a. any (λ d. q d a) (ds ++ (c ∷ []))) ms
+  unfolding any
   show-one {B = B} q ds c ms =
-      show-both (λ a. any (λ d. q d a) ds) (q c) ms ∙ show-ext (λ a. any (λ d. q d a) ds || q c a) (λ a. any (λ d. q d a) (ds ++ (c ∷ []))) ms (λ a n. sym (snoc (λ d. q d a) ds c))
+      show-both (λ a. any (λ d. q d a) ds) (q c) ms ∙ show-ext (λ a. any (λ d. q d a) ds || q c a) (λ a. any (λ d. q d a) (ds ++ (c ∷ []))) ms (λ a n. sym (any-append (λ d. q d a) ds (c ∷ []) ∙ ap (λ (b : Bool). any (λ d. q d a) ds || b) (or-false (q c a))))
 
   -- what passes is in view already
   pub show-idle : (p : A → Bool) (ms : List (Marked A)) → ((m : Marked A) → List·Memᴰ m ms → p (m .entry) ≡ true → m .shown ≡ true) → show p ms ≡ ms

@@ -12,7 +12,7 @@ ghost use mathlib.Core.Path.{_≡_};
 ghost use Prim.Native.Nat.{_^_, _<_};
 ghost use Rattle.protocol.specs.Refusal as rules;
 ghost use Rattle.protocol.specs.Lent.{placesIn, placesOf, nodeOf, lentSound};
-ghost use Rattle.verdicts.specs.Verdict.{numberOf, verdictOf};
+ghost use Rattle.verdicts.specs.Verdict.{verdictOf};
 ghost use Rattle.verdicts.specs.Lent.{lent};
 ghost use Rattle.answers.specs.Answers.{replyOf, answerOf};
 ghost use Rattle.asking.specs.Ask.{askAll, mergeAndAsk, receiveAndAsk, openAndAsk, askWith};
@@ -26,33 +26,6 @@ pub enum Answers {
         fast: confirm::Answer,
     },
     Refused(Refusal),
-}
-
-// Document 01's number of a refusal.
-pub fn number(refusal: Refusal) -> u64
-    ensures { λ r. ⌜ r ≡ numberOf refusal ⌝ }
-{
-    match refusal {
-        Refusal::Nodes => 1,
-        Refusal::Own => 2,
-        Refusal::Expiry => 3,
-        Refusal::Depth => 4,
-        Refusal::Length => 5,
-        Refusal::Unsound => 6,
-        Refusal::Beat => 7,
-        Refusal::Form => 8,
-        Refusal::Entry => 9,
-        Refusal::Places => 10,
-        Refusal::Phase => 11,
-        Refusal::Done => 12,
-        Refusal::Joined => 13,
-        Refusal::Proposer => 14,
-        Refusal::Number => 15,
-        Refusal::Voted => 16,
-        Refusal::Slot => 17,
-        Refusal::Buffer => 18,
-        Refusal::Proposal => 19,
-    }
 }
 
 // Whether a call was carried out, or why not.
@@ -297,7 +270,7 @@ fn line(to: i32, word: &[u8], n: u64) {
 fn show(to: i32, a: Answers) {
     match a {
         Answers::Refused(refusal) => {
-            line(to, b"refused ", number(refusal));
+            line(to, b"refused ", verdicts::number(refusal));
         }
         Answers::Found { head, deep, fast } => {
             line(to, b"head ", head);

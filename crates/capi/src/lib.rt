@@ -2,9 +2,7 @@
 // An enum cannot be exported, so an answer is a struct of numbers; specs/Structs says which struct stands for which answer.
 // Every function takes any memory, any clock and any settings that a caller may pass.
 use answers::Reply;
-use verdicts::Refusal;
 ghost use mathlib.Core.Path.{_≡_};
-ghost use Rattle.verdicts.specs.Verdict.{numberOf};
 ghost use Rattle.verdicts.specs.Lent.{lent};
 ghost use Rattle.answers.specs.Promises.{Opens, Receives, Proposes, Votes, Merges, IsHead, IsDeep, IsFast, Writes};
 ghost use Rattle.capi.specs.Structs.{settingsIn, clockIn, clockOut, answerOf, foundOf, writtenOf, Stands};
@@ -88,33 +86,6 @@ fn clock_out(clock: protocol::Clock) -> Clock
     }
 }
 
-// Document 01's number of a refusal.
-fn number(refusal: Refusal) -> u64
-    ensures { λ r. ⌜ r ≡ numberOf refusal ⌝ }
-{
-    match refusal {
-        Refusal::Nodes => 1,
-        Refusal::Own => 2,
-        Refusal::Expiry => 3,
-        Refusal::Depth => 4,
-        Refusal::Length => 5,
-        Refusal::Unsound => 6,
-        Refusal::Beat => 7,
-        Refusal::Form => 8,
-        Refusal::Entry => 9,
-        Refusal::Places => 10,
-        Refusal::Phase => 11,
-        Refusal::Done => 12,
-        Refusal::Joined => 13,
-        Refusal::Proposer => 14,
-        Refusal::Number => 15,
-        Refusal::Voted => 16,
-        Refusal::Slot => 17,
-        Refusal::Buffer => 18,
-        Refusal::Proposal => 19,
-    }
-}
-
 fn answer_of(reply: Reply, clock: Clock) -> Answer
     ensures { λ r. ⌜ r ≡ answerOf clock reply ⌝ }
 {
@@ -144,7 +115,7 @@ fn answer_of(reply: Reply, clock: Clock) -> Answer
             clock,
         },
         Reply::Refused(refusal) => Answer {
-            refusal: number(refusal),
+            refusal: verdicts::number(refusal),
             value: 0,
             new_blocks: 0,
             new_votes: 0,
@@ -169,7 +140,7 @@ fn found_of(answer: answers::Answer) -> Found
             value: 0,
         },
         answers::Answer::Refused(refusal) => Found {
-            refusal: number(refusal),
+            refusal: verdicts::number(refusal),
             found: 0,
             value: 0,
         },
@@ -182,7 +153,7 @@ fn written_of(written: answers::Written) -> Written
     match written {
         answers::Written::Length(length) => Written { refusal: 0, length },
         answers::Written::Refused(refusal) => Written {
-            refusal: number(refusal),
+            refusal: verdicts::number(refusal),
             length: 0,
         },
     }

@@ -35,7 +35,7 @@ fn number(n: u64) {
 
 fn show_refusal(refusal: verdicts::Refusal) {
     text(b"refused ");
-    number(asking::number(refusal));
+    number(verdicts::number(refusal));
 }
 
 fn show_clock(clock: Clock) {

@@ -13,7 +13,7 @@ ghost use Rattle.protocol.specs.Calls.Vote.{voteTests};
 ghost use Rattle.protocol.specs.Calls.Merge.{mergeTests};
 ghost use Rattle.protocol.specs.Calls.Query.{queryTests};
 ghost use Rattle.protocol.specs.Calls.Write.{writeTests};
-ghost use Rattle.verdicts.specs.Verdict.{verdictOf};
+ghost use Rattle.verdicts.specs.Verdict.{numberOf, verdictOf};
 ghost use Rattle.verdicts.specs.Lent.{lent, lentVerdict, beatTests, dueTests};
 
 // Why a call is refused, in the order of document 01's numbers 1 to 19.
@@ -57,6 +57,33 @@ pub enum Refusal {
 pub enum Verdict {
     Pass,
     Refuse(Refusal),
+}
+
+// Document 01's number of a refusal.
+pub fn number(refusal: Refusal) -> u64
+    ensures { λ r. ⌜ r ≡ numberOf refusal ⌝ }
+{
+    match refusal {
+        Refusal::Nodes => 1,
+        Refusal::Own => 2,
+        Refusal::Expiry => 3,
+        Refusal::Depth => 4,
+        Refusal::Length => 5,
+        Refusal::Unsound => 6,
+        Refusal::Beat => 7,
+        Refusal::Form => 8,
+        Refusal::Entry => 9,
+        Refusal::Places => 10,
+        Refusal::Phase => 11,
+        Refusal::Done => 12,
+        Refusal::Joined => 13,
+        Refusal::Proposer => 14,
+        Refusal::Number => 15,
+        Refusal::Voted => 16,
+        Refusal::Slot => 17,
+        Refusal::Buffer => 18,
+        Refusal::Proposal => 19,
+    }
 }
 
 // Open looks at the settings and the lengths of the tables alone.

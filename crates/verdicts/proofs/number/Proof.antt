@@ -1,9 +1,9 @@
--- `capi::number` meets its contract: the number of every refusal. Assumes nothing.
+-- `verdicts::number` meets its contract: document 01's number. Assumes nothing.
 use borrow.Author.Needs.{needs}
 use mathlib.Core.Path.{ap, sym}
 use Rattle.verdicts.specs.Verdict.{numberOf}
-use Rattle.capi.proofs.number.Statement.{statement}
-use Rattle.capi.proofs.number.Tie as tie
+use Rattle.verdicts.proofs.number.Statement.{statement}
+use Rattle.verdicts.proofs.number.Tie as tie
 
 pub number-spec : {M : Type 1} → statement M
 number-spec =

@@ -1,9 +1,7 @@
-//! An executable model of one node of the shed's pattern chain.
+//! An executable model of one node, written from document 01.
 //!
-//! Every rule cites the words of document 01 that it implements.
-//! The nine calls are plain functions over the settings and the lent memory.
-//! A refusal is the number that document 01 gives it, and it changes nothing.
-
+//! It says in the plainest way what each call answers and what it leaves behind. Comments in quotation marks are
+//! words of document 01. Where these leave something open, READINGS.md says what was taken.
 #![forbid(unsafe_code)]
 #![warn(missing_docs)]
 
@@ -11,12 +9,11 @@ mod ask;
 mod calls;
 mod packet;
 mod tables;
-mod walks;
-
 #[cfg(test)]
 mod tests;
+mod walks;
 
 pub use ask::chainask;
-pub use calls::{deep, fast, head, merge, open, propose, receive, vote, write, Received};
+pub use calls::Received;
 pub use packet::{Packet, PacketBlock, PacketVote};
-pub use tables::{Clock, Memory, Settings};
+pub use tables::{Block, Clock, Node, Settings, Vote};

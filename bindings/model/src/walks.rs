@@ -1,52 +1,41 @@
-//! Filters and walks.
+//! Filters and walks over a view: head, base, deep block, fast block.
 
-use crate::tables::{Block, Node, Vote};
-use std::cmp::Reverse;
+use crate::tables::{Block, Node, Settings, Vote};
 use std::collections::{HashMap, HashSet};
 
-/// The entries a walk looks at.
+/// The entries that a filter or a walk looks at, in table order. The tables must be sound.
 pub(crate) struct View {
-    blocks: HashMap<u64, Block>,
-    children: HashMap<u64, Vec<Block>>,
-    /// The parent links from each block to block 0.
-    distance: HashMap<u64, u64>,
+    settings: Settings,
+    blocks: Vec<Block>,
     votes: Vec<Vote>,
+    /// For each block the place of its parent in `blocks`; block 0 stands at 0 and has 0.
+    parents: Vec<usize>,
+    /// The place in `blocks` of each block number.
+    places: HashMap<u64, usize>,
 }
 
 impl View {
     /// The entries marked in view.
-    pub fn of_view(node: &Node) -> View {
-        View::of(node, |in_view| in_view)
+    pub(crate) fn in_view(node: &Node) -> View {
+        let blocks = node.stock_blocks().iter().copied().filter(|block| block.in_view).collect();
+        let votes = node.stock_votes().iter().copied().filter(|vote| vote.in_view).collect();
+        View::over(node.settings, blocks, votes)
     }
 
     /// "the stock is both together"
-    pub fn of_stock(node: &Node) -> View {
-        View::of(node, |_| true)
+    pub(crate) fn stock(node: &Node) -> View {
+        View::over(node.settings, node.stock_blocks().to_vec(), node.stock_votes().to_vec())
     }
 
-    fn of(node: &Node, wanted: impl Fn(bool) -> bool) -> View {
-        let mut blocks = HashMap::new();
-        let mut children: HashMap<u64, Vec<Block>> = HashMap::new();
-        let mut distance = HashMap::new();
-        for block in node.blocks.iter().filter(|block| wanted(block.in_view)) {
-            blocks.insert(block.number, *block);
-            if block.number == 0 {
-                // Block 0 names itself as parent and is nobody's child.
-                distance.insert(0, 0);
-            } else {
-                children.entry(block.parent).or_default().push(*block);
-                // The parent stands earlier, and it is in view if the block is.
-                distance.insert(block.number, distance[&block.parent] + 1);
-            }
-        }
-        let votes = node.votes.iter().filter(|vote| wanted(vote.in_view)).copied().collect();
-        View { blocks, children, distance, votes }
+    fn over(settings: Settings, blocks: Vec<Block>, votes: Vec<Vote>) -> View {
+        let places: HashMap<u64, usize> = blocks.iter().enumerate().map(|(place, b)| (b.number, place)).collect();
+        let parents = blocks.iter().map(|block| places[&block.parent]).collect();
+        View { settings, blocks, votes, parents, places }
     }
 
-    /// "(1) drop every vote of a voter that has two votes of one slot for different blocks anywhere in the view".
-    /// These are the voters dropped.
+    /// The voters of filter (1): those with "two votes of one slot for different blocks anywhere in the view".
     fn double_voters(&self) -> HashSet<u64> {
-        let mut first: HashMap<(u64, u64), u64> = HashMap::new();
+        let mut first = HashMap::new();
         let mut double = HashSet::new();
         for vote in &self.votes {
             let number = *first.entry((vote.voter, vote.slot)).or_insert(vote.number);
@@ -57,102 +46,99 @@ impl View {
         double
     }
 
-    /// The votes kept "For slot t over a view, in this order", at most one of each voter.
-    fn kept(&self, slot: u64, expiry: u64) -> Vec<Vote> {
+    /// The votes that the filters for slot t keep, "in this order".
+    fn kept_votes(&self, t: u64) -> Vec<Vote> {
+        let mut votes = self.votes.clone();
+        // "(1) drop every vote of a voter that has two votes of one slot for different blocks"
         let double = self.double_voters();
+        votes.retain(|vote| !double.contains(&vote.voter));
+        // "(2) keep votes of slots t-E to t-1, none below 1"
+        let first = t.saturating_sub(self.settings.expiry).max(1);
+        votes.retain(|vote| first <= vote.slot && vote.slot < t);
+        // "(3) of each voter keep the latest"
         let mut latest: HashMap<u64, Vote> = HashMap::new();
-        for vote in &self.votes {
-            // "(1) drop every vote of a voter that has two votes of one slot for different blocks"
-            if double.contains(&vote.voter) {
-                continue;
-            }
-            // "(2) keep votes of slots t-E to t-1, none below 1"
-            if vote.slot < 1 || vote.slot >= slot || vote.slot + expiry < slot {
-                continue;
-            }
-            // "(3) of each voter keep the latest"
-            let kept = latest.entry(vote.voter).or_insert(*vote);
-            if vote.slot > kept.slot {
-                *kept = *vote;
+        for vote in votes {
+            let kept = latest.entry(vote.voter).or_insert(vote);
+            if kept.slot < vote.slot {
+                *kept = vote;
             }
         }
         latest.into_values().collect()
     }
 
-    /// The chain from a block down to block 0, both included.
-    fn chain(&self, number: u64) -> Vec<Block> {
-        let mut block = self.blocks[&number];
-        let mut chain = vec![block];
-        while block.number != 0 {
-            block = self.blocks[&block.parent];
-            chain.push(block);
+    /// For each block "the number of voters whose kept vote is for it or for a block above it".
+    fn weights(&self, kept: &[Vote]) -> Vec<u32> {
+        // "A set of voters is one 64-bit word and its weight is the number of ones."
+        let mut voters = vec![0u64; self.blocks.len()];
+        for vote in kept {
+            voters[self.places[&vote.number]] |= 1 << vote.voter;
         }
-        chain
+        // A parent stands earlier than its children, so each set is complete when it is handed down.
+        for place in (1..self.blocks.len()).rev() {
+            voters[self.parents[place]] |= voters[place];
+        }
+        voters.into_iter().map(u64::count_ones).collect()
     }
 
-    /// "The weight of a block is the number of voters whose kept vote is for it or for a block above it. A set of
-    /// voters is one 64-bit word". A block without voters has no entry.
-    fn voters_of_blocks(&self, votes: &[Vote]) -> HashMap<u64, u64> {
-        let mut voters: HashMap<u64, u64> = HashMap::new();
-        for vote in votes {
-            for block in self.chain(vote.number) {
-                *voters.entry(block.number).or_insert(0) |= 1 << vote.voter;
+    /// The place at which the walk for slot t stops; it goes only to blocks that `allowed` lets through.
+    fn walk(&self, t: u64, allowed: impl Fn(&Block) -> bool) -> usize {
+        let weights = self.weights(&self.kept_votes(t));
+        let mut children: Vec<Vec<usize>> = vec![Vec::new(); self.blocks.len()];
+        for place in 1..self.blocks.len() {
+            if allowed(&self.blocks[place]) {
+                children[self.parents[place]].push(place);
             }
         }
-        voters
-    }
-
-    /// "The head starts at block 0 and goes to the heaviest child in view", with slots that are allowed.
-    fn walk(&self, slot: u64, expiry: u64, allowed: impl Fn(u64) -> bool) -> u64 {
-        let voters = self.voters_of_blocks(&self.kept(slot, expiry));
-        // "its weight is the number of ones"; "weight 0 included"
-        let weight = |number: u64| voters.get(&number).map_or(0, |word| word.count_ones());
+        // "starts at block 0 and goes to the heaviest child"
         let mut at = 0;
-        loop {
-            let heaviest = self
-                .children
-                .get(&at)
-                .into_iter()
-                .flatten()
-                .filter(|child| allowed(child.slot))
-                // "ties to the smaller number"
-                .max_by_key(|child| (weight(child.number), Reverse(child.number)));
-            match heaviest {
-                Some(child) => at = child.number,
-                // "until no child is left"
-                None => return at,
-            }
+        // "ties to the smaller number, weight 0 included, until no child is left"
+        let rank = |place: usize| (weights[place], std::cmp::Reverse(self.blocks[place].number));
+        while let Some(&next) = children[at].iter().max_by_key(|&&place| rank(place)) {
+            at = next;
         }
+        at
     }
 
-    /// The head for t: "the heaviest child in view with slot at most t".
-    pub fn head(&self, slot: u64, expiry: u64) -> u64 {
-        self.walk(slot, expiry, |child| child <= slot)
+    fn head_place(&self, t: u64) -> usize {
+        // "child in view with slot at most t"
+        self.walk(t, |block| block.slot <= t)
     }
 
-    /// The base for t: "the same walk over the whole stock, with children of slots below t only".
-    pub fn base(&self, slot: u64, expiry: u64) -> u64 {
-        self.walk(slot, expiry, |child| child < slot)
+    /// The head for slot t.
+    pub(crate) fn head(&self, t: u64) -> u64 {
+        self.blocks[self.head_place(t)].number
     }
 
-    /// "The deep block for t is the highest block of the head's chain with slot at most t-K, else block 0."
-    pub fn deep(&self, slot: u64, expiry: u64, depth: u64) -> u64 {
-        let head = self.head(slot, expiry);
-        let deep = self.chain(head).into_iter().find(|block| block.slot + depth <= slot);
-        deep.map_or(0, |block| block.number)
+    /// The base of a proposal of slot t, over the stock: "with children of slots below t only".
+    pub(crate) fn base(&self, t: u64) -> u64 {
+        self.blocks[self.walk(t, |block| block.slot < t)].number
     }
 
-    /// "The fast block for t: of the votes of slot t in view, without the voters dropped in (1), the block farthest
-    /// from block 0 with 4 × its weight at least 3 × n; none if no block has it."
-    pub fn fast(&self, slot: u64, nodes: u64) -> Option<u64> {
+    /// "the highest block of the head's chain with slot at most t-K, else block 0"
+    pub(crate) fn deep(&self, t: u64) -> u64 {
+        let Some(highest) = t.checked_sub(self.settings.depth) else { return 0 };
+        let mut place = self.head_place(t);
+        while self.blocks[place].slot > highest {
+            place = self.parents[place];
+        }
+        self.blocks[place].number
+    }
+
+    /// The fast block for slot t.
+    pub(crate) fn fast(&self, t: u64) -> Option<u64> {
+        // "of the votes of slot t in view, without the voters dropped in (1)"
         let double = self.double_voters();
-        let votes: Vec<Vote> =
-            self.votes.iter().filter(|vote| vote.slot == slot && !double.contains(&vote.voter)).copied().collect();
-        let voters = self.voters_of_blocks(&votes);
-        voters
-            .into_iter()
-            .filter(|(_, word)| 4 * u64::from(word.count_ones()) >= 3 * nodes)
-            .map(|(number, _)| number)
-            .max_by_key(|number| self.distance[number])
+        let of_slot = |vote: &&Vote| vote.slot == t && !double.contains(&vote.voter);
+        let votes: Vec<Vote> = self.votes.iter().filter(of_slot).copied().collect();
+        let weights = self.weights(&votes);
+        let mut distances = vec![0u64; self.blocks.len()];
+        for place in 1..self.blocks.len() {
+            distances[place] = distances[self.parents[place]] + 1;
+        }
+        // "with 4 × its weight at least 3 × n; none if no block has it"
+        let enough = |&place: &usize| 4 * u64::from(weights[place]) >= 3 * self.settings.nodes;
+        // "the block farthest from block 0"
+        let place = (0..self.blocks.len()).filter(enough).max_by_key(|&place| distances[place])?;
+        Some(self.blocks[place].number)
     }
 }

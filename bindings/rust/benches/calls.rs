@@ -57,18 +57,23 @@ impl Case {
         }
     }
 
-    fn model(&self) -> (model::Settings, model::Memory) {
+    fn model(&self) -> model::Node {
         let (s, m, k) = (self.settings, &self.memory, self.memory.clock);
-        (
-            model::Settings { nodes: s.nodes, own: s.own, expiry: s.expiry, depth: s.depth },
-            model::Memory {
-                blocks: m.blocks.clone(),
-                votes: m.votes.clone(),
-                blocks_used: m.blocks_used,
-                votes_used: m.votes_used,
-                clock: model::Clock { seen: k.seen, done: k.done, merged: k.merged, proposed: k.proposed },
-            },
-        )
+        let rows = |words: &[u64]| -> Vec<[u64; 4]> { words.chunks_exact(4).map(|r| [r[0], r[1], r[2], r[3]]).collect() };
+        model::Node {
+            settings: model::Settings { nodes: s.nodes, own: s.own, expiry: s.expiry, depth: s.depth },
+            clock: model::Clock { seen: k.seen, done: k.done, merged: k.merged, proposed: k.proposed },
+            blocks: rows(&m.blocks)
+                .into_iter()
+                .map(|[number, parent, slot, mark]| model::Block { number, parent, slot, in_view: mark == 1 })
+                .collect(),
+            blocks_used: m.blocks_used,
+            votes: rows(&m.votes)
+                .into_iter()
+                .map(|[voter, slot, number, mark]| model::Vote { voter, slot, number, in_view: mark == 1 })
+                .collect(),
+            votes_used: m.votes_used,
+        }
     }
 
     /// A packet with one new block and one new vote of the next slot.
@@ -76,7 +81,7 @@ impl Case {
         let slot = self.last + 1;
         let block = model::PacketBlock { number: 1 << 40, parent: 1, slot: slot as u32 };
         let vote = model::PacketVote { voter: 0, slot: slot as u32, number: 1 << 40 };
-        model::Packet::gossip(vec![block], vec![vote]).encode()
+        model::Packet { kind: 0, slot: 0, number: 0, blocks: vec![block], votes: vec![vote] }.encode()
     }
 }
 
@@ -150,21 +155,20 @@ fn modelled(case: &Case, call: usize, gossip: &[u8]) -> Duration {
     let beat = 3 * (case.last + 1);
     let news = case.news();
     let mut buffer = vec![0; gossip.len()];
-    let (settings, memory) = case.model();
-    let s = &settings;
+    let model = case.model();
     median(|| {
-        let m = &mut memory.clone();
+        let n = &mut model.clone();
         match call {
-            0 => timed(|| model::open(s, m).unwrap()),
-            1 => timed(|| assert_eq!(model::receive(s, m, beat, &news).unwrap().new_votes, 1)),
-            2 => timed(|| assert_eq!(model::receive(s, m, beat, gossip).unwrap().new_votes, 0)),
-            3 => timed(|| model::propose(s, m, beat, 1 << 40).unwrap()),
-            4 => timed(|| model::vote(s, m, beat + 1).unwrap()),
-            5 => timed(|| model::merge(s, m, beat + 2).unwrap()),
-            6 => timed(|| model::head(s, m, case.shown).unwrap()),
-            7 => timed(|| model::deep(s, m, case.shown).unwrap()),
-            8 => timed(|| model::fast(s, m, case.shown).unwrap()),
-            _ => timed(|| model::write(s, m, false, &mut buffer).unwrap()),
+            0 => timed(|| n.open().unwrap()),
+            1 => timed(|| assert_eq!(n.receive(beat, &news).unwrap().new_votes, 1)),
+            2 => timed(|| assert_eq!(n.receive(beat, gossip).unwrap().new_votes, 0)),
+            3 => timed(|| n.propose(beat, 1 << 40).unwrap()),
+            4 => timed(|| n.vote(beat + 1).unwrap()),
+            5 => timed(|| n.merge(beat + 2).unwrap()),
+            6 => timed(|| n.head(case.shown).unwrap()),
+            7 => timed(|| n.deep(case.shown).unwrap()),
+            8 => timed(|| n.fast(case.shown).unwrap()),
+            _ => timed(|| n.write(false, &mut buffer).unwrap()),
         }
     })
 }

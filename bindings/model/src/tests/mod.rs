@@ -1,96 +1,102 @@
-//! Tests of the model.
+//! Tests. Expected values are words of document 01 or computed by hand.
 
-mod full;
+mod extremes;
 mod packets;
-mod plain;
+mod places;
+mod program;
+mod receive;
 mod refusals;
-mod runs;
+mod run;
 mod shed;
 mod shortcuts;
 mod soundness;
 
-use crate::{Clock, Memory, Packet, PacketBlock, PacketVote, Settings};
+use crate::{Block, Clock, Node, Packet, PacketBlock, PacketVote, Settings, Vote};
 
-/// The mark of an entry in view.
-const VIEW: u64 = 1;
-/// The mark of an entry that waits.
-const WAIT: u64 = 0;
+pub const NO_BLOCK: Block = Block { number: 0, parent: 0, slot: 0, in_view: false };
+pub const NO_VOTE: Vote = Vote { voter: 0, slot: 0, number: 0, in_view: false };
 
-fn settings(nodes: u64, own: u64, expiry: u64, depth: u64) -> Settings {
-    Settings { nodes, own, expiry, depth }
+/// A fresh node with 16 places in each table.
+pub fn fresh(nodes: u64, own: u64, expiry: u64, depth: u64) -> Node {
+    places(nodes, own, expiry, depth, 16, 16)
 }
 
-fn clock(seen: u64, done: u64, merged: u64, proposed: u64) -> Clock {
-    Clock { seen, done, merged, proposed }
+/// A fresh node with so many places.
+pub fn places(nodes: u64, own: u64, expiry: u64, depth: u64, blocks: usize, votes: usize) -> Node {
+    let mut node = Node {
+        settings: Settings { nodes, own, expiry, depth },
+        clock: Clock { seen: 77, done: 78, merged: 79, proposed: 80 },
+        blocks: vec![block(9, 9, 9); blocks],
+        blocks_used: 99,
+        votes: vec![vote(9, 9, 9); votes],
+        votes_used: 99,
+    };
+    node.open().unwrap();
+    node
 }
 
-/// Memory with block 0 and the rows given. Unused words hold a filler that no call may touch.
-fn memory(places: (usize, usize), blocks: &[[u64; 4]], votes: &[[u64; 4]], clock: Clock) -> Memory {
-    let mut block_words = vec![0, 0, 0, 1];
-    block_words.extend(blocks.iter().flatten());
-    let mut vote_words: Vec<u64> = votes.iter().flatten().copied().collect();
-    block_words.resize(4 * places.0, 777);
-    vote_words.resize(4 * places.1, 777);
-    Memory { blocks: block_words, votes: vote_words, blocks_used: blocks.len() + 1, votes_used: votes.len(), clock }
+/// A block in view.
+pub fn block(number: u64, parent: u64, slot: u64) -> Block {
+    Block { number, parent, slot, in_view: true }
 }
 
-fn opened(settings: &Settings, places: (usize, usize)) -> Memory {
-    let mut memory = Memory::zeroed(places.0, places.1);
-    assert_eq!(crate::open(settings, &mut memory), Ok(()));
-    memory
+/// A vote in view.
+pub fn vote(voter: u64, slot: u64, number: u64) -> Vote {
+    Vote { voter, slot, number, in_view: true }
 }
 
-fn block(number: u64, parent: u64, slot: u32) -> PacketBlock {
-    PacketBlock { number, parent, slot }
+/// Puts a block into the next free place.
+pub fn add_block(node: &mut Node, block: Block) {
+    node.blocks[node.blocks_used] = block;
+    node.blocks_used += 1;
 }
 
-fn ballot(voter: u8, slot: u32, number: u64) -> PacketVote {
-    PacketVote { voter, slot, number }
+/// Puts a vote into the next free place.
+pub fn add_vote(node: &mut Node, vote: Vote) {
+    node.votes[node.votes_used] = vote;
+    node.votes_used += 1;
 }
 
-fn gossip(blocks: &[PacketBlock], votes: &[PacketVote]) -> Vec<u8> {
-    Packet::gossip(blocks.to_vec(), votes.to_vec()).encode()
-}
-
-fn proposal(slot: u32, number: u64, blocks: &[PacketBlock], votes: &[PacketVote]) -> Vec<u8> {
-    Packet::proposal(slot, number, blocks.to_vec(), votes.to_vec()).encode()
-}
-
-/// Makes a call that must be refused and leave the memory as before.
-fn refused<T: std::fmt::Debug>(memory: &mut Memory, call: impl Fn(&mut Memory) -> Result<T, u32>) -> u32 {
-    let before = memory.clone();
-    let refusal = call(memory).expect_err("the call must be refused");
-    assert_eq!(*memory, before, "a refusal changes nothing");
-    refusal
-}
-
-/// A small deterministic generator.
-struct Dice(u64);
-
-impl Dice {
-    fn next(&mut self) -> u64 {
-        self.0 = self.0.wrapping_add(0x9e37_79b9_7f4a_7c15);
-        let mut word = self.0;
-        word = (word ^ word >> 30).wrapping_mul(0xbf58_476d_1ce4_e5b9);
-        word = (word ^ word >> 27).wrapping_mul(0x94d0_49bb_1331_11eb);
-        word ^ word >> 31
+/// The shed of document 01 with K = 3, after the merge of slot 4.
+pub fn shed() -> Node {
+    let mut node = fresh(5, 0, 2, 3);
+    node.clock = Clock { seen: 14, done: 14, merged: 4, proposed: 0 };
+    for (number, parent, slot) in [(11, 0, 1), (21, 0, 2), (31, 11, 3)] {
+        add_block(&mut node, block(number, parent, slot));
     }
-
-    fn below(&mut self, limit: u64) -> u64 {
-        self.next() % limit
+    for (voter, slot, number) in [(0, 1, 11), (1, 2, 21), (4, 2, 11), (2, 3, 31), (3, 3, 21)] {
+        add_vote(&mut node, vote(voter, slot, number));
     }
+    node
+}
 
-    fn one_in(&mut self, count: u64) -> bool {
-        self.below(count) == 0
-    }
+/// The bytes of a packet.
+pub fn packet(kind: u8, slot: u32, number: u64, blocks: &[(u64, u64, u32)], votes: &[(u8, u32, u64)]) -> Vec<u8> {
+    let blocks = blocks.iter().map(|&(number, parent, slot)| PacketBlock { number, parent, slot }).collect();
+    let votes = votes.iter().map(|&(voter, slot, number)| PacketVote { voter, slot, number }).collect();
+    Packet { kind, slot, number, blocks, votes }.encode()
+}
 
-    fn pick<'a, T>(&mut self, items: &'a [T]) -> &'a T {
-        &items[self.below(items.len() as u64) as usize]
-    }
+/// The bytes of a gossip packet.
+pub fn gossip(blocks: &[(u64, u64, u32)], votes: &[(u8, u32, u64)]) -> Vec<u8> {
+    packet(0, 0, 0, blocks, votes)
+}
 
-    fn shuffle<T>(&mut self, items: &mut [T]) {
-        for high in (1..items.len()).rev() {
-            items.swap(high, self.below(high as u64 + 1) as usize);
-        }
-    }
+/// What a node writes.
+pub fn written(node: &Node, proposal: bool) -> Vec<u8> {
+    let mut buffer = vec![0; 4096];
+    let length = node.write(proposal, &mut buffer).unwrap();
+    buffer.truncate(length);
+    buffer
+}
+
+/// The numbers of the blocks in view, in table order.
+pub fn blocks_in_view(node: &Node) -> Vec<u64> {
+    node.blocks[..node.blocks_used].iter().filter(|block| block.in_view).map(|block| block.number).collect()
+}
+
+/// Voter, slot and number of the votes in view, in table order.
+pub fn votes_in_view(node: &Node) -> Vec<(u64, u64, u64)> {
+    let votes = node.votes[..node.votes_used].iter().filter(|vote| vote.in_view);
+    votes.map(|vote| (vote.voter, vote.slot, vote.number)).collect()
 }

@@ -1,95 +1,81 @@
-//! Document 01's section "Shortcuts that split a shed". Each case tells the shortcut from the rule.
+//! "Shortcuts that split a shed": the tables are made as each shortcut would see them, and the answer differs.
 
-use super::plain::{walk, Shortcut};
 use super::*;
-use crate::{head, merge, receive};
 
-/// The head by the rule and by a shortcut.
-fn two_heads(settings: &Settings, memory: &Memory, slot: u64, shortcut: Shortcut) -> (u64, u64) {
-    assert_eq!(head(settings, memory, slot), Ok(walk(settings, memory, slot, false, Shortcut::None)));
-    (head(settings, memory, slot).unwrap(), walk(settings, memory, slot, false, shortcut))
+/// Blocks 11 and 21 on block 0, three nodes, E = 2, slot 6 seen.
+fn fork() -> Node {
+    let mut node = fresh(3, 0, 2, 1);
+    node.clock.seen = 18;
+    add_block(&mut node, block(11, 0, 1));
+    add_block(&mut node, block(21, 0, 1));
+    node
 }
 
 #[test]
-fn expiring_before_the_first_filter() {
-    // "Expiring before (1), which forgets double votes." Voter 0 voted twice in slot 1, long expired.
-    let blocks = [[5, 0, 1, VIEW], [6, 0, 1, VIEW]];
-    let votes = [[0, 1, 5, VIEW], [0, 1, 6, VIEW], [0, 5, 6, VIEW]];
-    let memory = memory((4, 8), &blocks, &votes, clock(18, 17, 5, 1));
-    assert_eq!(two_heads(&settings(4, 1, 2, 1), &memory, 6, Shortcut::ExpireFirst), (5, 6));
-}
-
-#[test]
-fn double_votes_after_the_window() {
-    // A double vote of slot t or later drops the voter as well.
-    let blocks = [[5, 0, 1, VIEW], [6, 0, 1, VIEW]];
-    let votes = [[0, 2, 6, VIEW], [0, 5, 5, VIEW], [0, 5, 6, VIEW]];
-    let memory = memory((4, 8), &blocks, &votes, clock(18, 17, 5, 1));
-    assert_eq!(two_heads(&settings(4, 1, 2, 1), &memory, 3, Shortcut::ExpireFirst), (5, 6));
+fn expiring_before_1() {
+    let mut node = fork();
+    add_vote(&mut node, vote(0, 1, 11));
+    add_vote(&mut node, vote(0, 1, 21));
+    add_vote(&mut node, vote(0, 4, 21));
+    // Voter 0 is dropped for its double vote of slot 1, though that slot is expired: nobody votes, 11 is smaller.
+    assert_eq!(node.head(5), Ok(11));
+    // The shortcut sees slots 3 and 4 only.
+    node.votes[0] = node.votes[2];
+    node.votes_used = 1;
+    assert_eq!(node.head(5), Ok(21));
 }
 
 #[test]
 fn latest_before_expiry() {
-    // "Taking the latest vote before expiry, so a vote of slot t hides an older one."
-    let blocks = [[5, 0, 1, VIEW], [6, 0, 1, VIEW]];
-    let votes = [[0, 2, 6, VIEW], [0, 3, 5, VIEW]];
-    let memory = memory((4, 8), &blocks, &votes, clock(11, 11, 3, 1));
-    assert_eq!(two_heads(&settings(4, 1, 2, 1), &memory, 3, Shortcut::LatestFirst), (6, 5));
+    let mut node = fork();
+    add_vote(&mut node, vote(0, 4, 21));
+    add_vote(&mut node, vote(0, 5, 11));
+    // The vote of slot 5 is no vote for a head of slot 5, the one of slot 4 stands.
+    assert_eq!(node.head(5), Ok(21));
+    // The shortcut keeps only the vote of slot 5 and then drops it: nobody votes, 11 is smaller.
+    node.votes[0] = node.votes[1];
+    node.votes_used = 1;
+    assert_eq!(node.head(5), Ok(11));
 }
 
 #[test]
-fn counting_slot_t() {
-    // "Counting slot t in a head."
-    let blocks = [[5, 0, 1, VIEW], [6, 0, 1, VIEW]];
-    let votes = [[0, 3, 6, VIEW]];
-    let memory = memory((4, 8), &blocks, &votes, clock(11, 11, 3, 1));
-    assert_eq!(two_heads(&settings(4, 1, 2, 1), &memory, 3, Shortcut::CountSlot), (5, 6));
+fn counting_slot_t_in_a_head() {
+    let mut node = fork();
+    add_vote(&mut node, vote(0, 5, 21));
+    assert_eq!(node.head(5), Ok(11));
+    // The shortcut counts the vote as if it were of the slot before.
+    node.votes[0].slot = 4;
+    assert_eq!(node.head(5), Ok(21));
 }
 
 #[test]
-fn gossip_into_view_on_arrival() {
-    // "Bringing gossip into view on arrival."
-    let four = settings(4, 1, 2, 1);
-    let mut memory = opened(&four, (4, 8));
-    let packet = gossip(&[block(5, 0, 1), block(6, 0, 1)], &[ballot(0, 1, 6)]);
-    let received = receive(&four, &mut memory, 6, &packet).unwrap();
-    assert!(!received.brought);
-    assert_eq!(head(&four, &memory, 2), Ok(0));
-    // In view only with the merge.
-    merge(&four, &mut memory, 8).unwrap();
-    assert_eq!(head(&four, &memory, 2), Ok(6));
+fn gossip_in_view_on_arrival() {
+    let mut node = fork();
+    let answer = node.receive(18, &gossip(&[(12, 11, 2)], &[(1, 4, 21), (2, 5, 21)])).unwrap();
+    assert_eq!((answer.new_blocks, answer.new_votes, answer.brought), (1, 2, false));
+    assert_eq!(blocks_in_view(&node), [0, 11, 21]);
+    assert_eq!(votes_in_view(&node), []);
+    assert_eq!(node.head(5), Ok(11));
+    // The shortcut marks the entries on arrival.
+    node.blocks[3].in_view = true;
+    node.votes[0].in_view = true;
+    node.votes[1].in_view = true;
+    assert_eq!(node.head(5), Ok(21));
 }
 
 #[test]
 fn ties_by_arrival() {
-    // "Breaking ties by arrival."
-    let blocks = [[6, 0, 1, VIEW], [5, 0, 1, VIEW]];
-    let votes = [[0, 1, 6, VIEW], [1, 1, 5, VIEW]];
-    let memory = memory((4, 8), &blocks, &votes, clock(6, 5, 1, 1));
-    assert_eq!(two_heads(&settings(4, 1, 2, 1), &memory, 2, Shortcut::TiesByArrival), (5, 6));
-}
-
-#[test]
-fn rules_at_the_edges_of_the_window() {
-    // "keep votes of slots t-E to t-1": E = 2 and t = 5 keep slots 3 and 4.
-    let blocks = [[5, 0, 1, VIEW], [6, 0, 1, VIEW]];
-    for (slot, number) in [(2, 5), (3, 6), (4, 6), (5, 5)] {
-        let memory = memory((4, 8), &blocks, &[[0, slot, 6, VIEW]], clock(17, 17, 5, 1));
-        assert_eq!(head(&settings(4, 1, 2, 1), &memory, 5), Ok(number), "vote of slot {slot}");
+    // One against one: the rule answers 11 in both orders, the shortcut the block that came first.
+    for (order, first) in [([(11, 0, 1), (21, 0, 1)], 11), ([(21, 0, 1), (11, 0, 1)], 21)] {
+        let mut node = fresh(3, 0, 2, 1);
+        node.receive(5, &gossip(&order, &[(0, 1, 21), (1, 1, 11)])).unwrap();
+        node.merge(5).unwrap();
+        node.receive(6, &gossip(&[], &[])).unwrap();
+        assert_eq!(node.blocks[1].number, first);
+        assert_eq!(node.head(2), Ok(11));
+        // With one vote more the heavier block is the head in both orders.
+        node.receive(8, &gossip(&[], &[(2, 1, 21)])).unwrap();
+        node.merge(8).unwrap();
+        assert_eq!(node.head(2), Ok(21));
     }
-    // "none below 1" with an expiry longer than the chain.
-    let memory = memory((4, 8), &blocks, &[[0, 1, 6, VIEW]], clock(17, 17, 5, 1));
-    assert_eq!(head(&settings(4, 1, 4096, 1), &memory, 5), Ok(6));
-}
-
-#[test]
-fn near_the_limit() {
-    let late = 1_000_000_000;
-    let blocks = [[5, 0, late - 2, VIEW], [6, 0, late - 2, VIEW]];
-    let votes = [[0, late - 1, 6, VIEW]];
-    let memory = memory((4, 8), &blocks, &votes, clock(3 * late + 2, 3 * late + 2, late, 1));
-    let four = settings(4, 1, 4096, 2);
-    assert_eq!(head(&four, &memory, late), Ok(6));
-    assert_eq!(crate::deep(&four, &memory, late), Ok(6));
-    assert_eq!(crate::fast(&four, &memory, late), Ok(None));
 }

@@ -1,229 +1,171 @@
-//! Sound and unsound memory.
+//! The rules of sound tables one by one: each flaw alone makes every call but Open refuse with 6.
 
 use super::*;
-use crate::{deep, fast, head, merge, open, propose, receive, vote, write};
 
-/// A change of memory.
-type Change = fn(&mut Memory);
-
-/// Whether the model takes the memory as sound.
-fn taken(settings: &Settings, memory: &Memory) -> bool {
-    head(settings, memory, 0) != Err(6)
+/// The shed with 31 and a block 41 on it waiting, and votes for them waiting.
+fn sound() -> Node {
+    let mut node = shed();
+    node.blocks[3].in_view = false;
+    node.votes[3].in_view = false;
+    add_block(&mut node, Block { number: 41, parent: 31, slot: 4, in_view: false });
+    add_vote(&mut node, Vote { voter: 2, slot: 4, number: 41, in_view: false });
+    node
 }
 
-fn base_case() -> Memory {
-    let blocks = [[5, 0, 1, VIEW], [6, 5, 3, WAIT]];
-    let votes = [[0, 1, 5, VIEW], [3, 3, 6, WAIT], [2, 2, 0, WAIT]];
-    memory((4, 4), &blocks, &votes, clock(11, 10, 2, 3))
+fn unsound(change: impl Fn(&mut Node)) {
+    let mut node = sound();
+    change(&mut node);
+    let before = node.clone();
+    assert_eq!(node.receive(14, &[0; 17]), Err(6));
+    assert_eq!(node.propose(15, 99), Err(6));
+    assert_eq!(node.vote(16), Err(6));
+    assert_eq!(node.merge(17), Err(6));
+    assert_eq!(node.head(4), Err(6));
+    assert_eq!(node.deep(4), Err(6));
+    assert_eq!(node.fast(4), Err(6));
+    let mut buffer = [7; 300];
+    assert_eq!(node.write(false, &mut buffer), Err(6));
+    assert_eq!(node.write(true, &mut buffer), Err(6));
+    assert_eq!(buffer, [7; 300]);
+    assert_eq!(node, before);
 }
 
-#[test]
-fn one_rule_at_a_time() {
-    let four = settings(4, 1, 2, 1);
-    assert!(taken(&four, &base_case()));
-    let changes: Vec<(&str, Change)> = vec![
-        ("no block used", |memory| memory.blocks_used = 0),
-        ("too many blocks used", |memory| memory.blocks_used = 5),
-        ("too many votes used", |memory| memory.votes_used = 5),
-        ("far too many blocks used", |memory| memory.blocks_used = usize::MAX),
-        ("far too many votes used", |memory| memory.votes_used = usize::MAX / 4 + 2),
-        ("unused row used", |memory| memory.blocks_used = 4),
-        ("unused vote used", |memory| memory.votes_used = 4),
-        ("no block places", |memory| memory.blocks.clear()),
-        ("no vote places", |memory| memory.votes.clear()),
-        ("block words left over", |memory| memory.blocks.push(0)),
-        ("vote words missing", |memory| memory.votes.truncate(15)),
-        ("block table too long", |memory| memory.blocks.resize(8196, 0)),
-        ("vote table too long", |memory| memory.votes.resize(32772, 0)),
-        ("block 0 has a number", |memory| memory.blocks[0] = 9),
-        ("block 0 has a parent", |memory| memory.blocks[1] = 9),
-        ("block 0 has a slot", |memory| memory.blocks[2] = 1),
-        ("block 0 waits", |memory| memory.blocks[3] = WAIT),
-        ("number twice", |memory| memory.blocks[8] = 5),
-        ("number 0 twice", |memory| memory.blocks[8] = 0),
-        ("parent unknown", |memory| memory.blocks[9] = 7),
-        ("own parent", |memory| memory.blocks[9] = 6),
-        ("parent later", |memory| memory.blocks[5] = 6),
-        ("slot of the parent", |memory| memory.blocks[6] = 0),
-        ("slot below the parent's", |memory| memory.blocks[10] = 1),
-        ("block slot above the one seen", |memory| memory.blocks[10] = 4),
-        ("greatest block slot", |memory| memory.blocks[10] = u64::MAX),
-        ("block mark", |memory| memory.blocks[11] = 2),
-        ("greatest block mark", |memory| memory.blocks[7] = u64::MAX),
-        ("parent waits", |memory| {
-            memory.blocks[7] = WAIT;
-            memory.blocks[11] = VIEW;
-            memory.votes[3] = WAIT;
-        }),
-        ("voter", |memory| memory.votes[0] = 4),
-        ("greatest voter", |memory| memory.votes[0] = u64::MAX),
-        ("vote slot 0", |memory| memory.votes[9] = 0),
-        ("vote slot above the one seen", |memory| memory.votes[1] = 4),
-        ("unknown block", |memory| memory.votes[2] = 7),
-        ("vote before its block", |memory| memory.votes[5] = 2),
-        ("vote in view without its block", |memory| memory.votes[7] = VIEW),
-        ("vote mark", |memory| memory.votes[3] = 2),
-        ("vote twice", |memory| memory.votes.copy_within(0..3, 8)),
-        ("seen above the limit", |memory| memory.clock.seen = 3_000_000_003),
-        ("greatest beat seen", |memory| memory.clock.seen = u64::MAX),
-        ("seen below an entry", |memory| memory.clock = clock(8, 8, 2, 2)),
-        ("done above seen", |memory| memory.clock.done = 12),
-        ("done before the fresh node's", |memory| memory.clock = clock(11, 1, 0, 3)),
-        ("merged after done", |memory| memory.clock.merged = 3),
-        ("greatest slot merged", |memory| memory.clock.merged = u64::MAX),
-        ("merged whose beat wraps", |memory| memory.clock.merged = u64::MAX / 3),
-        ("proposal above the slot seen", |memory| memory.clock.proposed = 4),
-        ("greatest proposal", |memory| memory.clock.proposed = u64::MAX),
-    ];
-    for (name, change) in changes {
-        let mut memory = base_case();
-        change(&mut memory);
-        assert!(!taken(&four, &memory), "{name}");
-        assert!(!plain::sound(&four, &memory), "{name}");
-    }
+fn still_sound(change: impl Fn(&mut Node)) {
+    let mut node = sound();
+    change(&mut node);
+    assert!(node.write(false, &mut [0; 300]).is_ok());
 }
 
 #[test]
-fn sound_edges() {
-    let four = settings(4, 1, 2, 1);
-    let changes: Vec<Change> = vec![
-        |memory| memory.clock = clock(3_000_000_002, 3_000_000_002, 1_000_000_000, 1_000_000_000),
-        |memory| memory.clock = clock(9, 2, 0, 0),
-        |memory| memory.clock.merged = 0,
-        |memory| memory.blocks.resize(8192, 5),
-        |memory| memory.votes.resize(32768, 5),
-        |memory| memory.votes_used = 0,
-        // A waiting vote for a block in view, and another vote of that voter and slot.
-        |memory| memory.votes.copy_from_slice(&[0, 3, 5, 0, 0, 3, 6, 0, 0, 3, 0, 1, 9, 9, 9, 9]),
-        // A number of 64 ones.
-        |memory| {
-            memory.blocks[8] = u64::MAX;
-            memory.votes[6] = u64::MAX;
-        },
-    ];
-    for change in changes {
-        let mut memory = base_case();
-        change(&mut memory);
-        assert!(taken(&four, &memory));
-        assert!(plain::sound(&four, &memory));
-    }
-}
-
-/// Makes every call and checks that a refusal changes nothing and that sound memory stays sound.
-pub fn every_call(dice: &mut Dice, settings: &Settings, memory: &Memory) {
-    let sound = plain::sound(settings, memory);
-    assert_eq!(taken(settings, memory), sound);
-    let near = memory.clock.seen.wrapping_add(dice.below(5));
-    let beats = [near, memory.clock.seen, dice.next(), u64::MAX];
-    let packets = [vec![], gossip(&[], &[]), gossip(&[block(1, 0, 1)], &[ballot(0, 1, 1)])];
-    for beat in beats {
-        for kind in 0..4 {
-            let mut after = memory.clone();
-            let packet = dice.pick(&packets).clone();
-            let number = dice.next();
-            let answer = match kind {
-                0 => receive(settings, &mut after, beat, &packet).map(|_| ()),
-                1 => propose(settings, &mut after, beat, number).map(|_| ()),
-                2 => vote(settings, &mut after, beat).map(|_| ()),
-                _ => merge(settings, &mut after, beat),
-            };
-            assert_eq!(answer == Err(6), !sound);
-            match answer {
-                Ok(()) => assert!(plain::sound(settings, &after)),
-                Err(_) => assert_eq!(after, *memory),
-            }
-        }
-    }
-    for slot in [0, 1, memory.clock.seen / 3, u64::MAX] {
-        let answers =
-            [head(settings, memory, slot).err(), deep(settings, memory, slot).err(), fast(settings, memory, slot).err()];
-        let expected = match (sound, slot == 0 || slot > memory.clock.seen / 3) {
-            (false, _) => Some(6),
-            (true, true) => Some(17),
-            (true, false) => None,
-        };
-        assert_eq!(answers, [expected; 3]);
-        if expected.is_none() {
-            plain::compare(settings, memory, slot);
-        }
-    }
-    for wanted in [false, true] {
-        let mut buffer = vec![0xee; dice.below(400) as usize];
-        let before = buffer.clone();
-        match write(settings, memory, wanted, &mut buffer) {
-            Ok(length) => assert!(Packet::decode(&buffer[..length]).is_some() && buffer[length..] == before[length..]),
-            Err(refusal) => assert!(buffer == before && (refusal == 6) != sound),
-        }
-    }
-    let mut after = memory.clone();
-    match open(settings, &mut after) {
-        Ok(()) => assert!(plain::sound(settings, &after)),
-        Err(_) => assert_eq!(after, *memory),
-    }
+fn settings_and_lengths_in_range() {
+    still_sound(|_| ());
+    unsound(|n| n.settings.nodes = 0);
+    unsound(|n| n.settings.nodes = 65);
+    still_sound(|n| n.settings.nodes = 64);
+    unsound(|n| n.settings.own = 5);
+    still_sound(|n| n.settings.own = 4);
+    unsound(|n| n.settings.expiry = 0);
+    unsound(|n| n.settings.expiry = 4097);
+    still_sound(|n| n.settings.expiry = 4096);
+    unsound(|n| n.settings.depth = 0);
+    unsound(|n| n.settings.depth = 4097);
+    still_sound(|n| n.settings.depth = 4096);
+    unsound(|n| n.blocks.resize(2049, NO_BLOCK));
+    still_sound(|n| n.blocks.resize(2048, NO_BLOCK));
+    unsound(|n| n.votes.resize(8193, NO_VOTE));
+    still_sound(|n| n.votes.resize(8192, NO_VOTE));
+    unsound(|n| {
+        n.votes.clear();
+        n.votes_used = 0;
+    });
+    unsound(|n| {
+        n.blocks.clear();
+        n.blocks_used = 0;
+    });
 }
 
 #[test]
-fn random_damage() {
-    let mut dice = Dice(11);
-    let edges = [0, 1, 2, 3, 4, 5, 6, 64, 4096, 4097, u64::MAX, u64::MAX - 1, u64::MAX / 3, 1 << 32, 3_000_000_002];
-    let mut unsound = 0;
-    for _ in 0..3_000 {
-        let mut settings = settings(1 + dice.below(6), 0, 1 + dice.below(4), 1 + dice.below(4));
-        settings.own = dice.below(settings.nodes);
-        let mut memory = super::runs::random_stock(&mut dice, &settings, 7, 9);
-        for _ in 0..dice.below(3) {
-            let word = if dice.one_in(3) { dice.next() } else { *dice.pick(&edges) };
-            match dice.below(9) {
-                0 => memory.clock.seen = word,
-                1 => memory.clock.done = word,
-                2 => memory.clock.merged = word,
-                3 => memory.clock.proposed = word,
-                4 => memory.blocks_used = word as usize,
-                5 => memory.votes_used = word as usize,
-                6 => {
-                    let place = dice.below(memory.blocks.len() as u64) as usize;
-                    memory.blocks[place] = word;
-                }
-                7 => {
-                    let place = dice.below(memory.votes.len() as u64) as usize;
-                    memory.votes[place] = word;
-                }
-                _ => match dice.below(6) {
-                    0 => settings.nodes = word,
-                    1 => settings.own = word,
-                    2 => settings.expiry = word,
-                    3 => settings.depth = word,
-                    4 => memory.blocks.truncate(dice.below(40) as usize),
-                    _ => memory.votes.truncate(dice.below(40) as usize),
-                },
-            }
-            if memory.blocks.is_empty() || memory.votes.is_empty() {
-                break;
-            }
-        }
-        unsound += usize::from(!plain::sound(&settings, &memory));
-        every_call(&mut dice, &settings, &memory);
-    }
-    assert!((300..2_700).contains(&unsound), "{unsound} unsound");
+fn used_counts_fit() {
+    unsound(|n| n.blocks_used = 17);
+    unsound(|n| n.blocks_used = usize::MAX);
+    unsound(|n| n.votes_used = 17);
+    unsound(|n| n.votes_used = usize::MAX);
+    still_sound(|n| n.blocks.truncate(5));
+    still_sound(|n| n.votes.truncate(6));
+    unsound(|n| n.blocks.truncate(4));
+    unsound(|n| n.votes.truncate(5));
 }
 
 #[test]
-fn random_words() {
-    let mut dice = Dice(12);
-    for _ in 0..500 {
-        let mut words = |limit: u64| -> Vec<u64> {
-            let length = dice.below(limit);
-            (0..length).map(|_| if dice.one_in(2) { dice.below(4) } else { dice.next() }).collect()
-        };
-        let (blocks, votes, rest) = (words(40), words(40), words(2));
-        let wild = rest.first().copied().unwrap_or(u64::MAX);
-        let memory = Memory {
-            blocks,
-            votes,
-            blocks_used: dice.below(12) as usize,
-            votes_used: dice.below(12) as usize,
-            clock: clock(dice.below(30), wild, dice.below(4), dice.below(4)),
-        };
-        every_call(&mut dice, &settings(4, 1, 2, 1), &memory);
-    }
+fn block_0_stands_first() {
+    unsound(|n| {
+        n.blocks_used = 0;
+        n.votes_used = 0;
+    });
+    unsound(|n| n.blocks[0].number = 1);
+    unsound(|n| n.blocks[0].parent = 1);
+    unsound(|n| n.blocks[0].slot = 1);
+    unsound(|n| {
+        // Nothing else is in view, so that this is the only flaw.
+        n.blocks_used = 1;
+        n.votes_used = 0;
+        n.blocks[0].in_view = false;
+    });
+    unsound(|n| n.blocks.swap(0, 1));
+}
+
+#[test]
+fn blocks() {
+    // "block numbers differ"
+    unsound(|n| add_block(n, block(41, 31, 4)));
+    unsound(|n| add_block(n, block(21, 0, 3)));
+    unsound(|n| add_block(n, block(0, 0, 1)));
+    // "every other block's parent stands earlier with a lower slot"
+    unsound(|n| add_block(n, block(42, 99, 4)));
+    unsound(|n| add_block(n, block(42, 42, 4)));
+    unsound(|n| n.blocks.swap(3, 4));
+    unsound(|n| add_block(n, block(42, 21, 2)));
+    unsound(|n| add_block(n, block(42, 0, 0)));
+    still_sound(|n| add_block(n, block(42, 21, 3)));
+    // "no entry's slot is above" the slot seen
+    unsound(|n| add_block(n, block(42, 21, 5)));
+    unsound(|n| add_block(n, block(42, 21, u64::MAX)));
+    // "a block in view has its parent in view"
+    unsound(|n| n.blocks[4].in_view = true);
+    still_sound(|n| n.blocks[3].in_view = true);
+    // What stands behind the used places does not matter.
+    still_sound(|n| n.blocks[5] = block(41, 99, u64::MAX));
+}
+
+#[test]
+fn votes() {
+    // "a voter below n, a slot of 1 or more"
+    unsound(|n| add_vote(n, vote(5, 4, 11)));
+    unsound(|n| add_vote(n, vote(64, 4, 11)));
+    unsound(|n| add_vote(n, vote(u64::MAX, 4, 11)));
+    unsound(|n| add_vote(n, vote(0, 0, 0)));
+    still_sound(|n| add_vote(n, vote(0, 1, 0)));
+    // "a known block whose slot is not above the vote's"
+    unsound(|n| add_vote(n, vote(0, 4, 99)));
+    unsound(|n| add_vote(n, vote(0, 1, 21)));
+    still_sound(|n| add_vote(n, vote(0, 2, 21)));
+    // "no entry's slot is above" the slot seen
+    unsound(|n| add_vote(n, vote(0, 5, 11)));
+    unsound(|n| add_vote(n, vote(0, u64::MAX, 11)));
+    still_sound(|n| add_vote(n, vote(0, 4, 11)));
+    // "no vote stands twice", whatever the marks; a double vote is another thing
+    unsound(|n| add_vote(n, vote(1, 2, 21)));
+    unsound(|n| add_vote(n, Vote { in_view: false, ..vote(1, 2, 21) }));
+    still_sound(|n| add_vote(n, vote(1, 2, 11)));
+    // "a vote in view its block"
+    unsound(|n| n.votes[3].in_view = true);
+    still_sound(|n| n.votes[0].in_view = false);
+    // What stands behind the used places does not matter.
+    still_sound(|n| n.votes[6] = vote(99, 0, 99));
+}
+
+#[test]
+fn clock() {
+    // "the slot seen is at most the limit"
+    still_sound(|n| n.clock.seen = 3_000_000_002);
+    unsound(|n| n.clock.seen = 3_000_000_003);
+    unsound(|n| n.clock.seen = u64::MAX);
+    // "done is at most seen"
+    unsound(|n| n.clock.done = 15);
+    unsound(|n| n.clock.done = u64::MAX);
+    // "merged slot × 3 + 2 is at most done"
+    unsound(|n| n.clock.done = 13);
+    still_sound(|n| (n.clock.done, n.clock.merged) = (13, 3));
+    unsound(|n| (n.clock.done, n.clock.merged) = (1, 0));
+    still_sound(|n| (n.clock.done, n.clock.merged) = (2, 0));
+    unsound(|n| n.clock.merged = 5);
+    unsound(|n| n.clock.merged = u64::MAX);
+    // Wrapped at 64 bits this merged slot would give 2.
+    unsound(|n| n.clock.merged = 1 << 63);
+    // "the proposal slot is at most the slot seen"
+    still_sound(|n| n.clock.proposed = 4);
+    unsound(|n| n.clock.proposed = 5);
+    unsound(|n| n.clock.proposed = u64::MAX);
+    // The slot seen is below the entries' slots.
+    unsound(|n| n.clock = Clock { seen: 11, done: 11, merged: 3, proposed: 0 });
 }

@@ -1,4 +1,6 @@
 //! One node twice: the proved library and the model. Every call is made on both, and all that it leaves is compared.
+//!
+//! The model has tables of blocks and votes. How tables are lent, four words to a row, is said here: the model does not know it.
 
 use likvost::{Clock, Memory, Node, Settings};
 use likvost_model as model;
@@ -50,27 +52,45 @@ pub enum Answer {
 /// The answer, or the number of the refusal.
 pub type Reply = Result<Answer, u64>;
 
+/// Memory of zeros with so many places. It is not sound before Open.
+pub fn zeroed(block_places: usize, vote_places: usize) -> Memory {
+    Memory {
+        blocks: vec![0; 4 * block_places],
+        votes: vec![0; 4 * vote_places],
+        blocks_used: 0,
+        votes_used: 0,
+        clock: Clock::default(),
+    }
+}
+
 #[derive(Clone)]
 pub struct Both {
     proved: Node,
-    settings: model::Settings,
-    model: model::Memory,
+    model: model::Node,
+    /// A used row may have a mark that is neither 0 nor 1. No row of the model is like that, and every call but Open refuses it by 6.
+    readable: bool,
+    /// The words that the model's tables make, and in unused places what stood there.
+    lent: Memory,
 }
 
 impl Both {
     /// A node on memory that may hold anything.
-    pub fn new(settings: model::Settings, memory: model::Memory) -> Both {
-        let proved = Node::from_memory(proved_settings(settings), proved_memory(&memory));
-        Both { proved, settings, model: memory }
+    pub fn new(settings: Settings, memory: Memory) -> Both {
+        Both {
+            model: modelled(settings, &memory),
+            readable: marks(&memory.blocks, memory.blocks_used) && marks(&memory.votes, memory.votes_used),
+            lent: memory.clone(),
+            proved: Node::from_memory(settings, memory),
+        }
     }
 
-    pub fn settings(&self) -> model::Settings {
-        self.settings
+    pub fn settings(&self) -> Settings {
+        self.proved.settings()
     }
 
     /// The memory, which is the same on both sides.
-    pub fn memory(&self) -> &model::Memory {
-        &self.model
+    pub fn memory(&self) -> &Memory {
+        &self.lent
     }
 
     /// Makes the call on both. The buffer is Write's. Says what differs.
@@ -80,12 +100,12 @@ impl Both {
         let proved = self.on_proved(call, buffer);
         same("the answer", &proved, &model)?;
         same_words("the buffer", buffer, &other)?;
-        let (p, m) = (self.proved.memory(), &self.model);
+        let (p, m) = (self.proved.memory(), &self.lent);
         same_words("the block table", &p.blocks, &m.blocks)?;
         same_words("the vote table", &p.votes, &m.votes)?;
         same("the count of blocks", &p.blocks_used, &m.blocks_used)?;
         same("the count of votes", &p.votes_used, &m.votes_used)?;
-        same("the clock", &p.clock, &proved_clock(m.clock))?;
+        same("the clock", &p.clock, &m.clock)?;
         Ok(proved)
     }
 
@@ -115,24 +135,77 @@ impl Both {
     }
 
     fn on_model(&mut self, call: &Call, buffer: &mut [u8]) -> Reply {
-        let (s, m) = (&self.settings, &mut self.model);
+        let node = &mut self.model;
         let reply = match call {
-            Call::Open => model::open(s, m).map(|()| Answer::Done),
-            Call::Receive { beat, packet } => model::receive(s, m, *beat, packet).map(|r| Answer::Received {
+            Call::Open => node.open().map(|()| Answer::Done),
+            _ if !self.readable => Err(6),
+            Call::Receive { beat, packet } => node.receive(*beat, packet).map(|r| Answer::Received {
                 new_blocks: r.new_blocks,
                 new_votes: r.new_votes,
                 brought: r.brought,
             }),
-            Call::Propose { beat, number } => model::propose(s, m, *beat, *number).map(Answer::Block),
-            Call::Vote { beat } => model::vote(s, m, *beat).map(Answer::Block),
-            Call::Merge { beat } => model::merge(s, m, *beat).map(|()| Answer::Done),
-            Call::Head { slot } => model::head(s, m, *slot).map(Answer::Block),
-            Call::Deep { slot } => model::deep(s, m, *slot).map(Answer::Block),
-            Call::Fast { slot } => model::fast(s, m, *slot).map(|found| found.map_or(Answer::Nothing, Answer::Block)),
-            Call::Write { proposal } => model::write(s, m, *proposal, buffer).map(Answer::Length),
+            Call::Propose { beat, number } => node.propose(*beat, *number).map(Answer::Block),
+            Call::Vote { beat } => node.vote(*beat).map(Answer::Block),
+            Call::Merge { beat } => node.merge(*beat).map(|()| Answer::Done),
+            Call::Head { slot } => node.head(*slot).map(Answer::Block),
+            Call::Deep { slot } => node.deep(*slot).map(Answer::Block),
+            Call::Fast { slot } => node.fast(*slot).map(|found| found.map_or(Answer::Nothing, Answer::Block)),
+            Call::Write { proposal } => node.write(*proposal, buffer).map(Answer::Length),
         };
+        if reply.is_ok() {
+            if let Call::Open = call {
+                self.readable = true;
+                self.lent.blocks.fill(0);
+                self.lent.votes.fill(0);
+            }
+            self.store();
+        }
         reply.map_err(u64::from)
     }
+
+    /// The words of the model's used rows, its counts and its clock.
+    fn store(&mut self) {
+        let (node, lent) = (&self.model, &mut self.lent);
+        for (row, b) in lent.blocks.chunks_exact_mut(4).zip(&node.blocks[..node.blocks_used]) {
+            row.copy_from_slice(&[b.number, b.parent, b.slot, u64::from(b.in_view)]);
+        }
+        for (row, v) in lent.votes.chunks_exact_mut(4).zip(&node.votes[..node.votes_used]) {
+            row.copy_from_slice(&[v.voter, v.slot, v.number, u64::from(v.in_view)]);
+        }
+        lent.blocks_used = node.blocks_used;
+        lent.votes_used = node.votes_used;
+        let model::Clock { seen, done, merged, proposed } = node.clock;
+        lent.clock = Clock { seen, done, merged, proposed };
+    }
+}
+
+/// The model's node on the same memory. What an unused place holds is left out.
+pub fn modelled(settings: Settings, memory: &Memory) -> model::Node {
+    let Settings { nodes, own, expiry, depth } = settings;
+    let Clock { seen, done, merged, proposed } = memory.clock;
+    model::Node {
+        settings: model::Settings { nodes, own, expiry, depth },
+        clock: model::Clock { seen, done, merged, proposed },
+        blocks: places(&memory.blocks, memory.blocks_used)
+            .map(|[number, parent, slot, mark]| model::Block { number, parent, slot, in_view: mark == 1 })
+            .collect(),
+        blocks_used: memory.blocks_used,
+        votes: places(&memory.votes, memory.votes_used)
+            .map(|[voter, slot, number, mark]| model::Vote { voter, slot, number, in_view: mark == 1 })
+            .collect(),
+        votes_used: memory.votes_used,
+    }
+}
+
+/// The rows of a table, zero in unused places. A length that is no multiple of four is no table's, and has no places.
+fn places(words: &[u64], used: usize) -> impl Iterator<Item = [u64; 4]> + '_ {
+    let words = if words.len() % 4 == 0 { words } else { &[] };
+    words.chunks_exact(4).enumerate().map(move |(i, row)| if i < used { [row[0], row[1], row[2], row[3]] } else { [0; 4] })
+}
+
+/// Whether the marks of the used rows are 0 or 1.
+fn marks(words: &[u64], used: usize) -> bool {
+    places(words, used).all(|row| row[3] <= 1)
 }
 
 fn same<T: PartialEq + Debug>(what: &str, proved: &T, model: &T) -> Result<(), String> {
@@ -148,23 +221,5 @@ fn same_words<T: PartialEq + Debug>(what: &str, proved: &[T], model: &[T]) -> Re
     match proved.iter().zip(model).position(|(p, m)| p != m) {
         None => Ok(()),
         Some(at) => Err(format!("{what} at {at}: proved {:?}, model {:?}", proved[at], model[at])),
-    }
-}
-
-fn proved_settings(s: model::Settings) -> Settings {
-    Settings { nodes: s.nodes, own: s.own, expiry: s.expiry, depth: s.depth }
-}
-
-fn proved_clock(k: model::Clock) -> Clock {
-    Clock { seen: k.seen, done: k.done, merged: k.merged, proposed: k.proposed }
-}
-
-fn proved_memory(m: &model::Memory) -> Memory {
-    Memory {
-        blocks: m.blocks.clone(),
-        votes: m.votes.clone(),
-        blocks_used: m.blocks_used,
-        votes_used: m.votes_used,
-        clock: proved_clock(m.clock),
     }
 }

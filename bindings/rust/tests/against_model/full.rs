@@ -1,9 +1,11 @@
 //! The largest tables: filled by one packet, then every call on them.
 
-use crate::both::{Answer, Both, Call};
+use crate::both::{zeroed, Answer, Both, Call};
+use crate::packets::gossip;
 use crate::random::Random;
 use crate::world::Run;
-use likvost_model::{Memory, Packet, PacketBlock, PacketVote, Settings};
+use likvost::Settings;
+use likvost_model::{PacketBlock, PacketVote};
 
 /// So many blocks, four to a slot, each on a random one of the slot before.
 fn blocks(random: &mut Random, count: u64) -> Vec<PacketBlock> {
@@ -31,12 +33,12 @@ fn largest_tables() {
     let random = &mut Random::new(5);
     let mut run = Run::new(5);
     // 2,047 blocks reach to slot 512; 64 voters in 128 slots cast 8,192 votes.
-    let packet = Packet::gossip(blocks(random, 2047), votes(random, 64, 8192, 384)).encode();
+    let packet = gossip(blocks(random, 2047), votes(random, 64, 8192, 384)).encode();
     let beat = 3 * 520 + 1;
     // one place too few for the blocks, then for the votes, then enough
     for (block_places, vote_places, refusal) in [(2047, 8192, Some(10)), (2048, 8191, Some(10)), (2048, 8192, None)] {
         let settings = Settings { nodes: 64, own: 3, expiry: 200, depth: 40 };
-        let mut node = Both::new(settings, Memory::zeroed(block_places, vote_places));
+        let mut node = Both::new(settings, zeroed(block_places, vote_places));
         let mut make = |call: Call, buffer: &mut [u8]| run.make(&mut node, &call, buffer);
         assert_eq!(make(Call::Open, &mut []), Ok(Answer::Done));
         let received = make(Call::Receive { beat, packet: packet.clone() }, &mut []);

@@ -1,7 +1,8 @@
 //! Packets for a node: made to fit what it knows, or nearly, and damaged ones.
 
 use crate::random::Random;
-use likvost_model::{Memory, Packet, PacketBlock, PacketVote};
+use likvost::Memory;
+use likvost_model::{Packet, PacketBlock, PacketVote};
 
 /// Blocks and votes on what the node knows, most of them allowed at this beat.
 pub fn made(random: &mut Random, nodes: u64, memory: &Memory, beat: u64) -> Packet {
@@ -64,10 +65,15 @@ pub fn made(random: &mut Random, nodes: u64, memory: &Memory, beat: u64) -> Pack
             let named = if random.once_in(4) { blocks[random.below(blocks.len() as u64) as usize] } else { last };
             let number = if random.once_in(20) { random.between(0, 400) } else { named.number };
             let slot = if random.once_in(20) { named.slot.wrapping_add(1) } else { named.slot };
-            Packet::proposal(slot, number, blocks, votes)
+            Packet { kind: 1, slot, number, blocks, votes }
         }
-        _ => Packet::gossip(blocks, votes),
+        _ => gossip(blocks, votes),
     }
+}
+
+/// A gossip packet.
+pub fn gossip(blocks: Vec<PacketBlock>, votes: Vec<PacketVote>) -> Packet {
+    Packet { kind: 0, slot: 0, number: 0, blocks, votes }
 }
 
 /// Number, parent and slot of the used rows; block 0 alone where the memory has none.

@@ -1,9 +1,9 @@
 //! A few nodes of one network that make calls, exchange packets and are lent damaged memory.
 
-use crate::both::{Answer, Both, Call, Reply};
+use crate::both::{zeroed, Answer, Both, Call, Reply};
 use crate::packets;
 use crate::random::Random;
-use likvost_model::{Clock, Memory, Settings};
+use likvost::{Clock, Memory, Settings};
 
 /// The last beat of the last slot.
 const LAST_BEAT: u64 = 3 * 1_000_000_000 + 2;
@@ -62,7 +62,7 @@ impl<'a> World<'a> {
                 5 => (random.between(25, 64), random.between(65, 256)),
                 _ => (random.between(5, 24), random.between(5, 64)),
             };
-            let mut memory = Memory::zeroed(blocks as usize, votes as usize);
+            let mut memory = zeroed(blocks as usize, votes as usize);
             fill(&mut random, &mut memory);
             let mut node = Both::new(settings, memory);
             run.make(&mut node, &Call::Open, &mut []).expect("the settings are in range");

@@ -1,0 +1,97 @@
+//! A short run of three nodes whose packets go round.
+
+use super::*;
+
+/// Each awake node makes its due call, then sends; all nodes that listen receive at the same beat.
+struct Run {
+    nodes: Vec<Node>,
+}
+
+impl Run {
+    fn new() -> Run {
+        Run { nodes: (0..3).map(|own| fresh(3, own, 2, 1)).collect() }
+    }
+
+    /// Packets of the senders reach the receivers.
+    fn send(&mut self, beat: u64, proposer: Option<usize>, awake: &[usize]) {
+        let mut packets = Vec::new();
+        packets.extend(proposer.map(|sender| written(&self.nodes[sender], true)));
+        packets.extend(awake.iter().map(|&sender| written(&self.nodes[sender], false)));
+        for &receiver in awake {
+            for packet in &packets {
+                self.nodes[receiver].receive(beat, packet).unwrap();
+            }
+        }
+    }
+
+    /// A slot with the base and the heads that are expected.
+    fn slot(&mut self, slot: u64, awake: &[usize], proposal: Option<(u64, u64)>, heads: &[Result<u64, u32>]) {
+        let proposer = (slot % 3) as usize;
+        if let Some((number, base)) = proposal {
+            assert_eq!(self.nodes[proposer].propose(3 * slot, number), Ok(base), "base of slot {slot}");
+        }
+        self.send(3 * slot, proposal.map(|_| proposer), awake);
+        let votes: Vec<Result<u64, u32>> = awake.iter().map(|&node| self.nodes[node].vote(3 * slot + 1)).collect();
+        assert_eq!(votes, heads, "votes of slot {slot}");
+        self.send(3 * slot + 1, None, awake);
+        for &node in awake {
+            self.nodes[node].merge(3 * slot + 2).unwrap();
+        }
+        self.send(3 * slot + 2, None, awake);
+    }
+}
+
+#[test]
+fn three_nodes() {
+    let mut run = Run::new();
+    let all = [0, 1, 2];
+    run.slot(1, &all, Some((101, 0)), &[Ok(101); 3]);
+    for node in &run.nodes {
+        assert_eq!((node.head(1), node.deep(1), node.fast(1)), (Ok(101), Ok(0), Ok(Some(101))));
+    }
+    run.slot(2, &all, Some((102, 101)), &[Ok(102); 3]);
+    for node in &run.nodes {
+        assert_eq!((node.head(2), node.deep(2), node.fast(2)), (Ok(102), Ok(101), Ok(Some(102))));
+    }
+    // Node 0 sleeps through slot 3, which is its own: no block, and two of three are too few.
+    run.slot(3, &[1, 2], None, &[Ok(102); 2]);
+    assert_eq!((run.nodes[1].fast(3), run.nodes[2].fast(3)), (Ok(None), Ok(None)));
+    assert_eq!(run.nodes[0].head(3), Err(17));
+    // Awake in slot 4 it is not joined, takes the proposal and all gossip, and merges.
+    run.slot(4, &all, Some((104, 102)), &[Err(13), Ok(104), Ok(104)]);
+    for node in &run.nodes {
+        assert_eq!((node.head(4), node.deep(4), node.fast(4)), (Ok(104), Ok(102), Ok(None)));
+        assert_eq!(node.clock, Clock { seen: 14, done: 14, merged: 4, proposed: 4 });
+    }
+    run.slot(5, &all, Some((105, 104)), &[Ok(105); 3]);
+    run.slot(6, &all, Some((106, 105)), &[Ok(106); 3]);
+    for node in &run.nodes {
+        assert_eq!((node.head(6), node.deep(6), node.fast(6)), (Ok(106), Ok(105), Ok(Some(106))));
+        assert_eq!(blocks_in_view(node), [0, 101, 102, 104, 105, 106]);
+        // Six slots of three votes, without node 0 in slots 3 and 4.
+        assert_eq!(node.votes_used, 16);
+    }
+}
+
+#[test]
+fn two_proposals_of_one_slot() {
+    // Node 1 is dishonest in slot 1: it sends 111 to node 0 and 112 to node 2.
+    let mut run = Run::new();
+    let one = packet(1, 1, 111, &[(111, 0, 1)], &[]);
+    let other = packet(1, 1, 112, &[(112, 0, 1)], &[]);
+    assert!(run.nodes[0].receive(3, &one).unwrap().brought);
+    assert!(run.nodes[2].receive(3, &other).unwrap().brought);
+    assert!(!run.nodes[0].receive(3, &other).unwrap().brought);
+    assert!(!run.nodes[2].receive(3, &one).unwrap().brought);
+    assert_eq!(run.nodes[0].vote(4), Ok(111));
+    assert_eq!(run.nodes[2].vote(4), Ok(112));
+    let votes = gossip(&[(111, 0, 1), (112, 0, 1)], &[(0, 1, 111), (2, 1, 112), (1, 1, 111), (1, 1, 112)]);
+    for node in [0, 2] {
+        run.nodes[node].receive(4, &votes).unwrap();
+        run.nodes[node].merge(5).unwrap();
+    }
+    // Node 1 is dropped for its double vote: one against one, the smaller number.
+    assert_eq!(run.nodes[2].propose(6, 120), Ok(111));
+    assert_eq!(run.nodes[0].vote(7), Ok(111));
+    assert_eq!(run.nodes[2].vote(7), Ok(120));
+}

@@ -64,7 +64,7 @@ enum {
     LIKVOST_UNSOUND = 6,      /* the lent memory is not as a call left it */
     LIKVOST_BEAT = 7,         /* beat below the one seen, or slot above 1,000,000,000 */
     LIKVOST_FORM = 8,         /* packet's length, kind or zero fields wrong */
-    LIKVOST_ENTRY = 9,        /* an entry of the packet breaks a rule */
+    LIKVOST_BLOCK = 9,        /* a block of the packet breaks a rule: the one with this `index` */
     LIKVOST_PLACES = 10,      /* fewer free places than new entries */
     LIKVOST_PHASE = 11,       /* not the phase of this call */
     LIKVOST_DONE = 12,        /* beat already done */
@@ -74,7 +74,9 @@ enum {
     LIKVOST_VOTED = 16,       /* an own vote of this slot is known */
     LIKVOST_SLOT = 17,        /* slot 0, or above the slot seen */
     LIKVOST_BUFFER = 18,      /* buffer too short */
-    LIKVOST_PROPOSAL = 19     /* no own proposal of the beat seen */
+    LIKVOST_PROPOSAL = 19,    /* no own proposal of the beat seen */
+    LIKVOST_VOTE = 20,        /* a vote of the packet breaks a rule: the one with this `index` */
+    LIKVOST_HEADER = 21       /* a proposal's header names no block of the packet, or another slot */
 };
 
 /* A readable message for a refusal number, for logs. */
@@ -83,15 +85,17 @@ static inline const char *likvost_refusal_message(uint64_t refusal)
     static const char *const messages[] = {
         "carried out", "nodes out of range", "own index not below nodes", "expiry out of range", "depth out of range",
         "a table's length is out of range", "the lent memory is unsound", "beat below the one seen, or slot above the limit",
-        "malformed packet", "an entry of the packet breaks a rule", "not enough free places", "not the phase of this call",
+        "malformed packet", "a block of the packet breaks a rule", "not enough free places", "not the phase of this call",
         "beat already done", "not joined for this slot", "another node's slot", "block number already known",
-        "already voted in this slot", "slot 0 or above the slot seen", "buffer too short", "no own proposal of this beat"};
-    return refusal < 20 ? messages[refusal] : "unknown refusal";
+        "already voted in this slot", "slot 0 or above the slot seen", "buffer too short", "no own proposal of this beat",
+        "a vote of the packet breaks a rule", "the proposal's header does not fit its blocks"};
+    return refusal < 22 ? messages[refusal] : "unknown refusal";
 }
 
 /* The answer of a call that changes the memory. */
 typedef struct {
     uint64_t refusal;
+    uint64_t index;      /* refused by LIKVOST_BLOCK or LIKVOST_VOTE: the entry's index in its section of the packet, from 0; else 0 */
     uint64_t value;      /* likvost_propose: the base; likvost_vote: the head; else 0 */
     uint64_t new_blocks; /* likvost_receive: how many blocks were new */
     uint64_t new_votes;  /* likvost_receive: how many votes were new */
@@ -118,7 +122,7 @@ likvost_answer likvost_open(likvost_settings settings, likvost_clock clock, uint
                             size_t *blocks_used, uint64_t *votes, size_t votes_len, size_t *votes_used);
 
 /* Takes a packet: its new entries wait at the tables' ends. The first proposal of the beat's slot, in phase 0, comes into view at
- * once. Refusals: 6 7 8 9 10. */
+ * once. Refusals: 6 7 8 9 20 21 10. With 9 and 20 `index` tells which block or vote was the first to break a rule. */
 likvost_answer likvost_receive(likvost_settings settings, likvost_clock clock, uint64_t *blocks, size_t blocks_len,
                                size_t *blocks_used, uint64_t *votes, size_t votes_len, size_t *votes_used, uint64_t beat,
                                const uint8_t *packet, size_t packet_len);

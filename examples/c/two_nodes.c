@@ -20,7 +20,10 @@ typedef struct {
 static likvost_answer keep(node *n, likvost_answer a, const char *call)
 {
     if (a.refusal != LIKVOST_OK) {
-        fprintf(stderr, "node %d: %s refused: %s\n", (int)n->settings.own, call, likvost_refusal_message(a.refusal));
+        fprintf(stderr, "node %d: %s refused: %s", (int)n->settings.own, call, likvost_refusal_message(a.refusal));
+        if (a.refusal == LIKVOST_BLOCK || a.refusal == LIKVOST_VOTE)
+            fprintf(stderr, ", entry %d", (int)a.index);
+        fprintf(stderr, "\n");
         exit(1);
     }
     n->clock = a.clock;

@@ -38,7 +38,8 @@ fn answers(input: &[u8]) -> Result<(u64, u64, Option<u64>), u32> {
     node.open()?;
     // "receives and merges at beat 3 × slot + 2"
     let beat = 3 * slot + 2;
-    node.receive(beat, packet)?;
+    // Request 1: "chainask prints the number alone, as before."
+    node.receive(beat, packet).map_err(|refused| refused.number)?;
     node.merge(beat)?;
     Ok((node.head(slot)?, node.deep(slot)?, node.fast(slot)?))
 }

@@ -1,4 +1,5 @@
 //! The calls on a node. A number in `Err` is the refusal's; a refused call changes nothing.
+//! Words of request 1 are marked so.
 
 use crate::packet::{Packet, PacketBlock, PacketVote};
 use crate::tables::{phase_of, slot_of, Block, Node, Vote};
@@ -15,6 +16,27 @@ pub struct Received {
     pub new_votes: u64,
     /// The packet was a proposal and came into view.
     pub brought: bool,
+}
+
+/// Why a Receive was refused: the number, and the index of the refused entry in its section where there is one.
+#[derive(Debug, Clone, Copy, PartialEq, Eq)]
+pub struct Refused {
+    /// The refusal's number.
+    pub number: u32,
+    /// Request 1: "its index in its section, from 0"; none where no entry of a section is refused.
+    pub index: Option<u64>,
+}
+
+impl Refused {
+    /// A refusal that is not about one entry of a section.
+    fn whole(number: u32) -> Refused {
+        Refused { number, index: None }
+    }
+
+    /// Request 1: "A refused entry is now reported with its index in its section, from 0."
+    fn entry(number: u32, index: usize) -> Refused {
+        Refused { number, index: Some(index as u64) }
+    }
 }
 
 /// Err(number) where the refusal applies.
@@ -48,19 +70,20 @@ impl Node {
     }
 
     /// Receive: takes in what is new of a packet.
-    pub fn receive(&mut self, beat: u64, packet: &[u8]) -> Result<Received, u32> {
-        self.test_sound()?;
-        self.test_beat(beat)?;
+    pub fn receive(&mut self, beat: u64, packet: &[u8]) -> Result<Received, Refused> {
+        self.test_sound().map_err(Refused::whole)?;
+        self.test_beat(beat).map_err(Refused::whole)?;
         // "8 length, kind or zero fields wrong"
-        let packet = Packet::decode(packet).ok_or(8u32)?;
+        let packet = Packet::decode(packet).ok_or(Refused::whole(8))?;
+        // Request 1: "Blocks are tested in order, then votes, then the header"
         let new_blocks = self.new_blocks(beat, &packet)?;
         let new_votes = self.new_votes(beat, &packet)?;
-        // "a proposal whose block is not among the packet's blocks or has another slot than the header"
-        let names_proposed = |block: &PacketBlock| block.number == packet.number && block.slot == packet.slot;
-        refuse_if(packet.kind == 1 && !packet.blocks.iter().any(names_proposed), 9)?;
+        // Request 1: "21 when a proposal's header names no block of the packet or another slot"
+        let named = |block: &PacketBlock| block.number == packet.number && block.slot == packet.slot;
+        refuse_if(packet.kind == 1 && !packet.blocks.iter().any(named), 21).map_err(Refused::whole)?;
         // "10 fewer free places than new entries"
-        refuse_if(self.blocks.len() - self.blocks_used < new_blocks.len(), 10)?;
-        refuse_if(self.votes.len() - self.votes_used < new_votes.len(), 10)?;
+        refuse_if(self.blocks.len() - self.blocks_used < new_blocks.len(), 10).map_err(Refused::whole)?;
+        refuse_if(self.votes.len() - self.votes_used < new_votes.len(), 10).map_err(Refused::whole)?;
 
         // "puts new entries at the tables' ends in packet order, as waiting"
         for block in &new_blocks {
@@ -188,25 +211,31 @@ impl Node {
         refuse_if(slot == 0 || slot > slot_of(self.clock.seen), 17)
     }
 
-    /// The packet's blocks that are new, or refusal 9 where one breaks a rule.
-    fn new_blocks(&self, beat: u64, packet: &Packet) -> Result<Vec<Block>, u32> {
+    /// The packet's blocks that are new, or refusal 9 for the first that breaks a rule.
+    fn new_blocks(&self, beat: u64, packet: &Packet) -> Result<Vec<Block>, Refused> {
         // "stock and earlier entries count as known"
         let mut known: HashMap<u64, (u64, u64)> =
             self.stock_blocks().iter().map(|block| (block.number, (block.parent, block.slot))).collect();
         let mut new = Vec::new();
-        for entry in &packet.blocks {
+        for (index, entry) in packet.blocks.iter().enumerate() {
+            // Request 1: "9 is kept for blocks"
+            let refused = Refused::entry(9, index);
             let slot = u64::from(entry.slot);
             // "block slot 0 or above the beat's slot"
-            refuse_if(slot == 0 || slot > slot_of(beat), 9)?;
+            if slot == 0 || slot > slot_of(beat) {
+                return Err(refused);
+            }
             // "parent unknown"
-            let &(_, parent_slot) = known.get(&entry.parent).ok_or(9u32)?;
+            let &(_, parent_slot) = known.get(&entry.parent).ok_or(refused)?;
             // "slot not above the parent's"
-            refuse_if(slot <= parent_slot, 9)?;
+            if slot <= parent_slot {
+                return Err(refused);
+            }
             match known.get(&entry.number) {
                 // "An entry known already, or repeated in the packet, is not new."
                 Some(&same) if same == (entry.parent, slot) => {}
                 // "number known with another parent or slot"
-                Some(_) => return Err(9),
+                Some(_) => return Err(refused),
                 None => {
                     known.insert(entry.number, (entry.parent, slot));
                     new.push(Block { number: entry.number, parent: entry.parent, slot, in_view: false });
@@ -216,22 +245,30 @@ impl Node {
         Ok(new)
     }
 
-    /// The packet's votes that are new, or refusal 9 where one breaks a rule. Its blocks must keep theirs.
-    fn new_votes(&self, beat: u64, packet: &Packet) -> Result<Vec<Vote>, u32> {
+    /// The packet's votes that are new, or refusal 20 for the first that breaks a rule. Its blocks must keep theirs.
+    fn new_votes(&self, beat: u64, packet: &Packet) -> Result<Vec<Vote>, Refused> {
         let mut block_slots: HashMap<u64, u64> = self.stock_blocks().iter().map(|b| (b.number, b.slot)).collect();
         block_slots.extend(packet.blocks.iter().map(|b| (b.number, u64::from(b.slot))));
         let mut known: HashSet<(u64, u64, u64)> =
             self.stock_votes().iter().map(|vote| (vote.voter, vote.slot, vote.number)).collect();
         let mut new = Vec::new();
-        for entry in &packet.votes {
+        for (index, entry) in packet.votes.iter().enumerate() {
+            // Request 1: "20 when a vote breaks a vote rule"
+            let refused = Refused::entry(20, index);
             let (voter, slot, number) = wide(entry);
             // "voter not below n"
-            refuse_if(voter >= self.settings.nodes, 9)?;
+            if voter >= self.settings.nodes {
+                return Err(refused);
+            }
             // "vote slot 0 or above the beat's slot"
-            refuse_if(slot == 0 || slot > slot_of(beat), 9)?;
+            if slot == 0 || slot > slot_of(beat) {
+                return Err(refused);
+            }
             // "block unknown or of a later slot than the vote"
-            let &block_slot = block_slots.get(&number).ok_or(9u32)?;
-            refuse_if(block_slot > slot, 9)?;
+            let &block_slot = block_slots.get(&number).ok_or(refused)?;
+            if block_slot > slot {
+                return Err(refused);
+            }
             // "An entry known already, or repeated in the packet, is not new."
             if known.insert((voter, slot, number)) {
                 new.push(Vote { voter, slot, number, in_view: false });

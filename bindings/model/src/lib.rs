@@ -1,4 +1,4 @@
-//! An executable model of one node, written from document 01.
+//! An executable model of one node, written from document 01 with request 1.
 //!
 //! It says in the plainest way what each call answers and what it leaves behind. Comments in quotation marks are
 //! words of document 01. Where these leave something open, READINGS.md says what was taken.
@@ -14,6 +14,6 @@ mod tests;
 mod walks;
 
 pub use ask::chainask;
-pub use calls::Received;
+pub use calls::{Received, Refused};
 pub use packet::{Packet, PacketBlock, PacketVote};
 pub use tables::{Block, Clock, Node, Settings, Vote};

@@ -11,9 +11,18 @@ use std::time::{Duration, Instant};
 const SIZES: [(usize, usize); 3] = [(64, 256), (512, 1_024), (2_048, 8_192)];
 const NODES: [u64; 2] = [5, 64];
 
-/// A node whose tables hold so many blocks and votes. There is a block for each slot, on the one before, and each sixteenth on the one
-/// before that; every node votes in the last slots for the block of that slot. What is of the last eighth of these slots waits.
-/// The last slot was merged, and the next is the node's own.
+/// What stands in the tables.
+#[derive(Clone, Copy, PartialEq)]
+enum Kind {
+    /// There is a block for each slot, on the one before, and each sixteenth on the one before that; every node votes in the last slots
+    /// for the block of that slot. What is of the last eighth of these slots waits.
+    Honest,
+    /// The same blocks with numbers that differ in their highest bits alone, and few voters, each with a vote for every block in the
+    /// last slot: the numbers that were found to make the indices slowest.
+    Chosen,
+}
+
+/// A node whose tables hold so many blocks and votes. The last slot was merged, and the next is the node's own.
 struct Case {
     settings: Settings,
     memory: Memory,
@@ -23,22 +32,29 @@ struct Case {
 }
 
 impl Case {
-    fn new(nodes: u64, places: (usize, usize), used: (usize, usize)) -> Case {
+    fn new(kind: Kind, nodes: u64, places: (usize, usize), used: (usize, usize)) -> Case {
+        let honest = kind == Kind::Honest;
         let last_block = used.0 as u64 - 1;
-        let voted = (used.1 as u64).div_ceil(nodes);
+        let voted = if honest { (used.1 as u64).div_ceil(nodes) } else { 1 };
         let last = last_block.max(voted);
-        let shown = last - voted / 8;
+        let shown = if honest { last - voted / 8 } else { last };
         let mark = |slot: u64| u64::from(slot <= shown);
+        let number = |slot: u64| if honest { slot } else { slot << 53 };
         let mut blocks = vec![0, 0, 0, 1];
         for slot in 1..=last_block {
             let parent = if slot % 16 == 0 { slot - 2 } else { slot - 1 };
-            blocks.extend([slot, parent, slot, mark(slot)]);
+            blocks.extend([number(slot), number(parent), slot, mark(slot)]);
         }
         let mut votes = Vec::new();
         for i in 0..used.1 as u64 {
-            let slot = last - voted + 1 + i / nodes;
-            let number = slot.min(last_block);
-            votes.extend([i % nodes, slot, number, mark(slot)]);
+            let [voter, slot, block] = match kind {
+                Kind::Honest => {
+                    let slot = last - voted + 1 + i / nodes;
+                    [i % nodes, slot, slot.min(last_block)]
+                }
+                Kind::Chosen => [i / used.0 as u64, last, i % used.0 as u64],
+            };
+            votes.extend([voter, slot, number(block), mark(slot)]);
         }
         blocks.resize(4 * places.0, 0);
         votes.resize(4 * places.1, 0);
@@ -57,8 +73,15 @@ impl Case {
         }
     }
 
-    fn model(&self) -> model::Node {
-        let (s, m, k) = (self.settings, &self.memory, self.memory.clock);
+    /// The same places, opened.
+    fn fresh(&self) -> Memory {
+        let mut memory = self.memory.clone();
+        Node::open_in(self.settings, &mut memory).expect("settings and lengths are in range");
+        memory
+    }
+
+    fn model(&self, memory: &Memory) -> model::Node {
+        let (s, m, k) = (self.settings, memory, memory.clock);
         let rows = |words: &[u64]| -> Vec<[u64; 4]> { words.chunks_exact(4).map(|r| [r[0], r[1], r[2], r[3]]).collect() };
         model::Node {
             settings: model::Settings { nodes: s.nodes, own: s.own, expiry: s.expiry, depth: s.depth },
@@ -76,20 +99,38 @@ impl Case {
         }
     }
 
-    /// A packet with one new block and one new vote of the next slot.
-    fn news(&self) -> Vec<u8> {
-        let slot = self.last + 1;
-        let block = model::PacketBlock { number: 1 << 40, parent: 1, slot: slot as u32 };
-        let vote = model::PacketVote { voter: 0, slot: slot as u32, number: 1 << 40 };
-        model::Packet { kind: 0, slot: 0, number: 0, blocks: vec![block], votes: vec![vote] }.encode()
+    /// The packets that are received.
+    fn packets(&self) -> Packets {
+        let node = Node::from_memory(self.settings, self.memory.clone());
+        let gossip = node.gossip().expect("the case is sound");
+        let slot = (self.last + 1) as u32;
+        let number = 1 << 40;
+        let block = model::PacketBlock { number, parent: 0, slot };
+        let vote = model::PacketVote { voter: 0, slot, number };
+        let news = model::Packet { kind: 0, slot: 0, number: 0, blocks: vec![block], votes: vec![vote] };
+        let mut proposal = model::Packet::decode(&gossip).expect("it was written");
+        (proposal.kind, proposal.slot, proposal.number) = (1, slot, number);
+        proposal.blocks.push(block);
+        Packets { news: news.encode(), gossip, proposal: proposal.encode() }
     }
 }
 
+struct Packets {
+    /// One new block and one new vote of the next slot.
+    news: Vec<u8>,
+    /// All entries of the tables.
+    gossip: Vec<u8>,
+    /// These and a new block, the next slot's proposal.
+    proposal: Vec<u8>,
+}
+
 /// The calls that are measured, with the arguments of their row.
-const CALLS: [&str; 10] = [
+const CALLS: [&str; 12] = [
     "Open",
     "Receive, one new block and vote",
     "Receive, all entries known",
+    "Receive, all entries new",
+    "Receive, a proposal of all entries",
     "Propose",
     "Vote",
     "Merge",
@@ -128,48 +169,45 @@ fn pass(case: &Case) -> Duration {
     })
 }
 
-fn proved(case: &Case, call: usize, gossip: &[u8]) -> Duration {
-    let beat = 3 * (case.last + 1);
-    let news = case.news();
-    let mut buffer = vec![0; gossip.len()];
-    median(|| {
-        let mut node = Node::from_memory(case.settings, case.memory.clone());
-        let mut memory = case.memory.clone();
-        let n = &mut node;
-        match call {
-            0 => timed(|| Node::open_in(case.settings, &mut memory).unwrap()),
-            1 => timed(|| assert_eq!(n.receive(beat, &news).unwrap().new_votes, 1)),
-            2 => timed(|| assert_eq!(n.receive(beat, gossip).unwrap().new_votes, 0)),
-            3 => timed(|| n.propose(beat, 1 << 40).unwrap()),
-            4 => timed(|| n.vote(beat + 1).unwrap()),
-            5 => timed(|| n.merge(beat + 2).unwrap()),
-            6 => timed(|| n.head(case.shown).unwrap()),
-            7 => timed(|| n.deep(case.shown).unwrap()),
-            8 => timed(|| n.fast(case.shown).unwrap()),
-            _ => timed(|| n.write(false, &mut buffer).unwrap()),
+/// Times one call on a node, which has the same methods in the proved library and in the model.
+macro_rules! timed_call {
+    ($call:expr, $node:expr, $case:expr, $packets:expr, $buffer:expr, $open:expr) => {{
+        let beat = 3 * ($case.last + 1);
+        let n = $node;
+        match $call {
+            0 => timed($open),
+            1 => timed(|| assert_eq!(n.receive(beat, &$packets.news).unwrap().new_votes, 1)),
+            2 => timed(|| assert_eq!(n.receive(beat, &$packets.gossip).unwrap().new_votes, 0)),
+            3 => timed(|| assert_eq!(n.receive(beat, &$packets.gossip).unwrap().new_votes, $case.memory.votes_used as u64)),
+            4 => timed(|| assert!(n.receive(beat, &$packets.proposal).unwrap().brought)),
+            5 => timed(|| assert!(n.propose(beat, 1 << 40).is_ok())),
+            6 => timed(|| assert!(n.vote(beat + 1).is_ok())),
+            7 => timed(|| assert!(n.merge(beat + 2).is_ok())),
+            8 => timed(|| assert!(n.head($case.shown).is_ok())),
+            9 => timed(|| assert!(n.deep($case.shown).is_ok())),
+            10 => timed(|| assert!(n.fast($case.shown).is_ok())),
+            _ => timed(|| assert!(n.write(false, $buffer).is_ok())),
         }
+    }};
+}
+
+fn proved(case: &Case, call: usize, packets: &Packets) -> Duration {
+    let mut buffer = vec![0; packets.gossip.len()];
+    let memory = if call == 3 { case.fresh() } else { case.memory.clone() };
+    median(|| {
+        let mut node = Node::from_memory(case.settings, memory.clone());
+        let mut opened = memory.clone();
+        timed_call!(call, &mut node, case, packets, &mut buffer, || Node::open_in(case.settings, &mut opened).unwrap())
     })
 }
 
-fn modelled(case: &Case, call: usize, gossip: &[u8]) -> Duration {
-    let beat = 3 * (case.last + 1);
-    let news = case.news();
-    let mut buffer = vec![0; gossip.len()];
-    let model = case.model();
+fn modelled(case: &Case, call: usize, packets: &Packets) -> Duration {
+    let mut buffer = vec![0; packets.gossip.len()];
+    let model = if call == 3 { case.model(&case.fresh()) } else { case.model(&case.memory) };
     median(|| {
-        let n = &mut model.clone();
-        match call {
-            0 => timed(|| n.open().unwrap()),
-            1 => timed(|| assert_eq!(n.receive(beat, &news).unwrap().new_votes, 1)),
-            2 => timed(|| assert_eq!(n.receive(beat, gossip).unwrap().new_votes, 0)),
-            3 => timed(|| n.propose(beat, 1 << 40).unwrap()),
-            4 => timed(|| n.vote(beat + 1).unwrap()),
-            5 => timed(|| n.merge(beat + 2).unwrap()),
-            6 => timed(|| n.head(case.shown).unwrap()),
-            7 => timed(|| n.deep(case.shown).unwrap()),
-            8 => timed(|| n.fast(case.shown).unwrap()),
-            _ => timed(|| n.write(false, &mut buffer).unwrap()),
-        }
+        let mut node = model.clone();
+        let mut opened = model.clone();
+        timed_call!(call, &mut node, case, packets, &mut buffer, || opened.open().unwrap())
     })
 }
 
@@ -192,41 +230,40 @@ fn ratio(a: Duration, b: Duration) -> String {
     }
 }
 
+fn measure(kind: Kind, nodes: u64, (blocks, votes): (usize, usize)) {
+    // one place of each table stays free, for the calls that fill one
+    let full = Case::new(kind, nodes, (blocks, votes), (blocks - 1, votes - 1));
+    let half = Case::new(kind, nodes, (blocks, votes), (blocks / 2, votes / 2));
+    let (full_packets, half_packets) = (full.packets(), half.packets());
+    let (full_pass, half_pass) = (pass(&full), pass(&half));
+    let chosen = if kind == Kind::Chosen { ", chosen numbers" } else { "" };
+    println!("### {blocks} blocks, {votes} votes, {nodes} nodes{chosen}\n");
+    println!("One pass over the full tables takes {} µs, over half-full ones {} µs.\n", micros(full_pass), micros(half_pass));
+    println!("| Call | Proved, half | Proved, full | Grows | To the pass | Model, half | Model, full | Grows | To the pass |");
+    println!("|---|---|---|---|---|---|---|---|---|");
+    for (call, name) in CALLS.iter().enumerate() {
+        let (ph, pf) = (proved(&half, call, &half_packets), proved(&full, call, &full_packets));
+        let (mh, mf) = (modelled(&half, call, &half_packets), modelled(&full, call, &full_packets));
+        println!(
+            "| {name} | {} | {} | {} | {} | {} | {} | {} | {} |",
+            micros(ph),
+            micros(pf),
+            ratio(pf, ph),
+            ratio(pf, full_pass),
+            micros(mh),
+            micros(mf),
+            ratio(mf, mh),
+            ratio(mf, full_pass)
+        );
+    }
+    println!();
+}
+
 fn main() {
     for nodes in NODES {
-        for (blocks, votes) in SIZES {
-            // one place of each table stays free, for the calls that fill one
-            let full = Case::new(nodes, (blocks, votes), (blocks - 1, votes - 1));
-            let half = Case::new(nodes, (blocks, votes), (blocks / 2, votes / 2));
-            let gossip = |case: &Case| Node::from_memory(case.settings, case.memory.clone()).gossip().expect("the case is sound");
-            let (full_gossip, half_gossip) = (gossip(&full), gossip(&half));
-            let (full_pass, half_pass) = (pass(&full), pass(&half));
-            println!("### {blocks} blocks, {votes} votes, {nodes} nodes\n");
-            println!(
-                "One pass over the full tables takes {} µs, over half-full ones {} µs.\n",
-                micros(full_pass),
-                micros(half_pass)
-            );
-            println!(
-                "| Call | Proved, half | Proved, full | Grows | To the pass | Model, half | Model, full | Grows | To the pass |"
-            );
-            println!("|---|---|---|---|---|---|---|---|---|");
-            for (call, name) in CALLS.iter().enumerate() {
-                let (ph, pf) = (proved(&half, call, &half_gossip), proved(&full, call, &full_gossip));
-                let (mh, mf) = (modelled(&half, call, &half_gossip), modelled(&full, call, &full_gossip));
-                println!(
-                    "| {name} | {} | {} | {} | {} | {} | {} | {} | {} |",
-                    micros(ph),
-                    micros(pf),
-                    ratio(pf, ph),
-                    ratio(pf, full_pass),
-                    micros(mh),
-                    micros(mf),
-                    ratio(mf, mh),
-                    ratio(mf, full_pass)
-                );
-            }
-            println!();
+        for size in SIZES {
+            measure(Kind::Honest, nodes, size);
         }
+        measure(Kind::Chosen, nodes, SIZES[2]);
     }
 }

@@ -5,6 +5,7 @@ use crate::{Clock, Settings};
 #[repr(C)]
 pub struct Answer {
     pub refusal: u64,
+    pub index: u64,
     pub value: u64,
     pub new_blocks: u64,
     pub new_votes: u64,

@@ -184,13 +184,14 @@ impl Node {
     /// Keeps the clock, and tells a refusal from an answer.
     fn answered(memory: &mut Memory, a: ffi::Answer) -> Result<ffi::Answer, Refusal> {
         memory.clock = a.clock;
-        match Refusal::from_number(a.refusal) {
+        match Refusal::from_answer(a.refusal, a.index) {
             None => Ok(a),
             Some(refusal) => Err(refusal),
         }
     }
 
     /// Takes a packet. Its new entries wait; the first proposal of the beat's slot, in phase 0, comes into view at once.
+    /// A packet with a block or vote that breaks a rule is refused whole; [`Refusal::Block`] and [`Refusal::Vote`] tell the first such entry.
     pub fn receive(&mut self, beat: u64, packet: &[u8]) -> Result<Received, Refusal> {
         let m = &mut self.memory;
         let (b, bl, bu, v, vl, vu) = lend!(m);
@@ -249,7 +250,7 @@ impl Node {
         let found = unsafe {
             question(self.settings, m.clock, b.as_ptr(), b.len(), m.blocks_used, v.as_ptr(), v.len(), m.votes_used, slot)
         };
-        match Refusal::from_number(found.refusal) {
+        match Refusal::from_answer(found.refusal, 0) {
             None => Ok(found),
             Some(refusal) => Err(refusal),
         }
@@ -274,7 +275,7 @@ impl Node {
                 buffer.len(),
             )
         };
-        Refusal::from_number(w.refusal).map_or(Ok(w.length as usize), Err)
+        Refusal::from_answer(w.refusal, 0).map_or(Ok(w.length as usize), Err)
     }
 
     /// The node's gossip: its whole store as a packet.

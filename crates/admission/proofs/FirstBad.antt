@@ -1,36 +1,17 @@
--- The index of the first entry that is not allowed: all are allowed if and only if it is the number of entries.
--- Assumes nothing.
+-- The index of the first entry that is not allowed, by the turns of a loop over the entries. Assumes nothing.
 use Prim.Native.Nat.{ℕ, suc, _+_, _≤_, _<_}
-use mathlib.Core.Bool.{Bool, true, false, _&&_, cond}
-use mathlib.Core.List.{List, [], _∷_}
-use mathlib.Core.Path.{_≡_, refl, sym, _∙_}
+use mathlib.Core.Bool.{true, false, cond}
+use mathlib.Core.List.{List}
+use mathlib.Core.Path.{_≡_, refl}
 use native.Mathlib.Omega.{arith}
-use lib.Dec.{eqb, eqb·suc-suc, eqb·zero-suc}
 use lib.ListN.{length, getD, take, drop, drop-of-length-le}
 use Rattle.protocol.specs.declared.Block.{Block}
-use Rattle.protocol.specs.Lists.{all}
+use Rattle.protocol.specs.declared.Vote.{Vote}
 use Rattle.protocol.specs.Chain.{genesis}
-use Rattle.protocol.specs.Calls.Receive.{addBlock, addBlocks, blockAllowed, blocksAllowed}
-use Rattle.admission.specs.FirstBad.{firstBadBlock, firstFailing}
+use Rattle.protocol.specs.Calls.Receive.{addBlocks, blockAllowed, voteAllowed, firstBadBlock, firstBadVote}
+use Rattle.packets.specs.Header.{noVote}
 use Rattle.admission.proofs.Entries.{rest-entry, front-entry}
 use Rattle.admission.proofs.Known.{addBlocks-end}
-
--- ---- all are allowed
-
-one-more : (t u : Bool) (k n : ℕ) → u ≡ eqb k n → (t && u) ≡ eqb (cond t (suc k) 0) (suc n)
-one-more true u k n e = e ∙ sym (eqb·suc-suc k n)
-one-more false u k n e = sym (eqb·zero-suc n)
-
-pub blocks-allowed : (slot : ℕ) (before bs : List Block) → blocksAllowed slot before bs ≡ eqb (firstBadBlock slot before bs) (length bs)
-unfolding blocksAllowed firstBadBlock
-blocks-allowed slot before [] = refl
-blocks-allowed slot before (b ∷ bs) =
-    one-more (blockAllowed slot before b) _ (firstBadBlock slot (addBlock before b) bs) (length bs) (blocks-allowed slot (addBlock before b) bs)
-
-pub all-passing : {A : Type 0} (p : A → Bool) (xs : List A) → all p xs ≡ eqb (firstFailing p xs) (length xs)
-unfolding all firstFailing
-all-passing p [] = refl
-all-passing p (a ∷ rest) = one-more (p a) _ (firstFailing p rest) (length rest) (all-passing p rest)
 
 -- ---- one turn of a loop over the entries, i of them seen
 
@@ -58,16 +39,16 @@ module _ (slot : ℕ) (before bs : List Block) (i : ℕ) where
   unfolding firstBadBlock
   block-end h = rw (drop-of-length-le bs h) (omega arith)
 
-module _ {A : Type 0} (p : A → Bool) (xs : List A) (d : A) (i : ℕ) where
-  pub entry-good : {a : A} → i < length xs → a ≡ getD xs i d → p a ≡ true
-      → i + firstFailing p (drop i xs) ≡ i + 1 + firstFailing p (drop (i + 1) xs)
-  unfolding firstFailing
-  entry-good h r e = rw (rest-entry xs d i h r, e) (omega arith)
+module _ (n slot : ℕ) (bs : List Block) (vs : List Vote) (i : ℕ) where
+  pub vote-good : {a : Vote} → i < length vs → a ≡ getD vs i noVote → voteAllowed n slot bs a ≡ true
+      → i + firstBadVote n slot bs (drop i vs) ≡ i + 1 + firstBadVote n slot bs (drop (i + 1) vs)
+  unfolding firstBadVote
+  vote-good h r e = rw (rest-entry vs noVote i h r, e) (omega arith)
 
-  pub entry-bad : {a : A} → i < length xs → a ≡ getD xs i d → p a ≡ false → i + firstFailing p (drop i xs) ≡ i
-  unfolding firstFailing
-  entry-bad h r e = rw (rest-entry xs d i h r, e) (omega arith)
+  pub vote-bad : {a : Vote} → i < length vs → a ≡ getD vs i noVote → voteAllowed n slot bs a ≡ false → i + firstBadVote n slot bs (drop i vs) ≡ i
+  unfolding firstBadVote
+  vote-bad h r e = rw (rest-entry vs noVote i h r, e) (omega arith)
 
-  pub entry-end : length xs ≤ i → i + firstFailing p (drop i xs) ≡ i
-  unfolding firstFailing
-  entry-end h = rw (drop-of-length-le xs h) (omega arith)
+  pub vote-end : length vs ≤ i → i + firstBadVote n slot bs (drop i vs) ≡ i
+  unfolding firstBadVote
+  vote-end h = rw (drop-of-length-le vs h) (omega arith)

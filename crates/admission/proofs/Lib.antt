@@ -3,4 +3,3 @@ pub mod Entries
 pub mod Known
 pub mod FirstBad
 pub mod Header
-pub mod Rules

@@ -1,4 +1,4 @@
-// Whether a packet is accepted at a node. Nothing may be changed before that is known, so the earlier blocks of a packet are
+// Whether a packet's entries keep the rules, and which is the first that does not. Nothing may be changed before that is known, so the earlier blocks of a packet are
 // looked up in the packet itself. An entry is looked up in the table and then in the packet: all entries together cost
 // the packet's entries times the blocks of the table and of the packet. No function keeps an array.
 use protocol::Block;
@@ -13,9 +13,8 @@ ghost use Rattle.protocol.specs.Chain.{find, foundWith, genesis};
 ghost use Rattle.protocol.specs.Store.{entries, sameBlock};
 ghost use Rattle.protocol.specs.Packet.{packetOf};
 ghost use Rattle.protocol.specs.Lent.{rowsOf, makeBlock};
-ghost use Rattle.protocol.specs.Calls.Receive.{addBlocks, knownAs, blockAllowed, voteAllowed, headerAllowed, packetAllowed};
-ghost use Rattle.admission.specs.Lookup.{foundOf, onlyBlocks};
-ghost use Rattle.admission.specs.FirstBad.{firstBadBlock, firstFailing};
+ghost use Rattle.protocol.specs.Calls.Receive.{addBlocks, knownAs, blockAllowed, voteAllowed, headerAllowed, firstBadBlock, firstBadVote};
+ghost use Rattle.admission.specs.Lookup.{foundOf};
 
 // ---- looking a block up
 
@@ -162,7 +161,7 @@ pub fn vote_allowed(
 // The index of the first vote that is not allowed, or the number of votes. All blocks of the packet are known.
 pub fn first_bad_vote(nodes: u64, slot: u64, blocks: &[u64], used: usize, bytes: &[u8]) -> usize
     requires { ⌜ 4 * used ≤ length (now blocks) ⌝ }
-    ensures { λ r. ⌜ r ≡ firstFailing (voteAllowed nodes slot (addBlocks (entries (rowsOf makeBlock (now (blocks .entry)) used)) (packetOf (now (bytes .entry)) .blocks))) (packetOf (now (bytes .entry)) .votes) ⌝ }
+    ensures { λ r. ⌜ r ≡ firstBadVote nodes slot (addBlocks (entries (rowsOf makeBlock (now (blocks .entry)) used)) (packetOf (now (bytes .entry)) .blocks)) (packetOf (now (bytes .entry)) .votes) ⌝ }
 {
     let h = packets::header_of(bytes);
     let known = h.blocks as usize;
@@ -178,7 +177,7 @@ pub fn first_bad_vote(nodes: u64, slot: u64, blocks: &[u64], used: usize, bytes:
     i
 }
 
-// ---- the packet
+// ---- the header
 
 // The block with this number, of this slot.
 fn has_slot(b: Block, number: u64, slot: u64) -> bool
@@ -208,21 +207,4 @@ pub fn header_allowed(bytes: &[u8]) -> bool
         i += 1;
     }
     false
-}
-
-// The rules of a packet at a beat of this slot: its blocks, its votes, its header.
-pub fn packet_allowed(nodes: u64, slot: u64, blocks: &[u64], used: usize, bytes: &[u8]) -> bool
-    requires { ⌜ 4 * used ≤ length (now blocks) ⌝ }
-    ensures { λ r. ⌜ r ≡ packetAllowed nodes slot (onlyBlocks (rowsOf makeBlock (now (blocks .entry)) used)) (packetOf (now (bytes .entry))) ⌝ }
-{
-    let h = packets::header_of(bytes);
-    let block = first_bad_block(slot, blocks, used, bytes);
-    if block != h.blocks as usize {
-        return false;
-    }
-    let vote = first_bad_vote(nodes, slot, blocks, used, bytes);
-    if vote != h.votes as usize {
-        return false;
-    }
-    header_allowed(bytes)
 }

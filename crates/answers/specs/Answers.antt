@@ -1,9 +1,9 @@
--- What each answer of code means: document 01's number of a refusal, or the values of a call that was carried out. Assumes nothing.
+-- What each answer of code means: document 01's refusal, or the values of a call that was carried out. Assumes nothing.
 use Prim.Native.Nat.{ℕ}
 use Rattle.protocol.specs.Filters.{Choice, chosen, nothing}
 use Rattle.protocol.specs.Refusal as rules
 use Rattle.protocol.specs.Calls.Receive as receiving
-use Rattle.verdicts.specs.Verdict.{numberOf}
+use Rattle.verdicts.specs.Verdict.{refusalOf}
 use Rattle.answers.specs.declared.Taken.{Taken}
 use Rattle.answers.specs.declared.Reply.{Reply}
 use Rattle.answers.specs.declared.Reply.the-variants as reply
@@ -30,20 +30,20 @@ abbrev pub replyOf : Reply → rules.Reply Value
 replyOf reply.Done = rules.done nothingMore
 replyOf (reply.Received t) = rules.done (received (receivedOf t))
 replyOf (reply.Block b) = rules.done (block b)
-replyOf (reply.Refused e) = rules.refused (numberOf e)
+replyOf (reply.Refused e) = rules.refused (refusalOf e)
 
 -- ---- Head, Deep and Fast
 
 abbrev pub answerOf : Answer → rules.Reply Choice
 answerOf (answer.Block b) = rules.done (chosen b)
 answerOf answer.Nothing = rules.done nothing
-answerOf (answer.Refused e) = rules.refused (numberOf e)
+answerOf (answer.Refused e) = rules.refused (refusalOf e)
 
 -- ---- Write
 
 abbrev pub writtenOf : Written → rules.Reply ℕ
 writtenOf (written.Length n) = rules.done n
-writtenOf (written.Refused e) = rules.refused (numberOf e)
+writtenOf (written.Refused e) = rules.refused (refusalOf e)
 
 -- ---- a reply, with its value seen as another
 

@@ -3,14 +3,14 @@ use Prim.Native.Nat.{ℕ}
 use mathlib.Core.Path.{_≡_, refl, ap, sym}
 use native.Mathlib.Omega.{arith}
 use Rattle.protocol.specs.Filters.{Choice, chosen, nothing}
-use Rattle.protocol.specs.Refusal.{Reply, refused, done}
+use Rattle.protocol.specs.Refusal.{Refusal, Reply, refused, done}
 use Rattle.answers.specs.Answers.{mapReply}
 use Rattle.asking.specs.Ask.{Findings, gather}
 
 -- ---- an answer that is a block's, seen as a choice
 
 module _ (r : Reply ℕ) where
-  pub was-refused : (k : ℕ) → refused k ≡ mapReply chosen r → r ≡ refused k
+  pub was-refused : (k : Refusal) → refused k ≡ mapReply chosen r → r ≡ refused k
   unfolding mapReply
   was-refused k = go r
     where
@@ -37,11 +37,11 @@ module _ (r : Reply ℕ) where
 -- ---- the first refusal, or all three
 
 module _ (h d : Reply ℕ) (f : Reply Choice) where
-  pub head-refuses : {k : ℕ} → h ≡ refused k → refused k ≡ gather h d f
+  pub head-refuses : {k : Refusal} → h ≡ refused k → refused k ≡ gather h d f
   unfolding gather
   head-refuses e = rw e refl
 
-  pub deep-refuses : {b k : ℕ} → h ≡ done b → d ≡ refused k → refused k ≡ gather h d f
+  pub deep-refuses : {b : ℕ} {k : Refusal} → h ≡ done b → d ≡ refused k → refused k ≡ gather h d f
   unfolding gather
   deep-refuses a e = rw (a, e) refl
 

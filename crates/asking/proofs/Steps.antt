@@ -19,7 +19,7 @@ use Rattle.protocol.proofs.Lent.Calls.{Lawful, CalledLent, call-lent}
 use Rattle.verdicts.specs.declared.Refusal.{Refusal}
 use Rattle.verdicts.specs.declared.Verdict.{Verdict}
 use Rattle.verdicts.specs.declared.Verdict.the-variants.{Pass, Refuse}
-use Rattle.verdicts.specs.Verdict.{numberOf, verdictOf}
+use Rattle.verdicts.specs.Verdict.{refusalOf, verdictOf}
 use Rattle.answers.specs.declared.Reply.{Reply}
 use Rattle.answers.specs.Answers.{Value, replyOf, mapReply}
 use Rattle.answers.specs.Promises.{Leaves, Opens}
@@ -34,7 +34,7 @@ module _ {A B : Type 0} where
   verdict-mapped f (rules.refused k) = refl
   verdict-mapped f (rules.done a) = refl
 
-  unless-refuse : (r : rules.Reply A) (q : rules.Reply B) (k : ℕ) → verdictIn r ≡ rules.refuse k → unlessRefused r q ≡ rules.refused k
+  unless-refuse : (r : rules.Reply A) (q : rules.Reply B) (k : rules.Refusal) → verdictIn r ≡ rules.refuse k → unlessRefused r q ≡ rules.refused k
   unfolding verdictIn unlessRefused
   unless-refuse (rules.refused j) q k e = let z : j ≡ k = cc in ap rules.refused z
   unless-refuse (rules.done a) q k e = let z : _≡_ {A = ℕ} 0 1 = cc in absurd (omega arith)
@@ -68,7 +68,7 @@ module _ {A : Type 0} {value : A → Value} (s : Settings) (call : Places → No
   verdict-is k e = sym (ap verdictIn (called .reply)) ∙ found value _ a (P .reply) k e
 
   module _ {B : Type 0} (next : Places → Node → rules.Reply B) {v : Verdict} where
-    pub step-refused : {e : Refusal} → verdictOf v ≡ verdictIn (replyOf a) → v ≡ Refuse e → rules.refused (numberOf e) ≡ andThen call next (placesOf m) (nodeOf m)
+    pub step-refused : {e : Refusal} → verdictOf v ≡ verdictIn (replyOf a) → v ≡ Refuse e → rules.refused (refusalOf e) ≡ andThen call next (placesOf m) (nodeOf m)
     unfolding andThen
     step-refused k e = sym (unless-refuse _ _ _ (verdict-is k e))
 
@@ -96,7 +96,7 @@ module _ (s : Settings) (m : Lent) {y : Lent} {a : Reply} (P : Opens s m y a) wh
     node-verdict k e = sym (ap verdictIn (open-lent-reply s m ∙ ap (λ z. openNode s z (nodeOf m) .reply) F ∙ ap (λ z. openNode s p z .reply) X)) ∙ open-verdict k e
 
     module _ {B : Type 0} (next : Places → Node → rules.Reply B) {v : Verdict} where
-      pub open-refuses : {e : Refusal} → verdictOf v ≡ verdictIn (replyOf a) → v ≡ Refuse e → rules.refused (numberOf e) ≡ andThen (openNode s) next p x
+      pub open-refuses : {e : Refusal} → verdictOf v ≡ verdictIn (replyOf a) → v ≡ Refuse e → rules.refused (refusalOf e) ≡ andThen (openNode s) next p x
       unfolding andThen
       open-refuses k e = sym (unless-refuse _ _ _ (node-verdict k e))
 

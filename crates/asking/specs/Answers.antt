@@ -4,7 +4,7 @@ use mathlib.Core.Path.{_≡_}
 use Rattle.protocol.specs.Filters.{Choice, chosen}
 use Rattle.protocol.specs.Refusal as rules
 use Rattle.confirm.specs.Top.{choiceIn}
-use Rattle.verdicts.specs.Verdict.{numberOf}
+use Rattle.verdicts.specs.Verdict.{refusalOf}
 use Rattle.answers.specs.Answers.{mapReply}
 use Rattle.asking.specs.declared.Answers.{Answers}
 use Rattle.asking.specs.declared.Answers.the-variants.{Found, Refused}
@@ -12,7 +12,7 @@ use Rattle.asking.specs.Ask.{Findings, gather}
 
 abbrev pub answersOf : Answers → rules.Reply Findings
 answersOf (Found h d f) = rules.done (record { head = h; deep = d; fast = choiceIn f })
-answersOf (Refused e) = rules.refused (numberOf e)
+answersOf (Refused e) = rules.refused (refusalOf e)
 
 unfoldable pub verdictIn : {A : Type 0} → rules.Reply A → rules.Verdict
 verdictIn (rules.refused k) = rules.refuse k

@@ -8,7 +8,7 @@ use Rattle.protocol.specs.declared.Settings.{Settings}
 use Rattle.protocol.specs.Filters.{Choice}
 use Rattle.protocol.specs.Store.{Places, Node}
 use Rattle.protocol.specs.Packet.{field}
-use Rattle.protocol.specs.Refusal.{Reply, refused, done, Outcome}
+use Rattle.protocol.specs.Refusal.{by, Reply, refused, done, Outcome}
 use Rattle.protocol.specs.Calls.Open.{openNode}
 use Rattle.protocol.specs.Calls.Receive.{receive}
 use Rattle.protocol.specs.Calls.Merge.{merge}
@@ -66,4 +66,4 @@ settingsIn bs = record { nodes = field bs 0 1; own = 0; expiry = field bs 1 2; d
 
 unfoldable pub askWith : List ℕ → Reply Findings
 askWith bs =
-    cond (ltb (length bs) 9 || ltb 32768 (length bs)) (refused 8) (openAndAsk (settingsIn bs) (field bs 5 4) (drop 9 bs))
+    cond (ltb (length bs) 9 || ltb 32768 (length bs)) (refused (by 8)) (openAndAsk (settingsIn bs) (field bs 5 4) (drop 9 bs))

@@ -12,7 +12,9 @@ use Rattle.verdicts.specs.declared.Refusal.the-variants.{
   Unsound,
   Beat,
   Form,
-  Entry,
+  Block,
+  Vote,
+  Header,
   Places,
   Phase,
   Done,
@@ -35,7 +37,9 @@ refusal-not-zero Length = refl
 refusal-not-zero Unsound = refl
 refusal-not-zero Beat = refl
 refusal-not-zero Form = refl
-refusal-not-zero Entry = refl
+refusal-not-zero (Block i) = refl
+refusal-not-zero (Vote i) = refl
+refusal-not-zero Header = refl
 refusal-not-zero Places = refl
 refusal-not-zero Phase = refl
 refusal-not-zero Done = refl

@@ -1,11 +1,12 @@
 -- The exported structs: which settings and clock they hold, and which struct stands for which answer of the node.
--- `refusal` is 0 if the call was carried out, else document 01's number; a field that the answer does not have is 0. Assumes nothing.
+-- `refusal` is 0 if the call was carried out, else document 01's number; `index` is the refused entry's; a field that the answer does not have is 0.
+-- Assumes nothing.
 use Prim.Native.Nat.{ℕ}
 use mathlib.Core.Path.{_≡_}
 use mathlib.Core.Bool.{cond}
 use Rattle.protocol.specs.declared.Settings as protocolSettings
 use Rattle.protocol.specs.declared.Clock as protocolClock
-use Rattle.verdicts.specs.Verdict.{numberOf}
+use Rattle.verdicts.specs.Verdict.{numberOf, indexOf}
 use Rattle.answers.specs.declared.Reply.{Reply}
 use Rattle.answers.specs.declared.Reply.the-variants as reply
 use Rattle.answers.specs.declared.Answer as answers
@@ -34,10 +35,11 @@ clockOut k = record { seen = k .seen; done = k .done; merged = k .merged; propos
 -- the clock is the one after the call
 abbrev pub answerOf : Clock → Reply → Answer
 answerOf k reply.Done =
-    record { refusal = 0; value = 0; «new_blocks» = 0; «new_votes» = 0; brought = 0; clock = k }
+    record { refusal = 0; index = 0; value = 0; «new_blocks» = 0; «new_votes» = 0; brought = 0; clock = k }
 answerOf k (reply.Received t) =
     record {
       refusal = 0;
+      index = 0;
       value = 0;
       «new_blocks» = t .«new_blocks»;
       «new_votes» = t .«new_votes»;
@@ -45,9 +47,9 @@ answerOf k (reply.Received t) =
       clock = k;
     }
 answerOf k (reply.Block b) =
-    record { refusal = 0; value = b; «new_blocks» = 0; «new_votes» = 0; brought = 0; clock = k }
+    record { refusal = 0; index = 0; value = b; «new_blocks» = 0; «new_votes» = 0; brought = 0; clock = k }
 answerOf k (reply.Refused e) =
-    record { refusal = numberOf e; value = 0; «new_blocks» = 0; «new_votes» = 0; brought = 0; clock = k }
+    record { refusal = numberOf e; index = indexOf e; value = 0; «new_blocks» = 0; «new_votes» = 0; brought = 0; clock = k }
 
 abbrev pub foundOf : answers.Answer → Found
 foundOf (answer.Block b) = record { refusal = 0; found = 1; value = b }

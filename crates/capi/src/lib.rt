@@ -25,10 +25,11 @@ pub struct Clock {
     pub proposed: u64,
 }
 
-// The answer of a call that changes the memory, with the clock after the call.
+// The answer of a call that changes the memory, with the clock after the call. The index is that of the entry which Receive refused.
 #[repr(C)]
 pub struct Answer {
     pub refusal: u64,
+    pub index: u64,
     pub value: u64,
     pub new_blocks: u64,
     pub new_votes: u64,
@@ -92,6 +93,7 @@ fn answer_of(reply: Reply, clock: Clock) -> Answer
     match reply {
         Reply::Done => Answer {
             refusal: 0,
+            index: 0,
             value: 0,
             new_blocks: 0,
             new_votes: 0,
@@ -100,6 +102,7 @@ fn answer_of(reply: Reply, clock: Clock) -> Answer
         },
         Reply::Received(taken) => Answer {
             refusal: 0,
+            index: 0,
             value: 0,
             new_blocks: taken.new_blocks,
             new_votes: taken.new_votes,
@@ -108,6 +111,7 @@ fn answer_of(reply: Reply, clock: Clock) -> Answer
         },
         Reply::Block(number) => Answer {
             refusal: 0,
+            index: 0,
             value: number,
             new_blocks: 0,
             new_votes: 0,
@@ -116,6 +120,7 @@ fn answer_of(reply: Reply, clock: Clock) -> Answer
         },
         Reply::Refused(refusal) => Answer {
             refusal: verdicts::number(refusal),
+            index: verdicts::index(refusal) as u64,
             value: 0,
             new_blocks: 0,
             new_votes: 0,

@@ -1,14 +1,15 @@
--- Every call has an answer and a memory that meet its promise: each refusal number of its tests is that of a refusal of the code. Assumes nothing.
+-- Every call has an answer and a memory that meet its promise: each refusal of its tests is one of the code's. Assumes nothing.
 use Prim.Native.Nat.{ℕ}
 use mathlib.Core.Path.{_≡_, refl, sym, ap}
-use mathlib.Core.Bool.{Bool, true, false, cond}
+use mathlib.Core.Logic.{_⊎_, inl, inr}
+use mathlib.Core.Bool.{Bool, true, false, false≢true, _||_, cond}
 use mathlib.Core.List.{List, [], _∷_, List·Memᴰ·head, Memᴰ·append-right}
 use lib.Dec.{eqb}
 use borrow.Author.Tests.{eqb-true}
 use Rattle.protocol.specs.declared.Settings.{Settings}
 use Rattle.protocol.specs.Lists.{any, all}
 use Rattle.protocol.specs.Store.{Places, Node}
-use Rattle.protocol.specs.Refusal.{Test, test, refused, done, Outcome}
+use Rattle.protocol.specs.Refusal.{by, byEntry, Test, refused, done, Outcome}
 use Rattle.protocol.specs.Refusal as rules
 use Rattle.protocol.specs.Calls.Receive.{receiveTests}
 use Rattle.protocol.specs.Calls.Propose.{proposeTests}
@@ -17,10 +18,11 @@ use Rattle.protocol.specs.Calls.Merge.{mergeTests}
 use Rattle.protocol.specs.Calls.Write.{write, writeTests}
 use Rattle.protocol.specs.Lent.{Lent, placesOf, nodeOf, lentSound, leave, onLent, callLent, writeLent}
 use Rattle.protocol.proofs.Basics.Members.{any-true, all-true}
+use Rattle.protocol.proofs.Basics.Tests.{either}
 use Rattle.protocol.proofs.Calls.Refusal.{FirstThat, Decided, carried, declined, receive-decided, propose-decided, vote-decided, merge-decided, write-decided}
 use Rattle.verdicts.specs.declared.Refusal.{Refusal}
 use Rattle.verdicts.specs.declared.Refusal.the-variants as refusal
-use Rattle.verdicts.specs.Verdict.{numberOf}
+use Rattle.verdicts.specs.Verdict.{refusalOf}
 use Rattle.answers.specs.Answers.{Value, nothingMore, received, block, replyOf, writtenOf, mapReply}
 use Rattle.answers.specs.declared.Reply.{Reply}
 use Rattle.answers.specs.declared.Reply.the-variants as reply
@@ -30,21 +32,36 @@ use Rattle.answers.specs.Promises.{Leaves, Receives, Proposes, Votes, Merges, W
 
 -- ---- refusals
 
--- the refusals of the calls after Open
+-- those of the calls after Open that are not of an entry
 abbrev refusals : List Refusal
 refusals =
-    refusal.Unsound ∷ refusal.Beat ∷ refusal.Form ∷ refusal.Entry ∷ refusal.Places ∷ refusal.Phase ∷ refusal.Done ∷ refusal.Joined
+    refusal.Unsound ∷ refusal.Beat ∷ refusal.Form ∷ refusal.Header ∷ refusal.Places ∷ refusal.Phase ∷ refusal.Done ∷ refusal.Joined
     ∷ refusal.Proposer ∷ refusal.Number ∷ refusal.Voted ∷ refusal.Buffer ∷ refusal.Proposal ∷ []
 
-abbrev isNumber : ℕ → Bool
-isNumber k = any (λ e. eqb (numberOf e) k) refusals
+abbrev isBy : ℕ → rules.Refusal → Bool
+isBy k (by j) = eqb j k
+isBy k (byEntry j i) = false
 
-refusal-of : (k : ℕ) → isNumber k ≡ true → (e : Refusal) × (numberOf e ≡ k)
-refusal-of k h = let f = any-true (λ e. eqb (numberOf e) k) refusals h in (f .0, eqb-true (numberOf (f .0)) k (f .2))
+is-by : (k : ℕ) (r : rules.Refusal) → isBy k r ≡ true → r ≡ by k
+is-by k (by j) h = ap by (eqb-true j k h)
+is-by k (byEntry j i) h = absurd (false≢true h)
 
-first-number : (ts : List Test) (k : ℕ) → all (λ t. isNumber (t .refusal)) ts ≡ true → FirstThat ts k → isNumber k ≡ true
-first-number ts k h F =
-    all-true (λ t. isNumber (t .refusal)) h (test k true) (rw (F .is) (Memᴰ·append-right (F .before) (List·Memᴰ·head refl)))
+-- the code has this refusal
+abbrev isRefusal : rules.Refusal → Bool
+isRefusal (by k) = any (λ e. isBy k (refusalOf e)) refusals
+isRefusal (byEntry k i) = eqb k 9 || eqb k 20
+
+refusal-of : (k : rules.Refusal) → isRefusal k ≡ true → (e : Refusal) × (refusalOf e ≡ k)
+refusal-of (by k) h = let f = any-true (λ e. isBy k (refusalOf e)) refusals h in (f .0, is-by k (refusalOf (f .0)) (f .2))
+refusal-of (byEntry k i) h = go (either (eqb k 9) (eqb k 20) h)
+  where
+    go : (eqb k 9 ≡ true) ⊎ (eqb k 20 ≡ true) → (e : Refusal) × (refusalOf e ≡ byEntry k i)
+    go (inl e) = (refusal.Block i, ap (λ (j : ℕ). byEntry j i) (sym (eqb-true k 9 e)))
+    go (inr e) = (refusal.Vote i, ap (λ (j : ℕ). byEntry j i) (sym (eqb-true k 20 e)))
+
+first-refusal : (ts : List Test) (k : rules.Refusal) → all (λ t. isRefusal (t .refusal)) ts ≡ true → FirstThat ts k → isRefusal k ≡ true
+first-refusal ts k h F =
+    all-true (λ t. isRefusal (t .refusal)) h (record { refusal = k; applies = true }) (rw (F .is) (Memᴰ·append-right (F .before) (List·Memᴰ·head refl)))
 
 -- ---- calls that change the memory
 
@@ -63,7 +80,7 @@ module _ {A : Type 0} (value : A → Value) where
   abbrev HasAnswer : rules.Reply A → Type 0
   HasAnswer o = (r : Reply) × (replyOf r ≡ mapReply value o)
 
-  refused-answer : (k : ℕ) → isNumber k ≡ true → HasAnswer (refused k)
+  refused-answer : (k : rules.Refusal) → isRefusal k ≡ true → HasAnswer (refused k)
   unfolding mapReply
   refused-answer k h = let f = refusal-of k h in (reply.Refused (f .0), ap refused (f .1))
 
@@ -71,9 +88,9 @@ module _ {A : Type 0} (value : A → Value) where
   unfolding mapReply
   done-answer a = (answerWith (value a), answer-with (value a))
 
-  decided-answer : (ts : List Test) (a : A) (o : rules.Reply A) → all (λ t. isNumber (t .refusal)) ts ≡ true → Decided ts a o → HasAnswer o
+  decided-answer : (ts : List Test) (a : A) (o : rules.Reply A) → all (λ t. isRefusal (t .refusal)) ts ≡ true → Decided ts a o → HasAnswer o
   decided-answer ts a o h (carried f e) = rw e (done-answer a)
-  decided-answer ts a o h (declined k F e) = rw e (refused-answer k (first-number ts k h F))
+  decided-answer ts a o h (declined k F e) = rw e (refused-answer k (first-refusal ts k h F))
 
   module _ (s : Settings) (call : Places → Node → Outcome A) (m : Lent) (f : HasAnswer (call (placesOf m) (nodeOf m) .reply)) where
     left-answer : (o : rules.Reply A) (x : Node) → HasAnswer o → HasAnswer (leave o x m .reply)
@@ -84,7 +101,7 @@ module _ {A : Type 0} (value : A → Value) where
     on-answer : (b : Bool) → HasAnswer (onLent b call m .reply)
     unfolding onLent any
     on-answer true = left-answer (call (placesOf m) (nodeOf m) .reply) (call (placesOf m) (nodeOf m) .node) f
-    on-answer false = refused-answer 6 refl
+    on-answer false = refused-answer (by 6) refl
 
     met : (y : Lent) × (r : Reply) × Leaves value (callLent s call m) y r
     unfolding callLent
@@ -112,17 +129,17 @@ module _ (s : Settings) (m : Lent) where
   abbrev HasLength : rules.Reply ℕ → Type 0
   HasLength o = (r : Written) × (writtenOf r ≡ o)
 
-  refused-length : (k : ℕ) → isNumber k ≡ true → HasLength (refused k)
+  refused-length : (k : rules.Refusal) → isRefusal k ≡ true → HasLength (refused k)
   refused-length k h = let f = refusal-of k h in (written.Refused (f .0), ap refused (f .1))
 
-  decided-length : (ts : List Test) (n : ℕ) (o : rules.Reply ℕ) → all (λ t. isNumber (t .refusal)) ts ≡ true → Decided ts n o → HasLength o
+  decided-length : (ts : List Test) (n : ℕ) (o : rules.Reply ℕ) → all (λ t. isRefusal (t .refusal)) ts ≡ true → Decided ts n o → HasLength o
   decided-length ts n o h (carried f e) = (written.Length n, sym e)
-  decided-length ts n o h (declined k F e) = rw e (refused-length k (first-number ts k h F))
+  decided-length ts n o h (declined k F e) = rw e (refused-length k (first-refusal ts k h F))
 
   pub write-met : (proposal : Bool) (old : List ℕ) → (new : List ℕ) × (r : Written) × Writes s m proposal old new r
   unfolding writeLent writeTests any all
   write-met proposal old = let g = go (lentSound s m) in (_, g .0, record { buffer = refl; length = g .1 })
     where
-      go : (b : Bool) → HasLength (cond b (write s (placesOf m) (nodeOf m) proposal old) (record { reply = refused 6; buffer = old }) .reply)
+      go : (b : Bool) → HasLength (cond b (write s (placesOf m) (nodeOf m) proposal old) (record { reply = refused (by 6); buffer = old }) .reply)
       go true = decided-length _ _ _ refl (write-decided s (placesOf m) (nodeOf m) proposal old)
-      go false = refused-length 6 refl
+      go false = refused-length (by 6) refl

@@ -27,9 +27,8 @@ use Rattle.protocol.proofs.Basics.Tests.{and-left, and-right}
 use Rattle.protocol.proofs.Calls.Passed as passed
 use Rattle.protocol.proofs.Calls.Passed.{opens}
 use Rattle.protocol.proofs.Lent.Rows.{places-fit, block-codec, vote-codec, stored-same, length-rowsOf}
-use Rattle.admission.specs.Lookup.{onlyBlocks}
 use Rattle.storing.specs.Grown.{Holds}
-use Rattle.receiving.specs.Accepted.{Accepted, onlyVotes, onlyClock}
+use Rattle.receiving.specs.Accepted.{Accepted, onlyBlocks, onlyVotes, onlyClock}
 use Rattle.receiving.proofs.Node.{receives-accepted}
 use Rattle.verdicts.specs.declared.Refusal.{Refusal}
 use Rattle.verdicts.specs.declared.Verdict.{Verdict}
@@ -38,6 +37,8 @@ use Rattle.verdicts.specs.Verdict.{verdictOf}
 use Rattle.verdicts.specs.Lent.{lent, lentVerdict}
 use Rattle.verdicts.proofs.Passed.{passes}
 use Rattle.verdicts.proofs.Lent.{open-refused, open-done}
+use Rattle.verdicts.proofs.Room as places
+use Rattle.verdicts.proofs.Room.{receive-room-blocks, receive-room-votes}
 use Rattle.verdicts.proofs.Calls.{receive-refused, receive-done, propose-refused, propose-done, vote-refused, vote-done, merge-refused, merge-done}
 use Rattle.answers.specs.declared.Call.{Call}
 use Rattle.answers.specs.declared.Call.the-variants as call
@@ -48,7 +49,7 @@ use Rattle.answers.specs.Answers.{received, block}
 use Rattle.answers.specs.Promises.{Opens, Receives, Proposes, Votes, Merges, Carries}
 use Rattle.answers.proofs.Verdict.{said, passed-ready}
 use Rattle.answers.proofs.Leaves.{left-refused, left-done}
-use Rattle.node.proofs.Tables.{store-is, room, length-more, length-received, length-shown, append-shown, length-append-shown}
+use Rattle.node.proofs.Tables.{store-is, length-more, length-received, length-shown, append-shown, length-append-shown}
 
 -- ---- Open
 
@@ -108,12 +109,10 @@ module _ (s : Settings) (m : Lent) (beat : ℕ) (bytes : List ℕ) {v : Verdict}
   receive-accepts e = receives-accepted s (placesOf m) (nodeOf m) beat bytes (tests-passed e)
 
   pub receive-block-room : v ≡ Pass → 4 * length (addBlocks (entries (rowsOf makeBlock (m .blocks) (m .blocksUsed))) (packetOf bytes .blocks)) ≤ length (m .blocks)
-  unfolding nodeOf placesOf blocksAfter
-  receive-block-room e = places-fit (m .blocks) _ (tests-passed e .room-blocks)
+  receive-block-room e = receive-room-blocks s m beat bytes (said Pass h e)
 
   pub receive-vote-room : v ≡ Pass → 4 * length (addVotes (entries (rowsOf makeVote (m .votes) (m .votesUsed))) (packetOf bytes .votes)) ≤ length (m .votes)
-  unfolding nodeOf placesOf votesAfter
-  receive-vote-room e = places-fit (m .votes) _ (tests-passed e .room-votes)
+  receive-vote-room e = receive-room-votes s m beat bytes (said Pass h e)
 
   pub receive-stores : {brought : Bool} {bw vw : List ℕ} {bu vu : ℕ} {k : Clock} → v ≡ Pass
       → brought ≡ brings (onlyClock (m .clock)) beat (packetOf bytes)
@@ -144,8 +143,7 @@ module _ (s : Settings) (m : Lent) (beat number : ℕ) {v : Verdict} (h : verdic
   propose-leaves e f = left-refused (propose-refused s m beat number _ (said (Refuse _) h e)) f
 
   pub propose-room : v ≡ Pass → 4 * (m .blocksUsed + 1) ≤ length (m .blocks)
-  unfolding placesOf nodeOf
-  propose-room e = room makeBlock (m .blocks) (m .blocksUsed) (passed.proposes s (placesOf m) (nodeOf m) beat number (passes s _ m (said Pass h e) .1) .room)
+  propose-room e = places.propose-room s m beat number (said Pass h e)
 
   pub propose-stores : {base bu : ℕ} {shown bw vw : List ℕ} → v ≡ Pass
       → base ≡ walk.base (entries (rowsOf makeBlock (m .blocks) (m .blocksUsed))) (entries (rowsOf makeVote (m .votes) (m .votesUsed))) (s .nodes) (s .expiry) (beat / 3)
@@ -169,8 +167,7 @@ module _ (s : Settings) (m : Lent) (beat : ℕ) {v : Verdict} (h : verdictOf v �
   vote-leaves e f = left-refused (vote-refused s m beat _ (said (Refuse _) h e)) f
 
   pub vote-room : v ≡ Pass → 4 * (m .votesUsed + 1) ≤ length (m .votes)
-  unfolding placesOf nodeOf
-  vote-room e = room makeVote (m .votes) (m .votesUsed) (passed.votes s (placesOf m) (nodeOf m) beat (passes s _ m (said Pass h e) .1) .room)
+  vote-room e = places.vote-room s m beat (said Pass h e)
 
   pub vote-stores : {head vu : ℕ} {vw : List ℕ} → v ≡ Pass
       → head ≡ walk.head (inView (rowsOf makeBlock (m .blocks) (m .blocksUsed))) (inView (rowsOf makeVote (m .votes) (m .votesUsed))) (s .nodes) (s .expiry) (beat / 3)

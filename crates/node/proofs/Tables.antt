@@ -1,14 +1,14 @@
 -- Tables after the changes of a call. Assumes nothing.
-use Prim.Native.Nat.{ℕ, suc, _+_, _-_, _*_, _<_, _≤_}
+use Prim.Native.Nat.{ℕ, suc, _+_, _-_}
 use mathlib.Core.Bool.{Bool, true}
 use mathlib.Core.List.{List, [], _∷_, _++_}
 use mathlib.Core.Path.{_≡_, refl, ap, sym, _∙_}
 use native.Mathlib.Omega.{arith}
 use lib.ListN.{length, drop, length-append, length-drop}
 use Rattle.protocol.specs.Store.{Marked, allWaiting, show, showAll, Node}
-use Rattle.protocol.specs.Lent.{Lent, Make, rowsOf, stored, blockRow, voteRow, placesIn, marksSound, storeNode}
+use Rattle.protocol.specs.Lent.{Lent, Make, rowsOf, stored, blockRow, voteRow, marksSound, storeNode}
 use Rattle.protocol.proofs.Store.Views.{length-show}
-use Rattle.protocol.proofs.Lent.Rows.{places-fit, Codec, rows-stored, marks-stored, length-rowsOf}
+use Rattle.protocol.proofs.Lent.Rows.{Codec, rows-stored, marks-stored, length-rowsOf}
 use Rattle.rows.proofs.Stored.{stored-longer}
 use Rattle.verdicts.specs.Lent.{lent}
 
@@ -20,10 +20,6 @@ unfolding storeNode
 store-is x m b v bu vu = λ i. record { blocks = b i; votes = v i; blocksUsed = bu i; votesUsed = vu i; clock = x .clock }
 
 -- ---- one row more
-
--- a free place has its four words
-pub room : {A : Type 0} (make : Make A) (ws : List ℕ) (n : ℕ) → length (rowsOf make ws n) < placesIn ws → 4 * (n + 1) ≤ length ws
-room make ws n h = let l = length-rowsOf make ws n in places-fit ws (n + 1) (omega arith)
 
 pub length-more : {A : Type 0} (make : Make A) (ws : List ℕ) (n : ℕ) (a : A) → n + 1 ≡ length (rowsOf make ws n ++ (a ∷ []))
 length-more make ws n a = omega (arith, length-append (rowsOf make ws n) (a ∷ []), length-rowsOf make ws n)

@@ -13,8 +13,8 @@ use Rattle.protocol.specs.Confirm.{deepGo, deepStep, deepIn, deepFrom, d
 use Rattle.protocol.specs.Store.{waiting, visible, allWaiting, entries, inView, show, sameBlock, sameVote, fresh}
 use Rattle.protocol.specs.Sound.{between, settingsSound, placesSound, clockSound, restSound, blocksSound, votesSound, sound}
 use Rattle.protocol.specs.Packet.{bytesOf, numberOf, field, flat, section, entriesAt, headBytes, blockBytes, voteBytes, packetAs, blockAt, voteAt, packetAt, packetBytes, packetOf, headerFormed, wellFormed}
-use Rattle.protocol.specs.Refusal.{first, Outcome, unless}
-use Rattle.protocol.specs.Calls.Receive.{addBlock, addBlocks, addVote, addVotes, blocksAfter, votesAfter, knownAs, blockAllowed, blocksAllowed, voteAllowed, headerAllowed, packetAllowed, brings, stoodOn, receiveTests, Received, receivedOf, receiveInto, receive}
+use Rattle.protocol.specs.Refusal.{by, byEntry, first, Reply, refused, Outcome, unless}
+use Rattle.protocol.specs.Calls.Receive.{addBlock, addBlocks, addVote, addVotes, blocksAfter, votesAfter, knownAs, blockAllowed, voteAllowed, headerAllowed, firstBadBlock, firstBadVote, brings, stoodOn, receiveTests, Received, receivedOf, receiveInto, receive}
 
 abbrev pub block : ℕ → ℕ → ℕ → Block
 block x p s = record { number = x; parent = p; slot = s }
@@ -102,7 +102,7 @@ pub record Told : Type 0 where
   pub ties-by-number : head arrived votes 5 2 4 ≡ 31
 
 pub told : Told
-unfolding any find slotIn upGo upStep aboveIn above conflict equivocates counted window later latest choiceOf kept count supports weight isChild beats better bestChild walkStep walkIn walk weightAt head base deepGo deepStep deepIn deepFrom deep voteIn validVote quorum heightGo heightStep heightIn height higher highest numberIn fast foundWith receive receiveTests receivedOf receiveInto packetAllowed blocksAllowed blockAllowed knownAs headerAllowed voteAllowed blocksAfter votesAfter addBlocks addBlock addVotes addVote brings stoodOn first unless sound settingsSound placesSound clockSound blocksSound restSound votesSound between all sameBlock sameVote entries inView show allWaiting packetBytes packetAs headBytes blockBytes voteBytes section flat bytesOf packetOf packetAt entriesAt blockAt voteAt field numberOf wellFormed headerFormed
+unfolding any find slotIn upGo upStep aboveIn above conflict equivocates counted window later latest choiceOf kept count supports weight isChild beats better bestChild walkStep walkIn walk weightAt head base deepGo deepStep deepIn deepFrom deep voteIn validVote quorum heightGo heightStep heightIn height higher highest numberIn fast foundWith receive receiveTests receivedOf receiveInto firstBadBlock firstBadVote blockAllowed knownAs headerAllowed voteAllowed blocksAfter votesAfter addBlocks addBlock addVotes addVote brings stoodOn first unless sound settingsSound placesSound clockSound blocksSound restSound votesSound between all sameBlock sameVote entries inView show allWaiting packetBytes packetAs headBytes blockBytes voteBytes section flat bytesOf packetOf packetAt entriesAt blockAt voteAt field numberOf wellFormed headerFormed
 told =
     record {
       double-votes-last = refl;
@@ -112,6 +112,27 @@ told =
       gossip-votes-wait = refl;
       ties-by-number = refl;
     }
+
+-- ---- request 1: which entry was bad
+
+-- what a fresh node of five without a free block place and with one free vote place answers to a packet at beat 3
+abbrev pub answered : ℕ → ℕ → ℕ → List Block → List Vote → Reply Received
+answered kind slot number bs vs =
+    receive (record { nodes = 5; own = 0; expiry = 2; depth = 3 }) (record { blocks = 1; votes = 1 }) fresh 3
+    (packetBytes (record { kind = kind; slot = slot; number = number; blocks = bs; votes = vs })) .reply
+
+-- Block 12's parent is unknown, as is 13's; voter 5 is not there. The first bad block counts, before any vote; the first bad vote before
+-- the header; each of these before want of places.
+pub record Named : Type 0 where
+  pub first-block : answered 1 1 99 (block 11 0 1 ∷ block 12 7 1 ∷ block 13 7 1 ∷ []) (vote 5 1 0 ∷ []) ≡ refused (byEntry 9 1)
+  pub first-vote : answered 1 1 99 (block 11 0 1 ∷ []) (vote 1 1 0 ∷ vote 2 1 11 ∷ vote 5 1 0 ∷ vote 6 1 0 ∷ []) ≡ refused (byEntry 20 2)
+  pub wrong-header : answered 1 1 99 (block 11 0 1 ∷ []) (vote 1 1 0 ∷ []) ≡ refused (by 21)
+  pub other-slot : answered 1 2 11 (block 11 0 1 ∷ []) [] ≡ refused (by 21)
+  pub no-place : answered 1 1 11 (block 11 0 1 ∷ []) [] ≡ refused (by 10)
+
+pub named : Named
+unfolding any find foundWith receive receiveTests receivedOf receiveInto firstBadBlock firstBadVote blockAllowed knownAs headerAllowed voteAllowed blocksAfter votesAfter addBlocks addBlock addVotes addVote brings stoodOn first unless sound settingsSound placesSound clockSound blocksSound restSound votesSound between all sameBlock sameVote entries inView show allWaiting packetBytes packetAs headBytes blockBytes voteBytes section flat bytesOf packetOf packetAt entriesAt blockAt voteAt field numberOf wellFormed headerFormed
+named = record { first-block = refl; first-vote = refl; wrong-header = refl; other-slot = refl; no-place = refl }
 
 -- ---- the same at the last slots that there are
 

@@ -3,5 +3,6 @@ pub mod Views
 pub mod Follow
 pub mod Tables
 pub mod New
+pub mod FirstBad
 pub mod Growth
 pub mod Sound

@@ -12,7 +12,7 @@ use Rattle.protocol.specs.declared.Vote.{Vote}
 use Rattle.protocol.specs.Lists.{all}
 use Rattle.protocol.specs.Store.{Marked, Places, Node, freshClock, fresh}
 use Rattle.protocol.specs.Sound.{sound}
-use Rattle.protocol.specs.Refusal.{Verdict, pass, refuse, first, Reply, refused, done, Outcome}
+use Rattle.protocol.specs.Refusal.{by, Verdict, pass, refuse, first, Reply, refused, done, Outcome}
 use Rattle.protocol.specs.Calls.Open.{openTests}
 use Rattle.protocol.specs.Calls.Write.{Written}
 
@@ -128,7 +128,7 @@ module _ {A : Type 0} where
 
   unfoldable pub onLent : Bool → (Places → Node → Outcome A) → Lent → LentOutcome A
   onLent true call m = leave (call (placesOf m) (nodeOf m) .reply) (call (placesOf m) (nodeOf m) .node) m
-  onLent false call m = record { reply = refused 6; lent = m }
+  onLent false call m = record { reply = refused (by 6); lent = m }
 
   -- Receive, Propose, Vote and Merge: refused by 6 if the memory is unsound, else the call on the node that it holds
   unfoldable pub callLent : Settings → (Places → Node → Outcome A) → Lent → LentOutcome A
@@ -136,8 +136,8 @@ module _ {A : Type 0} where
 
   -- Head, Deep and Fast
   unfoldable pub askLent : Settings → (Places → Node → Reply A) → Lent → Reply A
-  askLent s ask m = cond (lentSound s m) (ask (placesOf m) (nodeOf m)) (refused 6)
+  askLent s ask m = cond (lentSound s m) (ask (placesOf m) (nodeOf m)) (refused (by 6))
 
 -- Write, with the buffer as it was
 unfoldable pub writeLent : Settings → (Places → Node → Written) → Lent → List ℕ → Written
-writeLent s call m buffer = cond (lentSound s m) (call (placesOf m) (nodeOf m)) (record { reply = refused 6; buffer = buffer })
+writeLent s call m buffer = cond (lentSound s m) (call (placesOf m) (nodeOf m)) (record { reply = refused (by 6); buffer = buffer })

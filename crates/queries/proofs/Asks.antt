@@ -1,7 +1,6 @@
 -- Head, Deep and Fast, from the verdict that code found and the block that it found. Assumes nothing.
 use Prim.Native.Nat.{ℕ, _+_, _/_, _^_, _<_}
 use mathlib.Core.Path.{_≡_, ap, sym, _∙_}
-use mathlib.Core.Bool.{not, _||_}
 use native.Mathlib.Omega.{arith}
 use lib.Dec.{eqb, ltb}
 use borrow.Author.Tests.{ltb-false}
@@ -10,11 +9,10 @@ use Rattle.protocol.specs.Filters.{Choice, chosen}
 use Rattle.protocol.specs.Walk as walk
 use Rattle.protocol.specs.Confirm as confirm
 use Rattle.protocol.specs.Store.{inView}
-use Rattle.protocol.specs.Sound.{sound}
 use Rattle.protocol.specs.Refusal.{done}
 use Rattle.protocol.specs.Calls.Vote.{headOf}
 use Rattle.protocol.specs.Calls.Query.{queryTests, deepOf, fastOf, fastQuery}
-use Rattle.protocol.specs.Lent.{Lent, rowsOf, makeBlock, makeVote, placesOf, nodeOf, askLent}
+use Rattle.protocol.specs.Lent.{Lent, rowsOf, makeBlock, makeVote, nodeOf, askLent}
 use Rattle.protocol.proofs.Basics.Tests.{neither}
 use Rattle.protocol.proofs.Calls.Refusal.{passed}
 use Rattle.verdicts.specs.declared.Refusal.{Refusal}
@@ -34,8 +32,8 @@ module _ (s : Settings) (slot : ℕ) (m : Lent) {v : Verdict} (h : verdictOf v �
   pub slot-bound : v ≡ Pass → slot + 1 < 2 ^ 64
   unfolding queryTests nodeOf
   slot-bound e =
-      let a = passed 6 (not (sound s (placesOf m) (nodeOf m))) _ (passes s _ m (said Pass h e) .1) in
-      let b = passed 17 (eqb slot 0 || ltb (m .clock .seen / 3) slot) _ (a .1) in
+      let a = passed _ _ (passes s _ m (said Pass h e) .1) in
+      let b = passed _ _ (a .1) in
       let seen = ltb-false (m .clock .seen / 3) slot (neither (eqb slot 0) (ltb (m .clock .seen / 3) slot) (b .0) .1) in
       omega (arith, seen, pass-ready s _ m (said Pass h e) .clock)
 

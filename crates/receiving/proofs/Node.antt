@@ -3,7 +3,7 @@
 use Prim.Native.Nat.{ℕ, _+_, _/_}
 use mathlib.Core.Bool.{Bool}
 use mathlib.Core.List.{List}
-use mathlib.Core.Path.{_≡_, refl, sym, _∙_}
+use mathlib.Core.Path.{_≡_, refl}
 use native.Mathlib.Omega.{arith}
 use lib.ListN.{length}
 use Rattle.protocol.specs.declared.Settings.{Settings}
@@ -12,11 +12,10 @@ use Rattle.protocol.specs.Packet.{Packet, packetOf}
 use Rattle.protocol.specs.Calls.Receive.{addBlocks, addVotes, blocksAfter, votesAfter, brings, receivedOf, receiveInto}
 use Rattle.protocol.proofs.Calls.Passed.{Receives}
 use Rattle.protocol.proofs.Store.Tables.{table-holds}
-use Rattle.admission.specs.Lookup.{onlyBlocks}
-use Rattle.admission.proofs.Rules.{allowed-only}
-use Rattle.receiving.specs.Accepted.{Accepted, onlyVotes, onlyClock}
+use Rattle.receiving.specs.Accepted.{Accepted, onlyBlocks, onlyVotes, onlyClock}
 
 pub receives-accepted : (s : Settings) (pl : Places) (x : Node) (beat : ℕ) (bytes : List ℕ) → Receives s pl x beat bytes → Accepted (x .blocks) (packetOf bytes)
+unfolding blocksAfter
 receives-accepted s pl x beat bytes R =
     let G = R .base .good in
     record {
@@ -25,7 +24,8 @@ receives-accepted s pl x beat bytes R =
       order = omega (arith, R .base .after);
       sound = table-holds (x .clock .seen / 3) (x .blocks) (G .blocks) (G .closed-blocks);
       nodes = s .nodes;
-      allowed = sym (allowed-only (s .nodes) (beat / 3) x (packetOf bytes)) ∙ R .allowed;
+      blocks = R .allowed .blocks;
+      votes = R .allowed .votes;
     }
 
 module _ (brought : Bool) (beat : ℕ) (x : Node) (p : Packet) where

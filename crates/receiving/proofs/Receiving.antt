@@ -7,26 +7,25 @@ use native.Mathlib.Omega.{arith}
 use lib.ListN.{length, drop}
 use Rattle.protocol.specs.declared.Block.{Block}
 use Rattle.protocol.specs.declared.Vote.{Vote}
-use Rattle.protocol.specs.Lists.{any, all}
+use Rattle.protocol.specs.Lists.{any}
 use Rattle.protocol.specs.Chain.{known}
 use Rattle.protocol.specs.Store.{Marked, entries, inView, allWaiting, show, sameVote}
 use Rattle.protocol.specs.Packet.{Packet}
 use Rattle.protocol.specs.Lent.{Make, rowsOf, stored, makeBlock, blockRow, marksSound}
-use Rattle.protocol.specs.Calls.Receive.{addBlocks, addVotes, blocksAfter, votesAfter, blocksAllowed, voteAllowed, headerAllowed, packetAllowed, stoodOn, receiveInto}
-use Rattle.protocol.proofs.Basics.Tests.{and-left, and-right}
+use Rattle.protocol.specs.Calls.Receive.{addBlocks, addVotes, blocksAfter, votesAfter, stoodOn, receiveInto}
+use Rattle.protocol.proofs.Store.FirstBad.{votes-allowed}
 use Rattle.protocol.proofs.Store.Growth.{Added, added-blocks, table-grow}
 use Rattle.protocol.proofs.Store.New.{newBlocksOf, knowsBlock, adding-blocks}
 use Rattle.protocol.proofs.Store.Sound.{vote-true}
 use Rattle.protocol.proofs.Store.Follow.{found-known}
 use Rattle.protocol.proofs.Store.Tables.{Table, Closed, table-true, table-holds, table-sound}
-use Rattle.protocol.proofs.Basics.Members.{all-true, all-holds}
+use Rattle.protocol.proofs.Basics.Members.{all-holds}
 use Rattle.protocol.proofs.Store.Views.{entries-waiting, length-show, show-none, grown-none}
 use Rattle.protocol.proofs.Lent.Rows.{Codec, block-codec, rows-stored, marks-stored}
 use Rattle.rows.proofs.Stored.{stored-longer}
-use Rattle.admission.specs.Lookup.{onlyBlocks}
 use Rattle.storing.specs.Grown.{grown, Holds}
 use Rattle.storing.proofs.Adding.{grown-new, entries-grown}
-use Rattle.receiving.specs.Accepted.{Carried, Accepted, onlyVotes}
+use Rattle.receiving.specs.Accepted.{Carried, Accepted, onlyBlocks, onlyVotes}
 
 -- ---- an accepted packet is carried by the table that it was added to
 
@@ -40,18 +39,8 @@ module _ (ms : List (Marked Block)) (p : Packet) (K : Accepted ms p) where
   old : Table (K .slot) ms × Closed (inView ms)
   old = table-true (K .slot) ms (K .sound)
 
-  blocks-ok : blocksAllowed later (entries ms) (p .blocks) ≡ true
-  unfolding packetAllowed
-  blocks-ok = and-left (blocksAllowed later (entries ms) (p .blocks)) _ (K .allowed)
-
-  votes-ok : all (voteAllowed (K .nodes) later (addBlocks (entries ms) (p .blocks))) (p .votes) ≡ true
-  unfolding packetAllowed blocksAfter
-  votes-ok =
-      and-left (all (voteAllowed (K .nodes) later (addBlocks (entries ms) (p .blocks))) (p .votes)) (headerAllowed p)
-      (and-right (blocksAllowed later (entries ms) (p .blocks)) _ (K .allowed))
-
   A : Added later (entries ms) (p .blocks)
-  A = added-blocks later (entries ms) (p .blocks) (table-sound (old .0)) blocks-ok
+  A = added-blocks later (entries ms) (p .blocks) (table-sound (old .0)) (K .blocks)
 
   abbrev extra : List Block
   extra = newBlocksOf (entries ms) (p .blocks)
@@ -78,7 +67,7 @@ module _ (ms : List (Marked Block)) (p : Packet) (K : Accepted ms p) where
     blocks = rw entries-new (all-holds (λ c. known (addBlocks (entries ms) (p .blocks)) (c .number)) (p .blocks)
         (λ c m. found-known (addBlocks (entries ms) (p .blocks)) (c .number) (c, A .has c m, refl)));
     votes = rw entries-new (all-holds (λ a. known (addBlocks (entries ms) (p .blocks)) (a .number)) (p .votes)
-        (λ a m. let o = vote-true (K .nodes) later (addBlocks (entries ms) (p .blocks)) a (all-true (voteAllowed (K .nodes) later (addBlocks (entries ms) (p .blocks))) votes-ok a m) .on in
+        (λ a m. let o = vote-true (K .nodes) later (addBlocks (entries ms) (p .blocks)) a (votes-allowed (K .nodes) later (addBlocks (entries ms) (p .blocks)) (p .votes) (K .votes) a m) .on in
         found-known (addBlocks (entries ms) (p .blocks)) (a .number) (o .0, o .1, o .2)));
   }
 

@@ -3,6 +3,7 @@ use Prim.Native.Nat.{ℕ, _≤_}
 use mathlib.Core.Bool.{true}
 use mathlib.Core.List.{List, []}
 use mathlib.Core.Path.{_≡_}
+use lib.ListN.{length}
 use Rattle.protocol.specs.declared.Clock.{Clock}
 use Rattle.protocol.specs.declared.Block.{Block}
 use Rattle.protocol.specs.declared.Vote.{Vote}
@@ -11,8 +12,7 @@ use Rattle.protocol.specs.Lists.{all}
 use Rattle.protocol.specs.Store.{Marked, Node, entries, freshClock}
 use Rattle.protocol.specs.Sound.{blocksSound}
 use Rattle.protocol.specs.Packet.{Packet}
-use Rattle.protocol.specs.Calls.Receive.{packetAllowed}
-use Rattle.admission.specs.Lookup.{onlyBlocks}
+use Rattle.protocol.specs.Calls.Receive.{addBlocks, firstBadBlock, firstBadVote}
 
 -- the blocks are sound, and those of the packet and of its votes are among them
 pub record Carried (ms : List (Marked Block)) (p : Packet) : Type 0 where
@@ -21,14 +21,19 @@ pub record Carried (ms : List (Marked Block)) (p : Packet) : Type 0 where
   pub blocks : all (λ c. known (entries ms) (c .number)) (p .blocks) ≡ true
   pub votes : all (λ a. known (entries ms) (a .number)) (p .votes) ≡ true
 
--- the blocks are sound at a slot, and the packet is allowed at a beat of this or a later slot
+-- the blocks are sound at a slot, and no block or vote of the packet breaks a rule at a beat of this or a later slot
 pub record Accepted (ms : List (Marked Block)) (p : Packet) : Type 0 where
   pub slot : ℕ
   pub later : ℕ
   pub order : slot ≤ later
   pub sound : blocksSound slot ms ≡ true
   pub nodes : ℕ
-  pub allowed : packetAllowed nodes later (onlyBlocks ms) p ≡ true
+  pub blocks : firstBadBlock later (entries ms) (p .blocks) ≡ length (p .blocks)
+  pub votes : firstBadVote nodes later (addBlocks (entries ms) (p .blocks)) (p .votes) ≡ length (p .votes)
+
+-- a node that is its blocks alone
+abbrev pub onlyBlocks : List (Marked Block) → Node
+onlyBlocks ms = record { blocks = ms; votes = []; clock = freshClock }
 
 -- a node that is its votes alone
 abbrev pub onlyVotes : List (Marked Vote) → Node

@@ -14,10 +14,9 @@ ghost use Rattle.protocol.specs.Store.{Marked, entries, show, sameVote};
 ghost use Rattle.protocol.specs.Packet.{packetOf};
 ghost use Rattle.protocol.specs.Lent.{rowsOf, stored, makeBlock, makeVote, blockRow, voteRow, marksSound};
 ghost use Rattle.protocol.specs.Calls.Receive.{addBlocks, addVotes, stoodOn, receiveInto, brings as bringsIn};
-ghost use Rattle.admission.specs.Lookup.{onlyBlocks};
 ghost use Rattle.storing.specs.Grown.{Holds};
 ghost use Rattle.views.specs.Ancestors.{Ordered};
-ghost use Rattle.receiving.specs.Accepted.{Carried, Accepted, onlyVotes, onlyClock};
+ghost use Rattle.receiving.specs.Accepted.{Carried, Accepted, onlyBlocks, onlyVotes, onlyClock};
 
 // Whether a packet is the first proposal of the beat's slot, in phase 0, and so comes into view.
 pub fn brings(clock: Clock, beat: u64, bytes: &[u8]) -> bool

@@ -8,7 +8,7 @@ use lib.Dec.{eqb, leb, ltb, T}
 use Rattle.protocol.specs.declared.Settings.{Settings}
 use Rattle.protocol.specs.Lists.{all}
 use Rattle.protocol.specs.Store.{Places, Node}
-use Rattle.protocol.specs.Refusal.{Reply, refused, done}
+use Rattle.protocol.specs.Refusal.{refusalNumber, Reply, refused, done}
 use Rattle.protocol.specs.Calls.Open.{openNode}
 use Rattle.protocol.specs.Calls.Receive.{receive}
 use Rattle.protocol.specs.Calls.Propose.{propose}
@@ -87,7 +87,7 @@ carried (done a) = true
 
 -- what a reply puts in the log: "want of places or buffer is refusal 10 or 18"
 abbrev pub said : {A : Type 0} → ℕ → ℕ → (A → List Event) → Reply A → List Event
-said b i f (refused k) = cond (eqb k 10 || eqb k 18) (lacked b i ∷ []) []
+said b i f (refused k) = cond (eqb (refusalNumber k) 10 || eqb (refusalNumber k) 18) (lacked b i ∷ []) []
 said b i f (done a) = f a
 
 -- "phase 0: Propose if the slot is its own, else none; phase 1: Vote; phase 2: Merge"

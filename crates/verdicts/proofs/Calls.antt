@@ -6,7 +6,7 @@ use mathlib.Core.List.{List}
 use lib.ListN.{length}
 use Rattle.protocol.specs.declared.Settings.{Settings}
 use Rattle.protocol.specs.Packet.{packetOf}
-use Rattle.protocol.specs.Refusal.{pass, refuse, refused, done}
+use Rattle.protocol.specs.Refusal.{Refusal, pass, refuse, refused, done}
 use Rattle.protocol.specs.Calls.Receive.{brings, receiveTests, receivedOf, receiveInto, receive}
 use Rattle.protocol.specs.Calls.Propose.{baseOf, proposeTests, proposeInto, propose}
 use Rattle.protocol.specs.Calls.Vote.{headOf, voteTests, voteInto, vote}
@@ -19,7 +19,7 @@ use Rattle.verdicts.proofs.Lent.{call-refused, call-done, ask-refused, 
 
 module _ (s : Settings) (m : Lent) where
   module _ (beat : ℕ) (bytes : List ℕ) where
-    pub receive-refused : (k : ℕ) → lentVerdict s (λ p x. receiveTests s p x beat bytes) m ≡ refuse k
+    pub receive-refused : (k : Refusal) → lentVerdict s (λ p x. receiveTests s p x beat bytes) m ≡ refuse k
         → callLent s (λ p x. receive s p x beat bytes) m ≡ record { reply = refused k; lent = m }
     unfolding receive
     receive-refused = call-refused s (λ p x. receiveTests s p x beat bytes) m (λ p x. receivedOf x beat (packetOf bytes)) (λ p x. receiveInto (brings x beat (packetOf bytes)) beat x (packetOf bytes))
@@ -33,7 +33,7 @@ module _ (s : Settings) (m : Lent) where
     receive-done = call-done s (λ p x. receiveTests s p x beat bytes) m (λ p x. receivedOf x beat (packetOf bytes)) (λ p x. receiveInto (brings x beat (packetOf bytes)) beat x (packetOf bytes))
 
   module _ (beat number : ℕ) where
-    pub propose-refused : (k : ℕ) → lentVerdict s (λ p x. proposeTests s p x beat number) m ≡ refuse k
+    pub propose-refused : (k : Refusal) → lentVerdict s (λ p x. proposeTests s p x beat number) m ≡ refuse k
         → callLent s (λ p x. propose s p x beat number) m ≡ record { reply = refused k; lent = m }
     unfolding propose
     propose-refused = call-refused s (λ p x. proposeTests s p x beat number) m (λ p x. baseOf s x (beat / 3)) (λ p x. proposeInto s x beat number)
@@ -44,7 +44,7 @@ module _ (s : Settings) (m : Lent) where
     propose-done = call-done s (λ p x. proposeTests s p x beat number) m (λ p x. baseOf s x (beat / 3)) (λ p x. proposeInto s x beat number)
 
   module _ (beat : ℕ) where
-    pub vote-refused : (k : ℕ) → lentVerdict s (λ p x. voteTests s p x beat) m ≡ refuse k → callLent s (λ p x. vote s p x beat) m ≡ record { reply = refused k; lent = m }
+    pub vote-refused : (k : Refusal) → lentVerdict s (λ p x. voteTests s p x beat) m ≡ refuse k → callLent s (λ p x. vote s p x beat) m ≡ record { reply = refused k; lent = m }
     unfolding vote
     vote-refused = call-refused s (λ p x. voteTests s p x beat) m (λ p x. headOf s x (beat / 3)) (λ p x. voteInto s x beat)
 
@@ -53,7 +53,7 @@ module _ (s : Settings) (m : Lent) where
     unfolding vote
     vote-done = call-done s (λ p x. voteTests s p x beat) m (λ p x. headOf s x (beat / 3)) (λ p x. voteInto s x beat)
 
-    pub merge-refused : (k : ℕ) → lentVerdict s (λ p x. mergeTests s p x beat) m ≡ refuse k → callLent s (λ p x. merge s p x beat) m ≡ record { reply = refused k; lent = m }
+    pub merge-refused : (k : Refusal) → lentVerdict s (λ p x. mergeTests s p x beat) m ≡ refuse k → callLent s (λ p x. merge s p x beat) m ≡ record { reply = refused k; lent = m }
     unfolding merge
     merge-refused = call-refused s (λ p x. mergeTests s p x beat) m (λ p x. tt) (λ p x. mergeInto x beat)
 
@@ -62,7 +62,7 @@ module _ (s : Settings) (m : Lent) where
     unfolding merge
     merge-done = call-done s (λ p x. mergeTests s p x beat) m (λ p x. tt) (λ p x. mergeInto x beat)
 
-  module _ (slot k : ℕ) (e : lentVerdict s (λ p x. queryTests s p x slot) m ≡ refuse k) where
+  module _ (slot : ℕ) (k : Refusal) (e : lentVerdict s (λ p x. queryTests s p x slot) m ≡ refuse k) where
     pub head-refused : askLent s (λ p x. headQuery s p x slot) m ≡ refused k
     unfolding headQuery
     head-refused = ask-refused s (λ p x. queryTests s p x slot) m (λ p x. headOf s x slot) k e
@@ -89,7 +89,7 @@ module _ (s : Settings) (m : Lent) where
     fast-done = ask-done s (λ p x. queryTests s p x slot) m (λ p x. fastOf s x slot) e
 
   module _ (proposal : Bool) (buffer : List ℕ) where
-    pub write-refused : (k : ℕ) → lentVerdict s (λ p x. writeTests s p x proposal buffer) m ≡ refuse k
+    pub write-refused : (k : Refusal) → lentVerdict s (λ p x. writeTests s p x proposal buffer) m ≡ refuse k
         → writeLent s (λ p x. write s p x proposal buffer) m buffer ≡ record { reply = refused k; buffer = buffer }
     unfolding write
     write-refused = written-refused s (λ p x. writeTests s p x proposal buffer) m (λ p x. packetOut proposal x) buffer

@@ -6,7 +6,7 @@ use mathlib.Core.List.{List}
 use lib.ListN.{length}
 use Rattle.protocol.specs.declared.Settings.{Settings}
 use Rattle.protocol.specs.Store.{Places, Node}
-use Rattle.protocol.specs.Refusal.{Test, Verdict, pass, refuse, first, refused, done, Outcome, unless, answer}
+use Rattle.protocol.specs.Refusal.{Refusal, by, Test, Verdict, pass, refuse, first, refused, done, Outcome, unless, answer}
 use Rattle.protocol.specs.Calls.Open.{openTests}
 use Rattle.protocol.specs.Calls.Write.{over, writeUnless}
 use Rattle.protocol.specs.Lent.{Lent, placesOf, nodeOf, lentSound, storeNode, cleared, openVerdict, openLent, leave, onLent, callLent, askLent, writeLent}
@@ -15,7 +15,7 @@ use Rattle.verdicts.specs.Lent.{lentVerdict}
 -- ---- Open
 
 module _ (s : Settings) (m : Lent) where
-  pub open-refused : (k : ℕ) → first (openTests s (placesOf m)) ≡ refuse k → openLent s m ≡ record { reply = refused k; lent = m }
+  pub open-refused : (k : Refusal) → first (openTests s (placesOf m)) ≡ refuse k → openLent s m ≡ record { reply = refused k; lent = m }
   unfolding openLent openVerdict
   open-refused k e = rw e
 
@@ -41,11 +41,11 @@ module _ (s : Settings) (tests : Places → Node → List Test) (m : Lent) where
         on-node (refuse k) = unfold unless answer leave in refl
 
         go : (b : Bool) → onLent b call m
-            ≡ leave (answer (cond b (first (tests (placesOf m) (nodeOf m))) (refuse 6)) (a (placesOf m) (nodeOf m))) (y (placesOf m) (nodeOf m)) m
+            ≡ leave (answer (cond b (first (tests (placesOf m) (nodeOf m))) (refuse (by 6))) (a (placesOf m) (nodeOf m))) (y (placesOf m) (nodeOf m)) m
         go true = unfold onLent in (on-node (first (tests (placesOf m) (nodeOf m))))
         go false = unfold onLent answer leave in refl
 
-    pub call-refused : (k : ℕ) → lentVerdict s tests m ≡ refuse k → callLent s call m ≡ record { reply = refused k; lent = m }
+    pub call-refused : (k : Refusal) → lentVerdict s tests m ≡ refuse k → callLent s call m ≡ record { reply = refused k; lent = m }
     unfolding answer leave
     call-refused k e = call-verdict ∙ rw e
 
@@ -60,12 +60,12 @@ module _ (s : Settings) (tests : Places → Node → List Test) (m : Lent) where
     unfolding askLent lentVerdict
     ask-verdict = go (lentSound s m)
       where
-        go : (b : Bool) → cond b (answer (first (tests (placesOf m) (nodeOf m))) (a (placesOf m) (nodeOf m))) (refused 6)
-            ≡ answer (cond b (first (tests (placesOf m) (nodeOf m))) (refuse 6)) (a (placesOf m) (nodeOf m))
+        go : (b : Bool) → cond b (answer (first (tests (placesOf m) (nodeOf m))) (a (placesOf m) (nodeOf m))) (refused (by 6))
+            ≡ answer (cond b (first (tests (placesOf m) (nodeOf m))) (refuse (by 6))) (a (placesOf m) (nodeOf m))
         go true = refl
         go false = unfold answer in refl
 
-    pub ask-refused : (k : ℕ) → lentVerdict s tests m ≡ refuse k → askLent s (λ p x. answer (first (tests p x)) (a p x)) m ≡ refused k
+    pub ask-refused : (k : Refusal) → lentVerdict s tests m ≡ refuse k → askLent s (λ p x. answer (first (tests p x)) (a p x)) m ≡ refused k
     unfolding answer
     ask-refused k e = ask-verdict ∙ rw e
 
@@ -80,12 +80,12 @@ module _ (s : Settings) (tests : Places → Node → List Test) (m : Lent) where
     unfolding writeLent lentVerdict
     written-verdict = go (lentSound s m)
       where
-        go : (b : Bool) → cond b (writeUnless (first (tests (placesOf m) (nodeOf m))) (bytes (placesOf m) (nodeOf m)) buffer) (record { reply = refused 6; buffer = buffer })
-            ≡ writeUnless (cond b (first (tests (placesOf m) (nodeOf m))) (refuse 6)) (bytes (placesOf m) (nodeOf m)) buffer
+        go : (b : Bool) → cond b (writeUnless (first (tests (placesOf m) (nodeOf m))) (bytes (placesOf m) (nodeOf m)) buffer) (record { reply = refused (by 6); buffer = buffer })
+            ≡ writeUnless (cond b (first (tests (placesOf m) (nodeOf m))) (refuse (by 6))) (bytes (placesOf m) (nodeOf m)) buffer
         go true = refl
         go false = unfold writeUnless in refl
 
-    pub written-refused : (k : ℕ) → lentVerdict s tests m ≡ refuse k
+    pub written-refused : (k : Refusal) → lentVerdict s tests m ≡ refuse k
         → writeLent s (λ p x. writeUnless (first (tests p x)) (bytes p x) buffer) m buffer ≡ record { reply = refused k; buffer = buffer }
     unfolding writeUnless
     written-refused k e = written-verdict ∙ rw e

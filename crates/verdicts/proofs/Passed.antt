@@ -11,7 +11,7 @@ use Rattle.protocol.specs.declared.Settings.{Settings}
 use Rattle.protocol.specs.Chain.{genesis}
 use Rattle.protocol.specs.Store.{sameBlock, Places, Node}
 use Rattle.protocol.specs.Sound.{blocksSound, sound}
-use Rattle.protocol.specs.Refusal.{Test, pass, refuse, first}
+use Rattle.protocol.specs.Refusal.{Refusal, by, Test, pass, refuse, first}
 use Rattle.protocol.specs.Lent.{Lent, rowsOf, makeBlock, placesIn, placesOf, nodeOf, lentSound}
 use Rattle.protocol.proofs.Basics.Tests.{facts, and-left, and-right}
 use Rattle.protocol.proofs.Store.Sound.{ClockSound, Ranges, ranges, places-few}
@@ -65,7 +65,7 @@ ready s m e =
 
 -- ---- a verdict that passes
 
-pub refuse-not-pass : (k : ℕ) → refuse k ≡ pass → ⊥
+pub refuse-not-pass : (k : Refusal) → refuse k ≡ pass → ⊥
 refuse-not-pass k e = let z : _≡_ {A = ℕ} 0 1 = cc in absurd (omega arith)
 
 module _ (s : Settings) (tests : Places → Node → List Test) (m : Lent) where
@@ -73,9 +73,9 @@ module _ (s : Settings) (tests : Places → Node → List Test) (m : Lent) where
   unfolding lentVerdict
   passes = go (lentSound s m)
     where
-      go : (b : Bool) → cond b (first (tests (placesOf m) (nodeOf m))) (refuse 6) ≡ pass → (b ≡ true) × (first (tests (placesOf m) (nodeOf m)) ≡ pass)
+      go : (b : Bool) → cond b (first (tests (placesOf m) (nodeOf m))) (refuse (by 6)) ≡ pass → (b ≡ true) × (first (tests (placesOf m) (nodeOf m)) ≡ pass)
       go true e = (refl, e)
-      go false e = absurd (refuse-not-pass 6 e)
+      go false e = absurd (refuse-not-pass (by 6) e)
 
   pub pass-ready : lentVerdict s tests m ≡ pass → Ready s m
   pass-ready e = ready s m (passes e .0)

@@ -1,21 +1,19 @@
 -- A call that passes has its room: the places that it fills, and the buffer that it writes. Assumes nothing.
 use Prim.Native.Nat.{ℕ, _+_, _*_, _≤_}
-use mathlib.Core.Path.{_≡_, sym, ap, _∙_}
-use mathlib.Core.Bool.{Bool, true, not, _&&_}
+use mathlib.Core.Path.{_≡_}
+use mathlib.Core.Bool.{Bool}
 use mathlib.Core.List.{List}
 use native.Mathlib.Omega.{arith}
-use lib.Dec.{ltb}
 use lib.ListN.{length}
-use borrow.Author.Tests.{ltb-false, not-false}
+use borrow.Author.Tests.{ltb-false}
 use Rattle.protocol.specs.declared.Settings.{Settings}
 use Rattle.protocol.specs.Store.{entries}
-use Rattle.protocol.specs.Sound.{sound}
 use Rattle.protocol.specs.Packet.{packetOf}
 use Rattle.protocol.specs.Refusal.{pass}
 use Rattle.protocol.specs.Calls.Receive.{addBlocks, addVotes, blocksAfter, votesAfter, receiveTests}
 use Rattle.protocol.specs.Calls.Propose.{proposeTests}
 use Rattle.protocol.specs.Calls.Vote.{voteTests}
-use Rattle.protocol.specs.Calls.Write.{proposedNow, packetOut, writeTests}
+use Rattle.protocol.specs.Calls.Write.{packetOut, writeTests}
 use Rattle.protocol.specs.Lent.{Lent, rowsOf, makeBlock, makeVote, placesOf, nodeOf}
 use Rattle.protocol.proofs.Calls.Refusal.{passed}
 use Rattle.protocol.proofs.Calls.Passed.{receives, proposes, votes}
@@ -48,18 +46,11 @@ module _ (s : Settings) (m : Lent) where
       let r = votes s (placesOf m) (nodeOf m) beat (passes s _ m e .1) .room in
       places-fit (m .votes) (m .votesUsed + 1) (omega (arith, r, length-rowsOf makeVote (m .votes) (m .votesUsed)))
 
-  -- Write: the packet; a proposal is the proposer's
+  -- Write: the packet
   module _ (proposal : Bool) (buffer : List ℕ) (e : lentVerdict s (λ p x. writeTests s p x proposal buffer) m ≡ pass) where
     pub write-room : length (packetOut proposal (nodeOf m)) ≤ length buffer
     unfolding writeTests
     write-room =
-        let a = passed 6 (not (sound s (placesOf m) (nodeOf m))) _ (passes s (λ p x. writeTests s p x proposal buffer) m e .1) in
-        let b = passed 19 (proposal && not (proposedNow s (nodeOf m))) _ (a .1) in
-        ltb-false (length buffer) (length (packetOut proposal (nodeOf m))) (passed 18 (ltb (length buffer) (length (packetOut proposal (nodeOf m)))) _ (b .1) .0)
-
-    pub write-proposer : proposal ≡ true → proposedNow s (nodeOf m) ≡ true
-    unfolding writeTests
-    write-proposer q =
-        let a = passed 6 (not (sound s (placesOf m) (nodeOf m))) _ (passes s (λ p x. writeTests s p x proposal buffer) m e .1) in
-        let b = passed 19 (proposal && not (proposedNow s (nodeOf m))) _ (a .1) in
-        not-false (proposedNow s (nodeOf m)) (ap (λ o. o && not (proposedNow s (nodeOf m))) (sym q) ∙ b .0)
+        let a = passed _ _ (passes s (λ p x. writeTests s p x proposal buffer) m e .1) in
+        let b = passed _ _ (a .1) in
+        ltb-false (length buffer) (length (packetOut proposal (nodeOf m))) (passed _ _ (b .1) .0)

@@ -6,7 +6,8 @@ use mathlib.Core.List.{List, [], _∷_, _++_}
 use lib.ListN.{drop}
 use Rattle.protocol.specs.declared.Settings.{Settings}
 use Rattle.protocol.specs.Store.{Places, Node}
-use Rattle.protocol.specs.Refusal.{Test, pass, refuse, first, unsound}
+use Rattle.protocol.specs.Refusal as rules
+use Rattle.protocol.specs.Refusal.{by, Test, pass, refuse, first, unsound}
 use Rattle.protocol.specs.Lent.{Lent, placesOf, nodeOf, lentSound}
 use Rattle.protocol.proofs.Lent.Memory.{lent-true}
 use Rattle.protocol.specs.Calls.Receive.{receiveTests}
@@ -15,7 +16,7 @@ use Rattle.protocol.specs.Calls.Vote.{voteTests}
 use Rattle.verdicts.specs.declared.Refusal.{Refusal}
 use Rattle.verdicts.specs.declared.Verdict.{Verdict}
 use Rattle.verdicts.specs.declared.Verdict.the-variants.{Pass, Refuse}
-use Rattle.verdicts.specs.Verdict.{numberOf, verdictOf}
+use Rattle.verdicts.specs.Verdict.{refusalOf, verdictOf}
 use Rattle.verdicts.specs.Lent.{lentVerdict, beatTests, dueTests}
 use Rattle.verdicts.proofs.Passed.{refuse-not-pass, Ready, pass-ready}
 
@@ -31,7 +32,7 @@ first-pass (t ∷ ts) us e = go (t .applies) (λ h. first-pass ts us h) e
     go true rec h = absurd (refuse-not-pass (t .refusal) h)
     go false rec h = rec h
 
-first-refuse : (ts us : List Test) (k : ℕ) → first ts ≡ refuse k → first (ts ++ us) ≡ refuse k
+first-refuse : (ts us : List Test) (k : rules.Refusal) → first ts ≡ refuse k → first (ts ++ us) ≡ refuse k
 unfolding first
 first-refuse [] us k e = absurd (refuse-not-pass k (sym e))
 first-refuse (t ∷ ts) us k e = go (t .applies) (λ h. first-refuse ts us k h) e
@@ -44,28 +45,28 @@ first-refuse (t ∷ ts) us k e = go (t .applies) (λ h. first-refuse ts us k h) 
 -- A call whose tests begin with ts, of which n are; v is the verdict by ts.
 module _ (s : Settings) (ts tests : Places → Node → List Test) (n : ℕ)
     (front : (p : Places) (x : Node) → tests p x ≡ ts p x ++ drop n (tests p x)) (m : Lent)
-    {v : Verdict} (by : verdictOf v ≡ lentVerdict s ts m) where
+    {v : Verdict} (told : verdictOf v ≡ lentVerdict s ts m) where
   pub refused-before : {r : Refusal} → v ≡ Refuse r → verdictOf v ≡ lentVerdict s tests m
   unfolding lentVerdict
-  refused-before {r} e = ap verdictOf e ∙ sym (go (lentSound s m) (sym by ∙ ap verdictOf e))
+  refused-before {r} e = ap verdictOf e ∙ sym (go (lentSound s m) (sym told ∙ ap verdictOf e))
     where
-      go : (b : Bool) → cond b (first (ts (placesOf m) (nodeOf m))) (refuse 6) ≡ refuse (numberOf r)
-          → cond b (first (tests (placesOf m) (nodeOf m))) (refuse 6) ≡ refuse (numberOf r)
-      go true h = ap first (front (placesOf m) (nodeOf m)) ∙ first-refuse (ts (placesOf m) (nodeOf m)) _ (numberOf r) h
+      go : (b : Bool) → cond b (first (ts (placesOf m) (nodeOf m))) (refuse (by 6)) ≡ refuse (refusalOf r)
+          → cond b (first (tests (placesOf m) (nodeOf m))) (refuse (by 6)) ≡ refuse (refusalOf r)
+      go true h = ap first (front (placesOf m) (nodeOf m)) ∙ first-refuse (ts (placesOf m) (nodeOf m)) _ (refusalOf r) h
       go false h = h
 
   pub passed-before : v ≡ Pass → lentVerdict s tests m ≡ first (drop n (tests (placesOf m) (nodeOf m)))
   unfolding lentVerdict
-  passed-before e = go (lentSound s m) (sym by ∙ ap verdictOf e)
+  passed-before e = go (lentSound s m) (sym told ∙ ap verdictOf e)
     where
-      go : (b : Bool) → cond b (first (ts (placesOf m) (nodeOf m))) (refuse 6) ≡ pass
-          → cond b (first (tests (placesOf m) (nodeOf m))) (refuse 6) ≡ first (drop n (tests (placesOf m) (nodeOf m)))
+      go : (b : Bool) → cond b (first (ts (placesOf m) (nodeOf m))) (refuse (by 6)) ≡ pass
+          → cond b (first (tests (placesOf m) (nodeOf m))) (refuse (by 6)) ≡ first (drop n (tests (placesOf m) (nodeOf m)))
       go true h = ap first (front (placesOf m) (nodeOf m)) ∙ first-pass (ts (placesOf m) (nodeOf m)) _ h
-      go false h = absurd (refuse-not-pass 6 h)
+      go false h = absurd (refuse-not-pass (by 6) h)
 
 -- so the memory is sound
 pub sound-before : (s : Settings) (ts : Places → Node → List Test) (m : Lent) {v : Verdict} → verdictOf v ≡ lentVerdict s ts m → v ≡ Pass → Ready s m
-sound-before s ts m by e = pass-ready s ts m (sym by ∙ ap verdictOf e)
+sound-before s ts m told e = pass-ready s ts m (sym told ∙ ap verdictOf e)
 
 -- ---- the calls and the shared tests that they begin with
 
@@ -88,11 +89,11 @@ module _ (s : Settings) (p : Places) (x : Node) where
 
 -- ---- the test of every call but Open, and then the others
 
-module _ (s : Settings) (us : Places → Node → List Test) (m : Lent) {t : Bool} (by : t ≡ lentSound s m) where
-  pub unsound-refuse : t ≡ false → refuse 6 ≡ lentVerdict s (λ p x. unsound s p x ∷ us p x) m
+module _ (s : Settings) (us : Places → Node → List Test) (m : Lent) {t : Bool} (told : t ≡ lentSound s m) where
+  pub unsound-refuse : t ≡ false → refuse (by 6) ≡ lentVerdict s (λ p x. unsound s p x ∷ us p x) m
   unfolding lentVerdict
-  unsound-refuse e = rw (sym by ∙ e)
+  unsound-refuse e = rw (sym told ∙ e)
 
   pub sound-pass : t ≡ true → lentVerdict s (λ p x. unsound s p x ∷ us p x) m ≡ first (us (placesOf m) (nodeOf m))
   unfolding lentVerdict first
-  sound-pass e = rw (sym by ∙ e, lent-true s m (sym by ∙ e) .node)
+  sound-pass e = rw (sym told ∙ e, lent-true s m (sym told ∙ e) .node)

@@ -9,7 +9,7 @@ use lib.Dec.{ltb}
 use lib.ListN.{length, drop}
 use borrow.Author.Tests.{lt-ltb, le-ltb}
 use Rattle.protocol.specs.declared.Settings.{Settings}
-use Rattle.protocol.specs.Refusal.{test, pass, refuse, first}
+use Rattle.protocol.specs.Refusal.{by, test, pass, refuse, first}
 use Rattle.protocol.specs.Calls.Write.{gossipOf, proposalOf, proposedNow, packetOut, writeTests}
 use Rattle.protocol.specs.Lent.{Lent, rowsOf, makeBlock, nodeOf, lentSound}
 use Rattle.writer.specs.Sent.{nodeIn, Readable}
@@ -27,7 +27,7 @@ readable s m R = record {
 }
 
 -- what code knows: the memory is sound, and its answers u and n
-module _ (s : Settings) (m : Lent) (proposal : Bool) (buffer : List ℕ) {t : Bool} (by : t ≡ lentSound s m) (is : t ≡ true) where
+module _ (s : Settings) (m : Lent) (proposal : Bool) (buffer : List ℕ) {t : Bool} (told : t ≡ lentSound s m) (is : t ≡ true) where
   -- of the clock and the blocks alone
   abbrev Proposer : Bool
   Proposer = proposedNow s (record { blocks = rowsOf makeBlock (m .blocks) (m .blocksUsed); votes = []; clock = m .clock })
@@ -35,9 +35,9 @@ module _ (s : Settings) (m : Lent) (proposal : Bool) (buffer : List ℕ) {t : Bo
   rest : lentVerdict s (λ p x. writeTests s p x proposal buffer) m
       ≡ first (test 19 (proposal && not Proposer) ∷ test 18 (ltb (length buffer) (length (packetOut proposal (nodeIn (m .blocks) (m .blocksUsed) (m .votes) (m .votesUsed))))) ∷ [])
   unfolding writeTests proposedNow packetOut gossipOf proposalOf nodeIn nodeOf
-  rest = sound-pass s (λ p x. drop 1 (writeTests s p x proposal buffer)) m by is
+  rest = sound-pass s (λ p x. drop 1 (writeTests s p x proposal buffer)) m told is
 
-  pub no-proposal : {u : Bool} → proposal ≡ true → u ≡ Proposer → u ≡ false → refuse 19 ≡ lentVerdict s (λ p x. writeTests s p x proposal buffer) m
+  pub no-proposal : {u : Bool} → proposal ≡ true → u ≡ Proposer → u ≡ false → refuse (by 19) ≡ lentVerdict s (λ p x. writeTests s p x proposal buffer) m
   no-proposal q r e = sym (rest ∙ unfold first in (rw (q, sym r ∙ e)))
 
   -- a proposal is wanted of the proposer, or gossip
@@ -45,7 +45,7 @@ module _ (s : Settings) (m : Lent) (proposal : Bool) (buffer : List ℕ) {t : Bo
     allowed : (proposal && not Proposer) ≡ false
     allowed = ⊎-elim (λ w. rw (w .0, w .1)) (λ w. rw w) may
 
-    pub short : length buffer < n → refuse 18 ≡ lentVerdict s (λ p x. writeTests s p x proposal buffer) m
+    pub short : length buffer < n → refuse (by 18) ≡ lentVerdict s (λ p x. writeTests s p x proposal buffer) m
     short h = sym (rest ∙ unfold first in (rw (allowed, sym size, lt-ltb (length buffer) n h)))
 
     pub enough : n ≤ length buffer → pass ≡ lentVerdict s (λ p x. writeTests s p x proposal buffer) m

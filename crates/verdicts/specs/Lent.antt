@@ -5,7 +5,7 @@ use mathlib.Core.List.{List, [], _∷_}
 use Rattle.protocol.specs.declared.Settings.{Settings}
 use Rattle.protocol.specs.declared.Clock.{Clock}
 use Rattle.protocol.specs.Store.{Places, Node}
-use Rattle.protocol.specs.Refusal.{Test, Verdict, refuse, first, unsound, wrongBeat, wrongPhase, alreadyDone}
+use Rattle.protocol.specs.Refusal.{by, Test, Verdict, refuse, first, unsound, wrongBeat, wrongPhase, alreadyDone}
 use Rattle.protocol.specs.Lent.{Lent, placesOf, nodeOf, lentSound}
 
 -- the words of both tables, how many rows of each are used, and the clock
@@ -15,7 +15,7 @@ lent blocks votes blocksUsed votesUsed clock =
 
 -- unsound memory is refused by 6, whatever the call; else the call's tests decide
 unfoldable pub lentVerdict : Settings → (Places → Node → List Test) → Lent → Verdict
-lentVerdict s tests m = cond (lentSound s m) (first (tests (placesOf m) (nodeOf m))) (refuse 6)
+lentVerdict s tests m = cond (lentSound s m) (first (tests (placesOf m) (nodeOf m))) (refuse (by 6))
 
 -- ---- the tests that several calls begin with
 

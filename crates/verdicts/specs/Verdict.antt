@@ -1,4 +1,4 @@
--- What the answers of code mean: document 01's number of every refusal. Assumes nothing.
+-- What the answers of code mean: document 01's number of every refusal, and the index of an entry. Assumes nothing.
 use Prim.Native.Nat.{ℕ}
 use Rattle.protocol.specs.Refusal as rules
 use Rattle.verdicts.specs.declared.Refusal.{Refusal}
@@ -11,7 +11,9 @@ use Rattle.verdicts.specs.declared.Refusal.the-variants.{
   Unsound,
   Beat,
   Form,
-  Entry,
+  Block,
+  Vote,
+  Header,
   Places,
   Phase,
   Done,
@@ -26,27 +28,40 @@ use Rattle.verdicts.specs.declared.Refusal.the-variants.{
 use Rattle.verdicts.specs.declared.Verdict.{Verdict}
 use Rattle.verdicts.specs.declared.Verdict.the-variants.{Pass, Refuse}
 
+abbrev pub refusalOf : Refusal → rules.Refusal
+refusalOf Nodes = rules.by 1
+refusalOf Own = rules.by 2
+refusalOf Expiry = rules.by 3
+refusalOf Depth = rules.by 4
+refusalOf Length = rules.by 5
+refusalOf Unsound = rules.by 6
+refusalOf Beat = rules.by 7
+refusalOf Form = rules.by 8
+refusalOf (Block i) = rules.byEntry 9 i
+refusalOf (Vote i) = rules.byEntry 20 i
+refusalOf Header = rules.by 21
+refusalOf Places = rules.by 10
+refusalOf Phase = rules.by 11
+refusalOf Done = rules.by 12
+refusalOf Joined = rules.by 13
+refusalOf Proposer = rules.by 14
+refusalOf Number = rules.by 15
+refusalOf Voted = rules.by 16
+refusalOf Slot = rules.by 17
+refusalOf Buffer = rules.by 18
+refusalOf Proposal = rules.by 19
+
 abbrev pub numberOf : Refusal → ℕ
-numberOf Nodes = 1
-numberOf Own = 2
-numberOf Expiry = 3
-numberOf Depth = 4
-numberOf Length = 5
-numberOf Unsound = 6
-numberOf Beat = 7
-numberOf Form = 8
-numberOf Entry = 9
-numberOf Places = 10
-numberOf Phase = 11
-numberOf Done = 12
-numberOf Joined = 13
-numberOf Proposer = 14
-numberOf Number = 15
-numberOf Voted = 16
-numberOf Slot = 17
-numberOf Buffer = 18
-numberOf Proposal = 19
+numberOf r = rules.refusalNumber (refusalOf r)
+
+-- the index of the refused entry in its section; 0 where no entry is refused
+abbrev pub indexIn : rules.Refusal → ℕ
+indexIn (rules.by k) = 0
+indexIn (rules.byEntry k i) = i
+
+abbrev pub indexOf : Refusal → ℕ
+indexOf r = indexIn (refusalOf r)
 
 abbrev pub verdictOf : Verdict → rules.Verdict
 verdictOf Pass = rules.pass
-verdictOf (Refuse r) = rules.refuse (numberOf r)
+verdictOf (Refuse r) = rules.refuse (refusalOf r)

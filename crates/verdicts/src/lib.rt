@@ -13,10 +13,10 @@ ghost use Rattle.protocol.specs.Calls.Vote.{voteTests};
 ghost use Rattle.protocol.specs.Calls.Merge.{mergeTests};
 ghost use Rattle.protocol.specs.Calls.Query.{queryTests};
 ghost use Rattle.protocol.specs.Calls.Write.{writeTests};
-ghost use Rattle.verdicts.specs.Verdict.{numberOf, verdictOf};
+ghost use Rattle.verdicts.specs.Verdict.{numberOf, indexOf, verdictOf};
 ghost use Rattle.verdicts.specs.Lent.{lent, lentVerdict, beatTests, dueTests};
 
-// Why a call is refused, in the order of document 01's numbers 1 to 19.
+// Why a call is refused, by document 01's numbers; 9 and 20 with the index of the entry in its section, from 0.
 pub enum Refusal {
     // the settings are out of range, or a table's length
     Nodes,
@@ -30,8 +30,10 @@ pub enum Refusal {
     Beat,
     // a packet's length, kind or zero fields
     Form,
-    // an entry of a packet breaks a rule
-    Entry,
+    // a block of a packet, a vote or a proposal's header breaks a rule: 9, 20, 21
+    Block(usize),
+    Vote(usize),
+    Header,
     // too few free places
     Places,
     // another phase
@@ -72,7 +74,9 @@ pub fn number(refusal: Refusal) -> u64
         Refusal::Unsound => 6,
         Refusal::Beat => 7,
         Refusal::Form => 8,
-        Refusal::Entry => 9,
+        Refusal::Block(_) => 9,
+        Refusal::Vote(_) => 20,
+        Refusal::Header => 21,
         Refusal::Places => 10,
         Refusal::Phase => 11,
         Refusal::Done => 12,
@@ -83,6 +87,35 @@ pub fn number(refusal: Refusal) -> u64
         Refusal::Slot => 17,
         Refusal::Buffer => 18,
         Refusal::Proposal => 19,
+    }
+}
+
+// The index of the entry that Receive refused, in its section; 0 where no entry is refused.
+pub fn index(refusal: Refusal) -> usize
+    ensures { λ r. ⌜ r ≡ indexOf refusal ⌝ }
+{
+    match refusal {
+        Refusal::Nodes => 0,
+        Refusal::Own => 0,
+        Refusal::Expiry => 0,
+        Refusal::Depth => 0,
+        Refusal::Length => 0,
+        Refusal::Unsound => 0,
+        Refusal::Beat => 0,
+        Refusal::Form => 0,
+        Refusal::Block(i) => i,
+        Refusal::Vote(i) => i,
+        Refusal::Header => 0,
+        Refusal::Places => 0,
+        Refusal::Phase => 0,
+        Refusal::Done => 0,
+        Refusal::Joined => 0,
+        Refusal::Proposer => 0,
+        Refusal::Number => 0,
+        Refusal::Voted => 0,
+        Refusal::Slot => 0,
+        Refusal::Buffer => 0,
+        Refusal::Proposal => 0,
     }
 }
 
@@ -197,8 +230,17 @@ pub fn receive_verdict(
     if !packets::well_formed(bytes) {
         return Verdict::Refuse(Refusal::Form);
     }
-    if !admission::packet_allowed(settings.nodes, beat / 3, blocks, blocks_used, bytes) {
-        return Verdict::Refuse(Refusal::Entry);
+    let header = packets::header_of(bytes);
+    let block = admission::first_bad_block(beat / 3, blocks, blocks_used, bytes);
+    if block < header.blocks as usize {
+        return Verdict::Refuse(Refusal::Block(block));
+    }
+    let vote = admission::first_bad_vote(settings.nodes, beat / 3, blocks, blocks_used, bytes);
+    if vote < header.votes as usize {
+        return Verdict::Refuse(Refusal::Vote(vote));
+    }
+    if !admission::header_allowed(bytes) {
+        return Verdict::Refuse(Refusal::Header);
     }
     if ranges::places_in(blocks) - blocks_used < storing::new_blocks(blocks, blocks_used, bytes) {
         return Verdict::Refuse(Refusal::Places);

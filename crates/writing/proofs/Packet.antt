@@ -2,20 +2,16 @@
 -- Assumes nothing.
 use Prim.Native.Nat.{ℕ, _≤_}
 use mathlib.Core.Path.{_≡_, ap, sym, _∙_}
-use mathlib.Core.Bool.{Bool, true, false, not, _&&_, cond}
+use mathlib.Core.Bool.{Bool, true, false, cond}
 use mathlib.Core.List.{List}
-use lib.Dec.{ltb}
 use lib.ListN.{length}
-use borrow.Author.Tests.{ltb-false}
 use Rattle.protocol.specs.declared.Settings.{Settings}
 use Rattle.protocol.specs.declared.Block.{Block}
 use Rattle.protocol.specs.Chain.{genesis}
 use Rattle.protocol.specs.Store.{inView, Node}
-use Rattle.protocol.specs.Sound.{sound}
 use Rattle.protocol.specs.Refusal.{done}
-use Rattle.protocol.specs.Calls.Write.{lastBlock, gossipOf, proposalOf, proposedNow, packetOut, over, writeTests}
-use Rattle.protocol.specs.Lent.{Lent, placesOf, nodeOf}
-use Rattle.protocol.proofs.Calls.Refusal.{passed}
+use Rattle.protocol.specs.Calls.Write.{lastBlock, gossipOf, proposalOf, packetOut, over, writeTests}
+use Rattle.protocol.specs.Lent.{Lent}
 use Rattle.writer.specs.Sent.{nodeIn, sentOf}
 use Rattle.writer.proofs.Readable.{sent-held}
 use Rattle.verdicts.specs.declared.Refusal.{Refusal}
@@ -23,7 +19,7 @@ use Rattle.verdicts.specs.declared.Verdict.{Verdict}
 use Rattle.verdicts.specs.declared.Verdict.the-variants.{Pass, Refuse}
 use Rattle.verdicts.specs.Verdict.{verdictOf}
 use Rattle.verdicts.specs.Lent.{lentVerdict}
-use Rattle.verdicts.proofs.Passed.{passes}
+use Rattle.verdicts.proofs.Room as room
 use Rattle.verdicts.proofs.Calls.{write-refused, write-done}
 use Rattle.answers.specs.declared.Written.the-variants as written
 use Rattle.answers.specs.Promises.{Writes}
@@ -47,12 +43,7 @@ module _ (s : Settings) (m : Lent) (proposal : Bool) (buffer : List ℕ) {v : Ve
       record { buffer = sym (ap (λ w. w .buffer) q); length = sym (ap (λ w. w .reply) q) }
 
   pub write-room : v ≡ Pass → length (bytes m proposal) ≤ length buffer
-  unfolding writeTests
-  write-room e =
-      let a = passed 6 (not (sound s (placesOf m) (nodeOf m))) _ (passes s _ m (said Pass h e) .1) in
-      let b = passed 19 (proposal && not (proposedNow s (nodeOf m))) _ (a .1) in
-      let c = passed 18 (ltb (length buffer) (length (packetOut proposal (nodeOf m)))) _ (b .1) in
-      rw (sent-held proposal m) (ltb-false (length buffer) (length (packetOut proposal (nodeOf m))) (c .0))
+  write-room e = rw (sent-held proposal m) (room.write-room s m proposal buffer (said Pass h e))
 
   pub write-fills : {n : ℕ} {new : List ℕ} → v ≡ Pass → n ≡ length (bytes m proposal) → new ≡ over (bytes m proposal) buffer → Writes s m proposal buffer new (written.Length n)
   write-fills e f g =

@@ -44,7 +44,7 @@ fn try_calls(node: &Node, beat: u64, slot: u64, bytes: &[u8]) -> [Option<u32>; 1
         refusal
     };
     [
-        changed(&|n| n.receive(beat, bytes).err()),
+        changed(&|n| n.receive(beat, bytes).err().map(|refused| refused.number)),
         changed(&|n| n.propose(beat, slot).err()),
         changed(&|n| n.vote(beat).err()),
         changed(&|n| n.merge(beat).err()),
@@ -65,8 +65,8 @@ fn try_calls(node: &Node, beat: u64, slot: u64, bytes: &[u8]) -> [Option<u32>; 1
 #[test]
 fn nonsense() {
     let mut draw = Draw(1);
-    let mut refusals = [0; 20];
-    for round in 0..6000 {
+    let mut refusals = [0; 22];
+    for round in 0..12_000 {
         let mut node = fresh(3, 0, 2, 1);
         node.settings = Settings { nodes: 3, own: draw.next() % 3, expiry: 2, depth: 1 };
         node.clock.seen = 3 + draw.next() % 9;
@@ -97,7 +97,7 @@ fn nonsense() {
         let votes = [(draw.value() as u8, draw.value() as u32, draw.value())];
         let kind = draw.of(&[0, 0, 1, 2]);
         let slot = if kind == 0 { 0 } else { blocks[0].2 };
-        let number = if kind == 0 { 0 } else { blocks[0].0 };
+        let number = if kind == 0 { 0 } else { blocks[0].0 ^ (draw.next() % 2) };
         let count = draw.next() as usize % 2;
         let bytes = packet(kind, slot, number, &blocks, &votes[..count]);
         let question = draw.value();
@@ -106,8 +106,8 @@ fn nonsense() {
         }
     }
     // Calls were carried out, and every refusal was met but 5.
-    let met: Vec<usize> = (0..20).filter(|&number| refusals[number] > 0).collect();
-    assert_eq!(met, [0, 1, 2, 3, 4, 6, 7, 8, 9, 10, 11, 12, 13, 14, 15, 16, 17, 18, 19]);
+    let met: Vec<usize> = (0..22).filter(|&number| refusals[number] > 0).collect();
+    assert_eq!(met, [0, 1, 2, 3, 4, 6, 7, 8, 9, 10, 11, 12, 13, 14, 15, 16, 17, 18, 19, 20, 21]);
 }
 
 #[test]

@@ -11,7 +11,7 @@ mod shed;
 mod shortcuts;
 mod soundness;
 
-use crate::{Block, Clock, Node, Packet, PacketBlock, PacketVote, Settings, Vote};
+use crate::{Block, Clock, Node, Packet, PacketBlock, PacketVote, Received, Refused, Settings, Vote};
 
 pub const NO_BLOCK: Block = Block { number: 0, parent: 0, slot: 0, in_view: false };
 pub const NO_VOTE: Vote = Vote { voter: 0, slot: 0, number: 0, in_view: false };
@@ -80,6 +80,16 @@ pub fn packet(kind: u8, slot: u32, number: u64, blocks: &[(u64, u64, u32)], vote
 /// The bytes of a gossip packet.
 pub fn gossip(blocks: &[(u64, u64, u32)], votes: &[(u8, u32, u64)]) -> Vec<u8> {
     packet(0, 0, 0, blocks, votes)
+}
+
+/// A refusal of Receive that is not about one entry.
+pub fn whole(number: u32) -> Result<Received, Refused> {
+    Err(Refused { number, index: None })
+}
+
+/// A refusal of Receive about the entry at this index.
+pub fn entry(number: u32, index: u64) -> Result<Received, Refused> {
+    Err(Refused { number, index: Some(index) })
 }
 
 /// What a node writes.

@@ -67,16 +67,16 @@ fn wrong_packets() {
     for bytes in wrong {
         assert_eq!(Packet::decode(&bytes), None, "{bytes:?}");
         let mut node = fresh(5, 0, 2, 3);
-        assert_eq!(node.receive(2, &bytes), Err(8), "{bytes:?}");
+        assert_eq!(node.receive(2, &bytes), whole(8), "{bytes:?}");
     }
 }
 
 #[test]
 fn a_proposal_may_have_zero_fields() {
-    // No refusal 8; that no block has number 0 is refusal 9.
+    // No refusal 8; that no block of the packet has number 0 is refusal 21.
     let bytes = packet(1, 0, 0, &[], &[]);
     assert!(Packet::decode(&bytes).is_some());
-    assert_eq!(fresh(5, 0, 2, 3).receive(3, &bytes), Err(9));
+    assert_eq!(fresh(5, 0, 2, 3).receive(3, &bytes), whole(21));
 }
 
 #[test]

@@ -38,7 +38,7 @@ fn free_places_are_used_to_the_last() {
     let votes = [(0, 1, 0), (1, 1, 0), (2, 1, 0)];
     let counts = |b: usize, v: usize| {
         let answer = node.clone().receive(3, &gossip(&blocks[..b], &votes[..v]));
-        answer.map(|received| (received.new_blocks, received.new_votes))
+        answer.map(|received| (received.new_blocks, received.new_votes)).map_err(|refused| refused.number)
     };
     assert_eq!(counts(2, 2), Ok((2, 2)));
     assert_eq!(counts(3, 0), Err(10));
@@ -87,6 +87,6 @@ fn the_largest_tables() {
     let mut buffer = vec![0; 147_453];
     assert_eq!(node.write(false, &mut buffer), Ok(147_453));
     assert_eq!(buffer, bytes);
-    assert_eq!(node.receive(3 * 2047 + 2, &gossip(&[(9999, 0, 1)], &[])), Err(10));
-    assert_eq!(node.receive(3 * 2047 + 2, &gossip(&[], &[(0, 1, 0)])), Err(10));
+    assert_eq!(node.receive(3 * 2047 + 2, &gossip(&[(9999, 0, 1)], &[])), whole(10));
+    assert_eq!(node.receive(3 * 2047 + 2, &gossip(&[], &[(0, 1, 0)])), whole(10));
 }

@@ -47,8 +47,10 @@ fn refusals() {
     assert_eq!(chainask(&input(5, 4096, 4096, u32::MAX, &[])), "refused 7\n");
     assert_eq!(chainask(&input(5, 4096, 4096, 1_000_000_000, &[])), "refused 8\n");
     assert_eq!(chainask(&input(5, 4096, 4096, 1_000_000_000, &shed)), "head 31\ndeep 31\nfast none\n");
-    // Voter 4 is not below 4.
-    assert_eq!(chainask(&input(4, 2, 3, 4, &shed)), "refused 9\n");
+    // Block 31 is of a later slot than 2. Voter 4 is not below 4. The header names no block of the packet.
+    assert_eq!(chainask(&input(5, 2, 3, 2, &shed)), "refused 9\n");
+    assert_eq!(chainask(&input(4, 2, 3, 4, &shed)), "refused 20\n");
+    assert_eq!(chainask(&input(5, 2, 3, 4, &packet(1, 1, 11, &[(12, 0, 1)], &[]))), "refused 21\n");
     // At slot 0 the packet is taken, and beat 2 is done already.
     assert_eq!(chainask(&input(5, 2, 3, 0, &gossip(&[], &[]))), "refused 12\n");
     assert_eq!(chainask(&input(5, 2, 3, 0, &[])), "refused 8\n");

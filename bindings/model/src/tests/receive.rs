@@ -1,50 +1,53 @@
-//! Receive: the rules behind refusal 9, what is new, what comes into view.
+//! Receive: the rules behind refusals 9, 20 and 21, what is new, what comes into view.
 
 use super::*;
-use crate::Received;
 
 /// What the shed answers to a packet at beat 14, of slot 4.
-fn at_14(bytes: &[u8]) -> Result<Received, u32> {
+fn at_14(bytes: &[u8]) -> Result<Received, Refused> {
     shed().receive(14, bytes)
 }
 
-fn waits(new_blocks: u64, new_votes: u64) -> Result<Received, u32> {
+fn waits(new_blocks: u64, new_votes: u64) -> Result<Received, Refused> {
     Ok(Received { new_blocks, new_votes, brought: false })
 }
 
-fn brings(new_blocks: u64, new_votes: u64) -> Result<Received, u32> {
+fn brings(new_blocks: u64, new_votes: u64) -> Result<Received, Refused> {
     Ok(Received { new_blocks, new_votes, brought: true })
 }
 
 #[test]
 fn block_rules() {
-    let wrong: [&[(u64, u64, u32)]; 18] = [
+    // The blocks, and the index of the one that is refused.
+    let wrong: [(&[(u64, u64, u32)], u64); 20] = [
         // Slot 0 or above the beat's slot.
-        &[(41, 0, 0)],
-        &[(0, 0, 0)],
-        &[(41, 31, 5)],
-        &[(41, 31, u32::MAX)],
+        (&[(41, 0, 0)], 0),
+        (&[(0, 0, 0)], 0),
+        (&[(41, 31, 5)], 0),
+        (&[(41, 31, u32::MAX)], 0),
         // Parent unknown, the block itself, or only later in the packet.
-        &[(41, 99, 4)],
-        &[(41, 41, 4)],
-        &[(42, 41, 4), (41, 0, 3)],
+        (&[(41, 99, 4)], 0),
+        (&[(41, 41, 4)], 0),
+        (&[(42, 41, 4), (41, 0, 3)], 0),
         // Slot not above the parent's.
-        &[(41, 31, 3)],
-        &[(41, 31, 2)],
-        &[(41, 0, 3), (42, 41, 3)],
+        (&[(41, 31, 3)], 0),
+        (&[(41, 31, 2)], 0),
+        (&[(41, 0, 3), (42, 41, 3)], 1),
         // Number known with another parent or slot.
-        &[(31, 0, 3)],
-        &[(31, 11, 4)],
-        &[(31, 11, 2)],
-        &[(0, 0, 1)],
-        &[(0, 11, 2)],
-        &[(41, 0, 3), (41, 0, 4)],
-        &[(41, 0, 4), (41, 11, 4)],
-        // A good block before a wrong one.
-        &[(41, 31, 4), (43, 31, 5)],
+        (&[(31, 0, 3)], 0),
+        (&[(31, 11, 4)], 0),
+        (&[(31, 11, 2)], 0),
+        (&[(0, 0, 1)], 0),
+        (&[(0, 11, 2)], 0),
+        (&[(41, 0, 3), (41, 0, 4)], 1),
+        (&[(41, 0, 4), (41, 11, 4)], 1),
+        // Good blocks before a wrong one; known and repeated ones count for the index.
+        (&[(41, 31, 4), (43, 31, 5)], 1),
+        (&[(31, 11, 3), (41, 31, 4), (41, 31, 4), (42, 99, 4)], 3),
+        // The first of two wrong ones.
+        (&[(41, 31, 4), (42, 99, 4), (43, 0, 0)], 1),
     ];
-    for blocks in wrong {
-        assert_eq!(at_14(&gossip(blocks, &[])), Err(9), "{blocks:?}");
+    for (blocks, index) in wrong {
+        assert_eq!(at_14(&gossip(blocks, &[])), entry(9, index), "{blocks:?}");
     }
     assert_eq!(at_14(&gossip(&[(41, 31, 4)], &[])), waits(1, 0));
     assert_eq!(at_14(&gossip(&[(41, 0, 3), (42, 41, 4)], &[])), waits(2, 0));
@@ -53,40 +56,49 @@ fn block_rules() {
 
 #[test]
 fn vote_rules() {
-    let wrong: [&[(u8, u32, u64)]; 9] = [
+    // The votes, and the index of the one that is refused.
+    let wrong: [(&[(u8, u32, u64)], u64); 11] = [
         // Voter not below n.
-        &[(5, 4, 31)],
-        &[(255, 4, 31)],
+        (&[(5, 4, 31)], 0),
+        (&[(255, 4, 31)], 0),
         // Slot 0 or above the beat's slot.
-        &[(0, 0, 0)],
-        &[(0, 5, 31)],
-        &[(0, u32::MAX, 31)],
+        (&[(0, 0, 0)], 0),
+        (&[(0, 5, 31)], 0),
+        (&[(0, u32::MAX, 31)], 0),
         // Block unknown, or of a later slot.
-        &[(0, 4, 99)],
-        &[(0, 2, 31)],
-        &[(0, 3, 41)],
-        // A good vote before a wrong one.
-        &[(0, 4, 31), (0, 4, 99)],
+        (&[(0, 4, 99)], 0),
+        (&[(0, 2, 31)], 0),
+        (&[(0, 3, 41)], 0),
+        // Good votes before a wrong one; known and repeated ones count for the index.
+        (&[(0, 4, 31), (0, 4, 99)], 1),
+        (&[(0, 1, 11), (0, 4, 31), (0, 4, 31), (5, 4, 31)], 3),
+        // The first of two wrong ones.
+        (&[(0, 4, 31), (0, 5, 31), (5, 4, 31)], 1),
     ];
-    for votes in wrong {
-        assert_eq!(at_14(&gossip(&[(41, 31, 4)], votes)), Err(9), "{votes:?}");
+    for (votes, index) in wrong {
+        assert_eq!(at_14(&gossip(&[(41, 31, 4)], votes)), entry(20, index), "{votes:?}");
     }
     assert_eq!(at_14(&gossip(&[(41, 31, 4)], &[(4, 4, 41), (0, 3, 31), (0, 1, 0)])), waits(1, 3));
+    // A wrong block behind good ones goes before a wrong vote at the front.
+    assert_eq!(at_14(&gossip(&[(41, 31, 4), (42, 31, 4), (43, 99, 4)], &[(5, 4, 31)])), entry(9, 2));
 }
 
 #[test]
 fn proposal_rules() {
     // The block must be among the packet's blocks, known or not.
-    assert_eq!(at_14(&packet(1, 3, 31, &[], &[])), Err(9));
-    assert_eq!(at_14(&packet(1, 3, 31, &[(11, 0, 1)], &[])), Err(9));
+    assert_eq!(at_14(&packet(1, 3, 31, &[], &[])), whole(21));
+    assert_eq!(at_14(&packet(1, 3, 31, &[(11, 0, 1)], &[])), whole(21));
     assert_eq!(at_14(&packet(1, 3, 31, &[(31, 11, 3)], &[])), waits(0, 0));
-    assert_eq!(at_14(&packet(1, 0, 0, &[(31, 11, 3)], &[])), Err(9));
+    assert_eq!(at_14(&packet(1, 0, 0, &[(31, 11, 3)], &[])), whole(21));
     // It must have the header's slot.
-    assert_eq!(at_14(&packet(1, 4, 31, &[(31, 11, 3)], &[])), Err(9));
-    assert_eq!(at_14(&packet(1, 5, 41, &[(41, 31, 4)], &[])), Err(9));
+    assert_eq!(at_14(&packet(1, 4, 31, &[(31, 11, 3)], &[])), whole(21));
+    assert_eq!(at_14(&packet(1, 5, 41, &[(41, 31, 4)], &[])), whole(21));
     assert_eq!(at_14(&packet(1, 4, 41, &[(41, 31, 4)], &[])), waits(1, 0));
     // It need not be the last of the blocks.
     assert_eq!(at_14(&packet(1, 3, 41, &[(41, 0, 3), (42, 41, 4)], &[])), waits(2, 0));
+    // A wrong block or vote goes before a wrong header.
+    assert_eq!(at_14(&packet(1, 5, 41, &[(41, 31, 5)], &[])), entry(9, 0));
+    assert_eq!(at_14(&packet(1, 3, 41, &[(41, 31, 4)], &[(0, 4, 41), (0, 3, 41)])), entry(20, 1));
 }
 
 #[test]
@@ -141,6 +153,17 @@ fn a_proposal_of_the_beat_comes_into_view() {
 }
 
 #[test]
+fn all_ancestors_come_into_view() {
+    // Two waiting chains, 1 2 3 and 5 6 7. The proposal stands on 3 and carries a vote for 6.
+    let mut node = fresh(5, 0, 2, 3);
+    node.receive(9, &gossip(&[(1, 0, 1), (2, 1, 2), (3, 2, 3), (5, 0, 1), (6, 5, 2), (7, 6, 3)], &[])).unwrap();
+    assert_eq!(blocks_in_view(&node), [0]);
+    assert_eq!(node.receive(12, &packet(1, 4, 4, &[(4, 3, 4)], &[(0, 2, 6)])), brings(1, 1));
+    assert_eq!(blocks_in_view(&node), [0, 1, 2, 3, 5, 6, 4]);
+    assert_eq!(votes_in_view(&node), [(0, 2, 6)]);
+}
+
+#[test]
 fn other_packets_only_wait() {
     for beat in [16, 17, 18, 19] {
         let mut node = with_waiting();
@@ -159,7 +182,8 @@ fn other_packets_only_wait() {
 #[test]
 fn a_refused_proposal_is_not_the_first() {
     let mut node = with_waiting();
-    assert_eq!(node.receive(15, &packet(1, 5, 52, &[(52, 99, 5)], &[])), Err(9));
+    assert_eq!(node.receive(15, &packet(1, 5, 52, &[(52, 99, 5)], &[])), entry(9, 0));
+    assert_eq!(node.receive(15, &packet(1, 5, 53, &[(52, 41, 5)], &[])), whole(21));
     assert_eq!(node.receive(15, &proposal_51()), brings(1, 1));
 }
 

@@ -60,19 +60,27 @@ fn open() {
 
 #[test]
 fn receive() {
+    let refused = |node: &Node, beat: u64, bytes: &[u8], refusal: Result<Received, Refused>| {
+        let mut after = node.clone();
+        assert_eq!(after.receive(beat, bytes), refusal);
+        assert_eq!(&after, node);
+    };
     let mut node = full_shed();
     node.blocks[0].in_view = false;
-    refused(&node, |n| n.receive(13, &[2]), 6);
+    refused(&node, 13, &[2], whole(6));
     node.blocks[0].in_view = true;
-    refused(&node, |n| n.receive(13, &[2]), 7);
-    refused(&node, |n| n.receive(3_000_000_003, &[2]), 7);
-    refused(&node, |n| n.receive(u64::MAX, &[2]), 7);
-    refused(&node, |n| n.receive(14, &[2]), 8);
-    refused(&node, |n| n.receive(14, &gossip(&[(41, 31, 4), (42, 31, 3)], &[])), 9);
-    refused(&node, |n| n.receive(14, &gossip(&[(41, 31, 4)], &[(5, 4, 41)])), 9);
-    refused(&node, |n| n.receive(14, &packet(1, 4, 42, &[(41, 31, 4)], &[])), 9);
-    refused(&node, |n| n.receive(14, &gossip(&[(41, 31, 4)], &[])), 10);
-    refused(&node, |n| n.receive(14, &gossip(&[], &[(0, 4, 31)])), 10);
+    refused(&node, 13, &[2], whole(7));
+    refused(&node, 3_000_000_003, &[2], whole(7));
+    refused(&node, u64::MAX, &[2], whole(7));
+    refused(&node, 14, &[2], whole(8));
+    // Wrong are a block, a vote and the header, and there is no free place.
+    let (good, bad) = ((41, 31, 4), (42, 31, 3));
+    refused(&node, 14, &packet(1, 4, 43, &[good, bad], &[(5, 4, 41)]), entry(9, 1));
+    refused(&node, 14, &packet(1, 4, 43, &[good], &[(5, 4, 41)]), entry(20, 0));
+    refused(&node, 14, &packet(1, 4, 43, &[good], &[(4, 4, 41)]), whole(21));
+    refused(&node, 14, &packet(1, 4, 41, &[good], &[(4, 4, 41)]), whole(10));
+    refused(&node, 14, &gossip(&[good], &[]), whole(10));
+    refused(&node, 14, &gossip(&[], &[(0, 4, 31)]), whole(10));
     let answer = node.receive(3_000_000_002, &gossip(&[(31, 11, 3)], &[(0, 1, 11)])).unwrap();
     assert_eq!((answer.new_blocks, answer.new_votes, answer.brought), (0, 0, false));
     assert_eq!(node.clock, Clock { seen: 3_000_000_002, done: 14, merged: 4, proposed: 0 });

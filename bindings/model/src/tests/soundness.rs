@@ -16,7 +16,7 @@ fn unsound(change: impl Fn(&mut Node)) {
     let mut node = sound();
     change(&mut node);
     let before = node.clone();
-    assert_eq!(node.receive(14, &[0; 17]), Err(6));
+    assert_eq!(node.receive(14, &[0; 17]), whole(6));
     assert_eq!(node.propose(15, 99), Err(6));
     assert_eq!(node.vote(16), Err(6));
     assert_eq!(node.merge(17), Err(6));

@@ -49,8 +49,11 @@ pub enum Answer {
     Length(usize),
 }
 
-/// The answer, or the number of the refusal.
-pub type Reply = Result<Answer, u64>;
+/// The number of a refusal, and the index of the refused entry where there is one.
+pub type Refused = (u64, Option<u64>);
+
+/// The answer, or the refusal.
+pub type Reply = Result<Answer, Refused>;
 
 /// Memory of zeros with so many places. It is not sound before Open.
 pub fn zeroed(block_places: usize, vote_places: usize) -> Memory {
@@ -131,26 +134,26 @@ impl Both {
             Call::Fast { slot } => node.fast(*slot).map(|found| found.map_or(Answer::Nothing, Answer::Block)),
             Call::Write { proposal } => node.write(*proposal, buffer).map(Answer::Length),
         };
-        reply.map_err(|refusal| u64::from(refusal.number()))
+        reply.map_err(|refusal| (u64::from(refusal.number()), refusal.index()))
     }
 
     fn on_model(&mut self, call: &Call, buffer: &mut [u8]) -> Reply {
         let node = &mut self.model;
+        let whole = |number: u32| (u64::from(number), None);
         let reply = match call {
-            Call::Open => node.open().map(|()| Answer::Done),
-            _ if !self.readable => Err(6),
-            Call::Receive { beat, packet } => node.receive(*beat, packet).map(|r| Answer::Received {
-                new_blocks: r.new_blocks,
-                new_votes: r.new_votes,
-                brought: r.brought,
-            }),
-            Call::Propose { beat, number } => node.propose(*beat, *number).map(Answer::Block),
-            Call::Vote { beat } => node.vote(*beat).map(Answer::Block),
-            Call::Merge { beat } => node.merge(*beat).map(|()| Answer::Done),
-            Call::Head { slot } => node.head(*slot).map(Answer::Block),
-            Call::Deep { slot } => node.deep(*slot).map(Answer::Block),
-            Call::Fast { slot } => node.fast(*slot).map(|found| found.map_or(Answer::Nothing, Answer::Block)),
-            Call::Write { proposal } => node.write(*proposal, buffer).map(Answer::Length),
+            Call::Open => node.open().map(|()| Answer::Done).map_err(whole),
+            _ if !self.readable => Err(whole(6)),
+            Call::Receive { beat, packet } => match node.receive(*beat, packet) {
+                Ok(r) => Ok(Answer::Received { new_blocks: r.new_blocks, new_votes: r.new_votes, brought: r.brought }),
+                Err(refused) => Err((u64::from(refused.number), refused.index)),
+            },
+            Call::Propose { beat, number } => node.propose(*beat, *number).map(Answer::Block).map_err(whole),
+            Call::Vote { beat } => node.vote(*beat).map(Answer::Block).map_err(whole),
+            Call::Merge { beat } => node.merge(*beat).map(|()| Answer::Done).map_err(whole),
+            Call::Head { slot } => node.head(*slot).map(Answer::Block).map_err(whole),
+            Call::Deep { slot } => node.deep(*slot).map(Answer::Block).map_err(whole),
+            Call::Fast { slot } => node.fast(*slot).map(|found| found.map_or(Answer::Nothing, Answer::Block)).map_err(whole),
+            Call::Write { proposal } => node.write(*proposal, buffer).map(Answer::Length).map_err(whole),
         };
         if reply.is_ok() {
             if let Call::Open = call {
@@ -160,7 +163,7 @@ impl Both {
             }
             self.store();
         }
-        reply.map_err(u64::from)
+        reply
     }
 
     /// The words of the model's used rows, its counts and its clock.

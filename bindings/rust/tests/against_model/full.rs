@@ -43,7 +43,7 @@ fn largest_tables() {
         assert_eq!(make(Call::Open, &mut []), Ok(Answer::Done));
         let received = make(Call::Receive { beat, packet: packet.clone() }, &mut []);
         if let Some(refusal) = refusal {
-            assert_eq!(received, Err(refusal));
+            assert_eq!(received, Err((refusal, None)));
             continue;
         }
         assert_eq!(received, Ok(Answer::Received { new_blocks: 2047, new_votes: 8192, brought: false }));
@@ -51,14 +51,14 @@ fn largest_tables() {
         let mut buffer = vec![0; packet.len() + 3];
         assert_eq!(make(Call::Write { proposal: false }, &mut buffer), Ok(Answer::Length(packet.len())));
         assert_eq!(buffer[..packet.len()], packet);
-        assert_eq!(make(Call::Write { proposal: false }, &mut vec![0; packet.len() - 1]), Err(18));
+        assert_eq!(make(Call::Write { proposal: false }, &mut vec![0; packet.len() - 1]), Err((18, None)));
         let slot = 512;
         assert!(make(Call::Head { slot }, &mut []).is_ok());
         assert!(make(Call::Deep { slot }, &mut []).is_ok());
         assert!(make(Call::Fast { slot: 400 }, &mut []).is_ok());
         let beat = beat + 2;
-        assert_eq!(make(Call::Propose { beat, number: 9 }, &mut []), Err(14));
-        assert_eq!(make(Call::Vote { beat: beat + 1 }, &mut []), Err(10));
+        assert_eq!(make(Call::Propose { beat, number: 9 }, &mut []), Err((14, None)));
+        assert_eq!(make(Call::Vote { beat: beat + 1 }, &mut []), Err((10, None)));
         assert_eq!(
             make(Call::Receive { beat, packet: packet.clone() }, &mut []),
             Ok(Answer::Received { new_blocks: 0, new_votes: 0, brought: false })

@@ -27,7 +27,7 @@ fn setting(name: &str, default: u64) -> u64 {
 /// What each call may answer: 0, carried out, and its refusals.
 const REPLIES: [&[usize]; 9] = [
     &[0, 1, 2, 3, 4, 5],
-    &[0, 6, 7, 8, 9, 10],
+    &[0, 6, 7, 8, 9, 20, 21, 10],
     &[0, 6, 7, 11, 12, 13, 14, 15, 10],
     &[0, 6, 7, 11, 12, 13, 16, 10],
     &[0, 6, 7, 11, 12],
@@ -49,10 +49,11 @@ fn random_calls() {
         World::new(&mut run, random).go(calls);
     }
     for (name, replies) in Call::NAMES.iter().zip(&run.replies) {
-        let refused: Vec<String> = (1..20).filter(|&k| replies[k] > 0).map(|k| format!("{k}: {}", replies[k])).collect();
+        let refused: Vec<String> = (1..22).filter(|&k| replies[k] > 0).map(|k| format!("{k}: {}", replies[k])).collect();
         println!("{name}: {} carried out; refused by {}", replies[0], refused.join(", "));
     }
     println!("{} proposals came into view on arrival, {} fast blocks", run.brought, run.fast);
+    println!("the largest index of a refused block {}, of a refused vote {}", run.deepest[0], run.deepest[1]);
     if calls >= 100_000 {
         for (call, expected) in REPLIES.iter().enumerate() {
             for &reply in *expected {
@@ -60,5 +61,6 @@ fn random_calls() {
             }
         }
         assert!(run.brought > 0 && run.fast > 0);
+        assert!(run.deepest.iter().all(|&index| index >= 2), "refused entries stand deep in their sections too");
     }
 }

@@ -13,7 +13,9 @@ pub struct Run {
     seed: u64,
     pub calls: u64,
     /// By call and refusal; 0 stands for a call that was carried out.
-    pub replies: [[u64; 20]; 9],
+    pub replies: [[u64; 22]; 9],
+    /// The largest index of a refused block and vote.
+    pub deepest: [u64; 2],
     /// Proposals that came into view on arrival, and Fast blocks.
     pub brought: u64,
     pub fast: u64,
@@ -21,7 +23,7 @@ pub struct Run {
 
 impl Run {
     pub fn new(seed: u64) -> Run {
-        Run { seed, calls: 0, replies: [[0; 20]; 9], brought: 0, fast: 0 }
+        Run { seed, calls: 0, replies: [[0; 22]; 9], deepest: [0; 2], brought: 0, fast: 0 }
     }
 
     /// Makes a call on both sides; ends the test if they differ.
@@ -30,8 +32,10 @@ impl Run {
         let reply = node.make(call, buffer).unwrap_or_else(|difference| {
             panic!("LIKVOST_SEED={}, call {}: {call:?} of {:?}: {difference}", self.seed, self.calls, node.settings())
         });
-        self.replies[call.index()][reply.err().unwrap_or(0) as usize] += 1;
+        self.replies[call.index()][reply.err().map_or(0, |(number, _)| number) as usize] += 1;
         match reply {
+            Err((9, Some(index))) => self.deepest[0] = self.deepest[0].max(index),
+            Err((20, Some(index))) => self.deepest[1] = self.deepest[1].max(index),
             Ok(Answer::Received { brought: true, .. }) => self.brought += 1,
             Ok(Answer::Block(_)) if matches!(call, Call::Fast { .. }) => self.fast += 1,
             _ => {}

@@ -8,8 +8,7 @@ use lib.ListN.{length, take, drop}
 use Rattle.protocol.specs.Store.{entries}
 use Rattle.protocol.specs.Packet.{packetOf}
 use Rattle.protocol.specs.Lent.{rowsOf, makeBlock}
-use Rattle.protocol.specs.Calls.Receive.{addBlocks}
-use Rattle.admission.specs.FirstBad.{firstBadBlock}
+use Rattle.protocol.specs.Calls.Receive.{addBlocks, firstBadBlock}
 use Rattle.admission.proofs.Header.{header-blocks}
 use Rattle.admission.proofs.FirstBad.{block-begin, block-good, block-bad, block-end}
 use Rattle.admission.proofs.first_bad_block.Statement.{statement}

@@ -4,6 +4,7 @@ use Prim.Native.Nat.{ℕ}
 use mathlib.Core.Bool.{Bool, true, false, cond}
 use mathlib.Core.Path.{_≡_, refl, ap, sym, _∙_}
 use mir.Val.{boolByte}
+use Rattle.verdicts.specs.Verdict.{indexOf}
 use Rattle.answers.specs.declared.Taken.{Taken}
 use Rattle.capi.specs.declared.Clock.{Clock}
 use Rattle.capi.specs.declared.Answer.{Answer}
@@ -18,10 +19,10 @@ as-number false = refl
 
 abbrev broughtBy : ℕ → Taken → Clock → Answer
 broughtBy n t k =
-    record { refusal = 0; value = 0; «new_blocks» = t .«new_blocks»; «new_votes» = t .«new_votes»; brought = n; clock = k }
+    record { refusal = 0; index = 0; value = 0; «new_blocks» = t .«new_blocks»; «new_votes» = t .«new_votes»; brought = n; clock = k }
 
-abbrev refusedBy : ℕ → Clock → Answer
-refusedBy n k = record { refusal = n; value = 0; «new_blocks» = 0; «new_votes» = 0; brought = 0; clock = k }
+abbrev refusedBy : ℕ → ℕ → Clock → Answer
+refusedBy n i k = record { refusal = n; index = i; value = 0; «new_blocks» = 0; «new_votes» = 0; brought = 0; clock = k }
 
 returns : tie.Need-returns
 returns c = sym (ap (answerOf _) (c .enum-told .given .1))
@@ -36,8 +37,11 @@ returns-3 c = sym (ap (answerOf _) (c .before .reply2 .given .1))
 
 returns-4 : tie.Need-returns-4
 returns-4 c =
-    let t = c .before .before in
-    ap (λ (n : ℕ). refusedBy n (t .before .before .args .clock)) (c .number .ensures) ∙ sym (ap (answerOf _) (t .reply3 .given .1))
+    let n = c .before in
+    let t = n .before .before in
+    ap (λ (i : ℕ). refusedBy (n .number .result) i (t .before .before .args .clock)) (c .index .ensures)
+    ∙ ap (λ (k : ℕ). refusedBy k (indexOf (t .reply3 .given .0 .0)) (t .before .before .args .clock)) (n .number .ensures)
+    ∙ sym (ap (answerOf _) (t .reply3 .given .1))
 
 pub answer-of-spec : {M : Type 1} → statement M
 answer-of-spec =
@@ -48,6 +52,7 @@ answer-of-spec =
     (λ c. search needs)
     (λ c. search needs)
     (λ c. search needs)
+    (λ c κs. search needs)
     (λ c κs. search needs)
     returns
     returns-2

@@ -10,16 +10,17 @@ use lib.ListN.{length}
 use Rattle.protocol.specs.declared.Block.{Block}
 use Rattle.protocol.specs.declared.Settings.{Settings}
 use Rattle.protocol.specs.declared.Vote.{Vote}
-use Rattle.protocol.specs.Lists.{any, all}
+use Rattle.protocol.specs.Lists.{any}
 use Rattle.protocol.specs.Chain.{genesis, above}
 use Rattle.protocol.specs.Store.{entries, inView, allWaiting, show, sameVote, Places, Node}
 use Rattle.protocol.specs.Packet.{Packet, packetOf}
-use Rattle.protocol.specs.Calls.Receive.{voteAllowed, blocksAllowed, blocksAfter, votesAfter, packetAllowed, brings, stoodOn, receiveInto}
-use Rattle.protocol.proofs.Basics.Members.{all-true, any-holds, any-true}
+use Rattle.protocol.specs.Calls.Receive.{blocksAfter, votesAfter, brings, stoodOn, receiveInto}
+use Rattle.protocol.proofs.Basics.Members.{any-holds, any-true}
 use Rattle.protocol.proofs.Basics.Tests.{facts, both, and-left, and-right, either, or-left, or-right}
 use Rattle.protocol.proofs.Chain.Above.{above-true, above-holds, above-trans}
 use Rattle.protocol.proofs.Chain.Relations.{In, Known, Sound, Above, here, up}
 use Rattle.protocol.proofs.Filters.Relations.{Cast}
+use Rattle.protocol.proofs.Store.FirstBad.{votes-allowed}
 use Rattle.protocol.proofs.Store.Growth.{Added, added-blocks, AddedVotes, added-votes, table-grow, show-append}
 use Rattle.protocol.proofs.Store.New.{blocks-keep, votes-keep, blocks-cases, votes-cases}
 use Rattle.protocol.proofs.Store.Sound.{VoteSound, vote-true, vote-later, ClockSound, IsSound, store-sound}
@@ -36,18 +37,8 @@ module _ (s : Settings) (pl : Places) (x : Node) (beat : ℕ) (bytes : List ℕ)
   abbrev pub after : Node
   after = receiveInto (brings x beat packet) beat x packet
 
-  blocks-ok : blocksAllowed (beat / 3) (entries (x .blocks)) (packet .blocks) ≡ true
-  unfolding packetAllowed
-  blocks-ok = and-left (blocksAllowed (beat / 3) (entries (x .blocks)) (packet .blocks)) _ (R .allowed)
-
-  votes-ok : all (voteAllowed (s .nodes) (beat / 3) (blocksAfter x packet)) (packet .votes) ≡ true
-  unfolding packetAllowed
-  votes-ok =
-      and-left (all (voteAllowed (s .nodes) (beat / 3) (blocksAfter x packet)) (packet .votes)) _
-      (and-right (blocksAllowed (beat / 3) (entries (x .blocks)) (packet .blocks)) _ (R .allowed))
-
   added : Added (beat / 3) (entries (x .blocks)) (packet .blocks)
-  added = added-blocks (beat / 3) (entries (x .blocks)) (packet .blocks) (store-sound (R .base .good)) blocks-ok
+  added = added-blocks (beat / 3) (entries (x .blocks)) (packet .blocks) (store-sound (R .base .good)) (R .allowed .blocks)
 
   votesAdded : AddedVotes (entries (x .votes)) (packet .votes)
   votesAdded = added-votes (entries (x .votes)) (packet .votes)
@@ -115,7 +106,7 @@ module _ (s : Settings) (pl : Places) (x : Node) (beat : ℕ) (bytes : List ℕ)
   all-sound = rw receive-blocks (follow-sound (beat / 3) (entries (x .blocks)) newBlocks (store-sound (R .base .good)) (added .follow))
 
   vote-ok : (a : Vote) → Cast a (packet .votes) → VoteSound (s .nodes) (beat / 3) (entries (after .blocks)) a
-  vote-ok a m = rw blocks-stored-are (vote-true (s .nodes) (beat / 3) (blocksAfter x packet) a (all-true (voteAllowed (s .nodes) (beat / 3) (blocksAfter x packet)) votes-ok a m))
+  vote-ok a m = rw blocks-stored-are (vote-true (s .nodes) (beat / 3) (blocksAfter x packet) a (votes-allowed (s .nodes) (beat / 3) (blocksAfter x packet) (packet .votes) (R .allowed .votes) a m))
 
   -- ---- in view
 

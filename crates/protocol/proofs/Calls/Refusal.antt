@@ -10,7 +10,7 @@ use lib.ListN.{length}
 use Rattle.protocol.specs.declared.Settings.{Settings}
 use Rattle.protocol.specs.Store.{Places, Node, fresh}
 use Rattle.protocol.specs.Packet.{packetOf}
-use Rattle.protocol.specs.Refusal.{Test, test, first, Verdict, pass, refuse, Reply, refused, done, unless, answer}
+use Rattle.protocol.specs.Refusal.{Refusal, Test, first, Verdict, pass, refuse, Reply, refused, done, unless, answer}
 use Rattle.protocol.specs.Calls.Merge.{mergeTests, merge}
 use Rattle.protocol.specs.Calls.Open.{openTests, openNode}
 use Rattle.protocol.specs.Calls.Propose.{baseOf, proposeTests, propose}
@@ -24,24 +24,27 @@ use Rattle.protocol.specs.Calls.Write.{packetOut, over, writeTests, writ
 abbrev pub NoneApplies : List Test → Type 0
 NoneApplies ts = (t : Test) → List·Memᴰ t ts → t .applies ≡ false
 
--- a test with number k applies, and none before it
-pub record FirstThat (ts : List Test) (k : ℕ) : Type 0 where
+-- a test with refusal k applies, and none before it
+pub record FirstThat (ts : List Test) (k : Refusal) : Type 0 where
   pub before : List Test
   pub rest : List Test
-  pub is : ts ≡ before ++ (test k true ∷ rest)
+  pub is : ts ≡ before ++ (record { refusal = k; applies = true } ∷ rest)
   pub none : NoneApplies before
 
 none-cons : (t : Test) (ts : List Test) → t .applies ≡ false → NoneApplies ts → NoneApplies (t ∷ ts)
 none-cons t ts e f u m = ⊎-elim (λ q. ap (λ o. o .applies) q ∙ e) (f u) (List·Memᴰ·cases-cons m)
 
-pub passed : (k : ℕ) (b : Bool) (ts : List Test) → first (test k b ∷ ts) ≡ pass → (b ≡ false) × (first ts ≡ pass)
+pub passed : (t : Test) (ts : List Test) → first (t ∷ ts) ≡ pass → (t .applies ≡ false) × (first ts ≡ pass)
 unfolding first
-passed k true ts e = let z : _≡_ {A = ℕ} 0 1 = cc in absurd (omega arith)
-passed k false ts e = (refl, e)
+passed t ts e = go (t .applies) refl e
+  where
+    go : (b : Bool) → t .applies ≡ b → cond b (refuse (t .refusal)) (first ts) ≡ pass → (t .applies ≡ false) × (first ts ≡ pass)
+    go true q h = let z : _≡_ {A = ℕ} 0 1 = cc in absurd (omega arith)
+    go false q h = (q, h)
 
 pub pass-true : (ts : List Test) → first ts ≡ pass → NoneApplies ts
 pass-true [] e = λ t m. absurd (List·Memᴰ·not-nil m)
-pass-true (t ∷ ts) e = let p = passed (t .refusal) (t .applies) ts e in none-cons t ts (p .0) (pass-true ts (p .1))
+pass-true (t ∷ ts) e = let p = passed t ts e in none-cons t ts (p .0) (pass-true ts (p .1))
 
 first-after : (us ts : List Test) → NoneApplies us → first (us ++ ts) ≡ first ts
 unfolding first
@@ -52,7 +55,7 @@ pub pass-holds : (ts : List Test) → NoneApplies ts → first ts ≡ pass
 unfolding first
 pass-holds ts f = ap first (sym (append-nil ts)) ∙ first-after ts [] f
 
-pub refuse-true : (ts : List Test) (k : ℕ) → first ts ≡ refuse k → FirstThat ts k
+pub refuse-true : (ts : List Test) (k : Refusal) → first ts ≡ refuse k → FirstThat ts k
 unfolding first
 refuse-true [] k e = let z : _≡_ {A = ℕ} 0 1 = cc in absurd (omega arith)
 refuse-true (t ∷ ts) k e = go (t .applies) refl e (λ h. refuse-true ts k h)
@@ -65,9 +68,9 @@ refuse-true (t ∷ ts) k e = go (t .applies) refl e (λ h. refuse-true ts k h)
         let r = rec h in
         record { before = t ∷ r .before; rest = r .rest; is = ap (λ l. t ∷ l) (r .is); none = none-cons t (r .before) q (r .none) }
 
-pub refuse-holds : (ts : List Test) (k : ℕ) → FirstThat ts k → first ts ≡ refuse k
+pub refuse-holds : (ts : List Test) (k : Refusal) → FirstThat ts k → first ts ≡ refuse k
 unfolding first
-refuse-holds ts k r = ap first (r .is) ∙ first-after (r .before) (test k true ∷ r .rest) (r .none)
+refuse-holds ts k r = ap first (r .is) ∙ first-after (r .before) (record { refusal = k; applies = true } ∷ r .rest) (r .none)
 
 -- ---- the reply
 
@@ -77,7 +80,7 @@ module _ {A : Type 0} where
   answer-done pass a b e = (refl, cc)
   answer-done (refuse k) a b e = let z : _≡_ {A = ℕ} 0 1 = cc in absurd (omega arith)
 
-  pub answer-refused : (v : Verdict) (a : A) (k : ℕ) → answer v a ≡ refused k → v ≡ refuse k
+  pub answer-refused : (v : Verdict) (a : A) (k : Refusal) → answer v a ≡ refused k → v ≡ refuse k
   unfolding answer
   answer-refused pass a k e = let z : _≡_ {A = ℕ} 0 1 = cc in absurd (omega arith)
   answer-refused (refuse j) a k e = cc
@@ -86,14 +89,14 @@ module _ {A : Type 0} where
   unfolding answer
   answer-pass v a e = rw e
 
-  pub answer-refuse : (v : Verdict) (a : A) (k : ℕ) → v ≡ refuse k → answer v a ≡ refused k
+  pub answer-refuse : (v : Verdict) (a : A) (k : Refusal) → v ≡ refuse k → answer v a ≡ refused k
   unfolding answer
   answer-refuse v a k e = rw e
 
   -- carried out with the answer a, or refused by the first test that applies
   pub data Decided (ts : List Test) (a : A) (r : Reply A) : Type 0 where
     carried : NoneApplies ts → r ≡ done a → Decided ts a r
-    declined : (k : ℕ) → FirstThat ts k → r ≡ refused k → Decided ts a r
+    declined : (k : Refusal) → FirstThat ts k → r ≡ refused k → Decided ts a r
 
   pub decided : (ts : List Test) (a : A) → Decided ts a (answer (first ts) a)
   unfolding answer
@@ -122,7 +125,7 @@ module _ {A : Type 0} where
       let d = answer-done v a b (sym (unless-reply v x a y) ∙ e) in
       (d .0, d .1, ap (λ o. unless o x a y .node) (d .0))
 
-  pub unless-refused : (v : Verdict) (x : Node) (a : A) (y : Node) (k : ℕ) → unless v x a y .reply ≡ refused k → (v ≡ refuse k) × (unless v x a y .node ≡ x)
+  pub unless-refused : (v : Verdict) (x : Node) (a : A) (y : Node) (k : Refusal) → unless v x a y .reply ≡ refused k → (v ≡ refuse k) × (unless v x a y .node ≡ x)
   unfolding unless
   unless-refused v x a y k e =
       let d = answer-refused v a k (sym (unless-reply v x a y) ∙ e) in
@@ -144,7 +147,7 @@ written-done v bytes buffer n e =
     let d = answer-done v (length bytes) n (sym (written-reply v bytes buffer) ∙ e) in
     (d .0, d .1, ap (λ o. writeUnless o bytes buffer .buffer) (d .0))
 
-pub written-refused : (v : Verdict) (bytes buffer : List ℕ) (k : ℕ) → writeUnless v bytes buffer .reply ≡ refused k
+pub written-refused : (v : Verdict) (bytes buffer : List ℕ) (k : Refusal) → writeUnless v bytes buffer .reply ≡ refused k
     → (v ≡ refuse k) × (writeUnless v bytes buffer .buffer ≡ buffer)
 unfolding writeUnless
 written-refused v bytes buffer k e =
@@ -158,7 +161,7 @@ module _ (s : Settings) (pl : Places) (x : Node) where
   unfolding openNode
   open-decided = decided-unless (openTests s pl) x tt fresh
 
-  pub open-refused : (k : ℕ) → openNode s pl x .reply ≡ refused k → openNode s pl x .node ≡ x
+  pub open-refused : (k : Refusal) → openNode s pl x .reply ≡ refused k → openNode s pl x .node ≡ x
   unfolding openNode
   open-refused k e = unless-refused (first (openTests s pl)) x tt fresh k e .1
 
@@ -166,7 +169,7 @@ module _ (s : Settings) (pl : Places) (x : Node) where
   unfolding receive
   receive-decided beat bytes = decided-unless (receiveTests s pl x beat bytes) x _ _
 
-  pub receive-refused : (beat : ℕ) (bytes : List ℕ) (k : ℕ) → receive s pl x beat bytes .reply ≡ refused k → receive s pl x beat bytes .node ≡ x
+  pub receive-refused : (beat : ℕ) (bytes : List ℕ) (k : Refusal) → receive s pl x beat bytes .reply ≡ refused k → receive s pl x beat bytes .node ≡ x
   unfolding receive
   receive-refused beat bytes k e = unless-refused (first (receiveTests s pl x beat bytes)) x _ _ k e .1
 
@@ -174,7 +177,7 @@ module _ (s : Settings) (pl : Places) (x : Node) where
   unfolding propose
   propose-decided beat number = decided-unless (proposeTests s pl x beat number) x _ _
 
-  pub propose-refused : (beat number k : ℕ) → propose s pl x beat number .reply ≡ refused k → propose s pl x beat number .node ≡ x
+  pub propose-refused : (beat number : ℕ) (k : Refusal) → propose s pl x beat number .reply ≡ refused k → propose s pl x beat number .node ≡ x
   unfolding propose
   propose-refused beat number k e = unless-refused (first (proposeTests s pl x beat number)) x _ _ k e .1
 
@@ -182,7 +185,7 @@ module _ (s : Settings) (pl : Places) (x : Node) where
   unfolding vote
   vote-decided beat = decided-unless (voteTests s pl x beat) x _ _
 
-  pub vote-refused : (beat k : ℕ) → vote s pl x beat .reply ≡ refused k → vote s pl x beat .node ≡ x
+  pub vote-refused : (beat : ℕ) (k : Refusal) → vote s pl x beat .reply ≡ refused k → vote s pl x beat .node ≡ x
   unfolding vote
   vote-refused beat k e = unless-refused (first (voteTests s pl x beat)) x _ _ k e .1
 
@@ -190,7 +193,7 @@ module _ (s : Settings) (pl : Places) (x : Node) where
   unfolding merge
   merge-decided beat = decided-unless (mergeTests s pl x beat) x _ _
 
-  pub merge-refused : (beat k : ℕ) → merge s pl x beat .reply ≡ refused k → merge s pl x beat .node ≡ x
+  pub merge-refused : (beat : ℕ) (k : Refusal) → merge s pl x beat .reply ≡ refused k → merge s pl x beat .node ≡ x
   unfolding merge
   merge-refused beat k e = unless-refused (first (mergeTests s pl x beat)) x _ _ k e .1
 
@@ -212,6 +215,6 @@ module _ (s : Settings) (pl : Places) (x : Node) where
   write-decided proposal buffer =
       rw (written-reply (first (writeTests s pl x proposal buffer)) (packetOut proposal x) buffer) (decided (writeTests s pl x proposal buffer) (length (packetOut proposal x)))
 
-  pub write-refused : (proposal : Bool) (buffer : List ℕ) (k : ℕ) → write s pl x proposal buffer .reply ≡ refused k → write s pl x proposal buffer .buffer ≡ buffer
+  pub write-refused : (proposal : Bool) (buffer : List ℕ) (k : Refusal) → write s pl x proposal buffer .reply ≡ refused k → write s pl x proposal buffer .buffer ≡ buffer
   unfolding write
   write-refused proposal buffer k e = written-refused (first (writeTests s pl x proposal buffer)) (packetOut proposal x) buffer k e .1

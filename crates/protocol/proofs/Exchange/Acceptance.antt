@@ -17,14 +17,14 @@ use Rattle.protocol.specs.Chain.{genesis, Found, found, missing, find, f
 use Rattle.protocol.specs.Store.{entries, Places, Node}
 use Rattle.protocol.specs.Sound.{between, sound}
 use Rattle.protocol.specs.Packet.{Packet, packetOf, wellFormed}
-use Rattle.protocol.specs.Refusal.{first, done, pass, refuse, unless}
-use Rattle.protocol.specs.Calls.Receive.{knownAs, addBlock, addBlocks, blockAllowed, blocksAllowed, voteAllowed, blocksAfter, votesAfter, headerAllowed, packetAllowed, brings, receivedOf, receiveInto, receiveTests, receive}
+use Rattle.protocol.specs.Refusal.{by, first, done, pass, refuse, unless}
+use Rattle.protocol.specs.Calls.Receive.{knownAs, addBlock, addBlocks, blockAllowed, firstBadBlock, blocksAfter, votesAfter, headerAllowed, brings, receivedOf, receiveInto, receiveTests, receive}
 use Rattle.protocol.specs.Calls.Write.{afterGenesis}
-use Rattle.protocol.proofs.Basics.Members.{all-holds}
 use Rattle.protocol.proofs.Basics.Tests.{both, and-left, and-right}
 use Rattle.protocol.proofs.Chain.Find.{find-in}
 use Rattle.protocol.proofs.Chain.Relations.{In, Sound}
 use Rattle.protocol.proofs.Filters.Relations.{Cast}
+use Rattle.protocol.proofs.Store.FirstBad.{cons-all, allowed-votes, Allowed}
 use Rattle.protocol.proofs.Store.Growth.{Added, added-blocks}
 use Rattle.protocol.proofs.Store.New.{blocks-keep, blocks-cases}
 use Rattle.protocol.proofs.Store.Sound.{VoteSound, vote-holds, vote-later}
@@ -66,11 +66,11 @@ module _ (F : Block → Type 0) (one : (c d : Block) → F c → F d → c .numb
   add-from known b false g h c m = ⊎-elim (g c) (λ n. let q : c ≡ b = List·Memᴰ·eq-of-singleton n in rw q h) (List·Memᴰ·append-cases known m)
 
   blocks-allowed : (e known bs : List Block) → ((c : Block) → In c e → In c known) → ((c : Block) → In c known → F c) → ((c : Block) → In c bs → F c)
-      → allFollow slot e bs ≡ true → blocksAllowed later known bs ≡ true
-  unfolding allFollow blocksAllowed addBlock
+      → allFollow slot e bs ≡ true → firstBadBlock later known bs ≡ length bs
+  unfolding allFollow firstBadBlock addBlock
   blocks-allowed e known [] f g h w = refl
   blocks-allowed e known (b ∷ bs) f g h w =
-      both (block-allowed e known f g b (h b (List·Memᴰ·head refl)) (follows-true slot e b (and-left (blockFollows slot e b) _ w)))
+      cons-all (block-allowed e known f g b (h b (List·Memᴰ·head refl)) (follows-true slot e b (and-left (blockFollows slot e b) _ w)))
       (blocks-allowed (e ++ (b ∷ [])) (addBlock known b) bs (λ c m. go c (List·Memᴰ·append-cases e m))
       (λ c m. add-from known b (foundWith (λ o. true) (find known (b .number))) g (h b (List·Memᴰ·head refl)) c m)
       (λ c m. h c (List·Memᴰ·tail m)) (and-right (blockFollows slot e b) _ w))
@@ -82,13 +82,18 @@ module _ (F : Block → Type 0) (one : (c d : Block) → F c → F d → c .numb
   -- the whole packet: its blocks follow block 0, its votes are for these, and its header is right
   pub packet-allowed : (n : ℕ) (x : Node) (p : Packet) → Sound (entries (x .blocks)) → ((c : Block) → In c (entries (x .blocks)) → F c)
       → ((c : Block) → In c (p .blocks) → F c) → allFollow slot (genesis ∷ []) (p .blocks) ≡ true
-      → ((a : Vote) → Cast a (p .votes) → VoteSound n slot (genesis ∷ p .blocks) a) → headerAllowed p ≡ true → packetAllowed n later x p ≡ true
-  unfolding packetAllowed blocksAfter
+      → ((a : Vote) → Cast a (p .votes) → VoteSound n slot (genesis ∷ p .blocks) a) → headerAllowed p ≡ true → Allowed n later x p
+  unfolding blocksAfter
   packet-allowed n x p S g h w v hd =
-      both ok (both (all-holds (voteAllowed n later (addBlocks (entries (x .blocks)) (p .blocks))) (p .votes)
-      (λ a m. vote-holds n later (addBlocks (entries (x .blocks)) (p .blocks)) a (λ c d k o q. one c d (all c k) (all d o) q) (vote-later l has (v a m)))) hd)
+      record {
+        blocks = ok;
+        votes =
+            allowed-votes n later (addBlocks (entries (x .blocks)) (p .blocks)) (p .votes)
+            (λ a m. vote-holds n later (addBlocks (entries (x .blocks)) (p .blocks)) a (λ c d k o q. one c d (all c k) (all d o) q) (vote-later l has (v a m)));
+        header = hd;
+      }
     where
-      ok : blocksAllowed later (entries (x .blocks)) (p .blocks) ≡ true
+      ok : firstBadBlock later (entries (x .blocks)) (p .blocks) ≡ length (p .blocks)
       ok = blocks-allowed (genesis ∷ []) (entries (x .blocks)) (p .blocks) (λ c m. rw (List·Memᴰ·eq-of-singleton m) (S .start)) g h w
 
       A : Added later (entries (x .blocks)) (p .blocks)
@@ -107,10 +112,10 @@ lacking pl y p = ltb (pl .blocks) (length (blocksAfter y p)) || ltb (pl .votes) 
 
 module _ (s : Settings) (pl : Places) (y : Node) (beat : ℕ) (bytes : List ℕ) (p : Packet)
     (e : packetOf bytes ≡ p) (S : sound s pl y ≡ true) (l : y .clock .seen ≤ beat) (m : beat / 3 ≤ (limits .slot)) (W : wellFormed bytes ≡ true)
-    (A : packetAllowed (s .nodes) (beat / 3) y p ≡ true) where
-  pub verdict : first (receiveTests s pl y beat bytes) ≡ cond (lacking pl y p) (refuse 10) pass
+    (A : Allowed (s .nodes) (beat / 3) y p) where
+  pub verdict : first (receiveTests s pl y beat bytes) ≡ cond (lacking pl y p) (refuse (by 10)) pass
   unfolding receiveTests first
-  verdict = rw (e, S, le-ltb beat (y .clock .seen) l, le-ltb (limits .slot) (beat / 3) m, W, A)
+  verdict = rw (e, S, le-ltb beat (y .clock .seen) l, le-ltb (limits .slot) (beat / 3) m, W, A .blocks, A .votes, A .header, le-ltb (length (p .blocks)) (length (p .blocks)) (omega arith), le-ltb (length (p .votes)) (length (p .votes)) (omega arith))
 
   pub accepted : length (blocksAfter y p) ≤ pl .blocks → length (votesAfter y p) ≤ pl .votes
       → receive s pl y beat bytes ≡ record { reply = done (receivedOf y beat p); node = receiveInto (brings y beat p) beat y p }
@@ -125,7 +130,7 @@ Agree xs ys = (c d : Block) → In c xs → In d ys → c .number ≡ d .number 
 
 -- the packet is allowed, and afterwards the store has the blocks of both
 pub record Welcome (n slot : ℕ) (y : Node) (bs : List Block) (p : Packet) : Type 0 where
-  pub allowed : packetAllowed n slot y p ≡ true
+  pub allowed : Allowed n slot y p
   pub old : (c : Block) → In c (entries (y .blocks)) → In c (blocksAfter y p)
   pub new : (c : Block) → In c bs → In c (blocksAfter y p)
   pub only : (c : Block) → In c (blocksAfter y p) → In c (entries (y .blocks)) ⊎ In c bs
@@ -139,12 +144,12 @@ module _ {n slot : ℕ} {bs : List Block} {vs : List Vote} (D : Sendable n slot 
   one-block c d (inr m) (inr k) q = sendable-sound D .unique c d m k q
 
   pub welcome : (kind t number : ℕ) → headerAllowed (sending kind t number bs vs) ≡ true → Welcome n later y bs (sending kind t number bs vs)
-  unfolding blocksAfter packetAllowed
+  unfolding blocksAfter
   welcome kind t number h =
       let p = sending kind t number bs vs in
       let ok = packet-allowed (λ c. In c (entries (y .blocks)) ⊎ In c bs) one-block slot later l n y p S (λ c m. inl m) (λ c m. inr (sent-in D c m)) (D .follow)
       (λ a m. rw (D .root) at (D .votes a m)) h in
-      let N = added-blocks later (entries (y .blocks)) (afterGenesis bs) S (and-left (blocksAllowed later (entries (y .blocks)) (afterGenesis bs)) _ ok) in
+      let N = added-blocks later (entries (y .blocks)) (afterGenesis bs) S (ok .blocks) in
       record {
         allowed = ok;
         old = blocks-keep (entries (y .blocks)) (afterGenesis bs);

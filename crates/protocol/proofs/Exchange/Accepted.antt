@@ -13,11 +13,12 @@ use Rattle.protocol.specs.declared.Settings.{Settings}
 use Rattle.protocol.specs.Limits.{limits}
 use Rattle.protocol.specs.Store.{entries, Places, Node}
 use Rattle.protocol.specs.Packet.{Packet, packetOf, wellFormed}
-use Rattle.protocol.specs.Refusal.{pass, refuse, refused, done, first}
-use Rattle.protocol.specs.Calls.Receive.{blocksAfter, votesAfter, packetAllowed, brings, receivedOf, receiveInto, receiveTests, receive}
+use Rattle.protocol.specs.Refusal.{Refusal, by, pass, refuse, refused, done, first}
+use Rattle.protocol.specs.Calls.Receive.{blocksAfter, votesAfter, brings, receivedOf, receiveInto, receiveTests, receive}
 use Rattle.protocol.specs.Calls.Write.{gossipOf, proposalOf, proposedNow, packetOut, write}
 use Rattle.protocol.specs.RoundTrip.{NumbersBelow}
 use Rattle.protocol.proofs.Basics.Tests.{either}
+use Rattle.protocol.proofs.Store.FirstBad.{Allowed}
 use Rattle.protocol.proofs.Store.Sound.{IsSound, sound-holds}
 use Rattle.protocol.proofs.Packet.Bytes.{round-trip, written-well}
 use Rattle.protocol.proofs.Calls.Refusal.{unless-refused}
@@ -51,7 +52,7 @@ module _ (s : Settings) (pl : Places) (x : Node) (proposal : Bool) (buffer : Lis
   record Arrives (b : Bool) : Type 0 where
     read : packetOf (packetOut b x) ≡ cond b (proposalOf x) (gossipOf x)
     formed : wellFormed (packetOut b x) ≡ true
-    allowed : packetAllowed (s' .nodes) (beat / 3) y (cond b (proposalOf x) (gossipOf x)) ≡ true
+    allowed : Allowed (s' .nodes) (beat / 3) y (cond b (proposalOf x) (gossipOf x))
 
   arrives : (b : Bool) → (b ≡ true → proposedNow s x ≡ true) → Arrives b
   unfolding packetOut
@@ -67,7 +68,7 @@ module _ (s : Settings) (pl : Places) (x : Node) (proposal : Bool) (buffer : Lis
   here : Arrives proposal
   here = arrives proposal (W .proposes)
 
-  pub sent-verdict : first (receiveTests s' pl' y beat bytes) ≡ cond (lacking pl' y sent) (refuse 10) pass
+  pub sent-verdict : first (receiveTests s' pl' y beat bytes) ≡ cond (lacking pl' y sent) (refuse (by 10)) pass
   sent-verdict =
       verdict s' pl' y beat bytes sent (ap packetOf (W .bytes) ∙ here .read) (sound-holds (M .good)) (M .receiver) (M .within)
       (ap wellFormed (W .bytes) ∙ here .formed) (here .allowed)
@@ -78,12 +79,12 @@ module _ (s : Settings) (pl : Places) (x : Node) (proposal : Bool) (buffer : Lis
       accepted s' pl' y beat bytes sent (ap packetOf (W .bytes) ∙ here .read) (sound-holds (M .good)) (M .receiver) (M .within)
       (ap wellFormed (W .bytes) ∙ here .formed) (here .allowed)
 
-  pub sent-refused : (k : ℕ) → receive s' pl' y beat bytes .reply ≡ refused k
-      → (k ≡ 10) × ((pl' .blocks < length (blocksAfter y sent)) ⊎ (pl' .votes < length (votesAfter y sent)))
+  pub sent-refused : (k : Refusal) → receive s' pl' y beat bytes .reply ≡ refused k
+      → (k ≡ by 10) × ((pl' .blocks < length (blocksAfter y sent)) ⊎ (pl' .votes < length (votesAfter y sent)))
   unfolding receive
   sent-refused k e = go (lacking pl' y sent) refl (sym sent-verdict ∙ unless-refused (first (receiveTests s' pl' y beat bytes)) y _ _ k e .0)
     where
-      go : (b : Bool) → lacking pl' y sent ≡ b → cond b (refuse 10) pass ≡ refuse k
-          → (k ≡ 10) × ((pl' .blocks < length (blocksAfter y sent)) ⊎ (pl' .votes < length (votesAfter y sent)))
+      go : (b : Bool) → lacking pl' y sent ≡ b → cond b (refuse (by 10)) pass ≡ refuse k
+          → (k ≡ by 10) × ((pl' .blocks < length (blocksAfter y sent)) ⊎ (pl' .votes < length (votesAfter y sent)))
       go true q h = (cc, ⊎-map (ltb-true (pl' .blocks) (length (blocksAfter y sent))) (ltb-true (pl' .votes) (length (votesAfter y sent))) (either (ltb (pl' .blocks) (length (blocksAfter y sent))) _ q))
       go false q h = let z : _≡_ {A = ℕ} 0 1 = cc in absurd (omega arith)

@@ -10,7 +10,7 @@ use lib.ListN.{drop, length}
 use Rattle.protocol.specs.declared.Settings.{Settings}
 use Rattle.protocol.specs.Store.{Places, Node}
 use Rattle.protocol.specs.Sound.{sound}
-use Rattle.protocol.specs.Refusal.{Reply, refused, done, Outcome}
+use Rattle.protocol.specs.Refusal.{Refusal, by, Reply, refused, done, Outcome}
 use Rattle.protocol.specs.Calls.Merge.{merge}
 use Rattle.protocol.specs.Calls.Propose.{propose}
 use Rattle.protocol.specs.Calls.Receive.{receive}
@@ -25,9 +25,9 @@ use Rattle.protocol.proofs.Lent.Memory.{lent-true, sound-fits, stored-n
 
 -- refused, the node is as it was; sound tables stay sound, and are not refused by 6
 pub record Lawful {A : Type 0} (s : Settings) (call : Places → Node → Outcome A) : Type 0 where
-  pub refusal : (pl : Places) (x : Node) (k : ℕ) → call pl x .reply ≡ refused k → call pl x .node ≡ x
+  pub refusal : (pl : Places) (x : Node) (k : Refusal) → call pl x .reply ≡ refused k → call pl x .node ≡ x
   pub stays-sound : (pl : Places) (x : Node) → sound s pl x ≡ true → sound s pl (call pl x .node) ≡ true
-  pub not-six : (pl : Places) (x : Node) → sound s pl x ≡ true → call pl x .reply ≡ refused 6 → ⊥
+  pub not-six : (pl : Places) (x : Node) → sound s pl x ≡ true → call pl x .reply ≡ refused (by 6) → ⊥
 
 module _ (s : Settings) (beat : ℕ) where
   pub receive-lawful : (bytes : List ℕ) → Lawful s (λ pl x. receive s pl x beat bytes)
@@ -73,21 +73,21 @@ module _ {A : Type 0} (s : Settings) (call : Places → Node → Outcome A) (m :
     pub rest-blocks : drop (4 * y .lent .blocksUsed) (y .lent .blocks) ≡ drop (4 * y .lent .blocksUsed) (m .blocks)
     pub rest-votes : drop (4 * y .lent .votesUsed) (y .lent .votes) ≡ drop (4 * y .lent .votesUsed) (m .votes)
 
-  leave-refused : (r : Reply A) (x : Node) (k : ℕ) → leave r x m .reply ≡ refused k → leave r x m .lent ≡ m
+  leave-refused : (r : Reply A) (x : Node) (k : Refusal) → leave r x m .reply ≡ refused k → leave r x m .lent ≡ m
   unfolding leave
   leave-refused (refused j) x k e = refl
   leave-refused (done a) x k e = let z : _≡_ {A = ℕ} 0 1 = cc in absurd (omega arith)
 
-  on-refused : (b : Bool) (k : ℕ) → onLent b call m .reply ≡ refused k → onLent b call m .lent ≡ m
+  on-refused : (b : Bool) (k : Refusal) → onLent b call m .reply ≡ refused k → onLent b call m .lent ≡ m
   unfolding onLent
   on-refused true k e = leave-refused (call (placesOf m) (nodeOf m) .reply) (call (placesOf m) (nodeOf m) .node) k e
   on-refused false k e = refl
 
-  pub call-lent-refused : (k : ℕ) → callLent s call m .reply ≡ refused k → callLent s call m .lent ≡ m
+  pub call-lent-refused : (k : Refusal) → callLent s call m .reply ≡ refused k → callLent s call m .lent ≡ m
   unfolding callLent
   call-lent-refused k e = on-refused (lentSound s m) k e
 
-  pub call-lent-unsound : lentSound s m ≡ false → callLent s call m .reply ≡ refused 6
+  pub call-lent-unsound : lentSound s m ≡ false → callLent s call m .reply ≡ refused (by 6)
   unfolding callLent onLent
   call-lent-unsound e = rw e
 
@@ -125,7 +125,7 @@ module _ {A : Type 0} (s : Settings) (call : Places → Node → Outcome A) (m :
     unfolding callLent onLent
     call-lent = rw S (left (call (placesOf m) (nodeOf m) .reply) refl)
 
-    pub call-lent-not-six : callLent s call m .reply ≡ refused 6 → ⊥
+    pub call-lent-not-six : callLent s call m .reply ≡ refused (by 6) → ⊥
     call-lent-not-six e = L .not-six (placesOf m) (nodeOf m) (lent-true s m S .node) (sym (call-lent .reply) ∙ e)
 
 -- ---- the memory that our calls leave
@@ -155,12 +155,12 @@ pub write-lent : (s : Settings) (call : Places → Node → Written) (m : Lent) 
 unfolding writeLent
 write-lent s call m buffer S = rw S
 
-pub write-lent-refused : (s : Settings) (m : Lent) (proposal : Bool) (buffer : List ℕ) (k : ℕ)
+pub write-lent-refused : (s : Settings) (m : Lent) (proposal : Bool) (buffer : List ℕ) (k : Refusal)
     → writeLent s (λ pl x. write s pl x proposal buffer) m buffer .reply ≡ refused k → writeLent s (λ pl x. write s pl x proposal buffer) m buffer .buffer ≡ buffer
 unfolding writeLent
 write-lent-refused s m proposal buffer k = go (lentSound s m)
   where
-    go : (b : Bool) → cond b (write s (placesOf m) (nodeOf m) proposal buffer) (record { reply = refused 6; buffer = buffer }) .reply ≡ refused k
-        → cond b (write s (placesOf m) (nodeOf m) proposal buffer) (record { reply = refused 6; buffer = buffer }) .buffer ≡ buffer
+    go : (b : Bool) → cond b (write s (placesOf m) (nodeOf m) proposal buffer) (record { reply = refused (by 6); buffer = buffer }) .reply ≡ refused k
+        → cond b (write s (placesOf m) (nodeOf m) proposal buffer) (record { reply = refused (by 6); buffer = buffer }) .buffer ≡ buffer
     go true e = write-refused s (placesOf m) (nodeOf m) proposal buffer k e
     go false e = refl

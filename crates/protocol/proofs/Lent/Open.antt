@@ -9,7 +9,7 @@ use Rattle.protocol.specs.declared.Settings.{Settings}
 use Rattle.protocol.specs.Lists.{all}
 use Rattle.protocol.specs.Store.{fresh}
 use Rattle.protocol.specs.Sound.{between, placesSound}
-use Rattle.protocol.specs.Refusal.{first, Verdict, pass, refuse, refused, done, unless, answer}
+use Rattle.protocol.specs.Refusal.{Refusal, first, Verdict, pass, refuse, refused, done, unless, answer}
 use Rattle.protocol.specs.Calls.Open.{openTests, openNode}
 use Rattle.protocol.specs.Lent.{Lent, rowsOf, wordsOf, blockRow, placesIn, placesOf, nodeOf, marksSound, lentSound, cleared, openVerdict, openLent}
 use Rattle.protocol.proofs.Basics.Tests.{facts}
@@ -89,7 +89,7 @@ module _ (s : Settings) (m : Lent) where
       let p = answer-done (first (openTests s (placesOf m))) tt tt (sym (open-reply (first (openTests s (placesOf m))) m) ∙ d) in
       rw (p .0) (opened-lent s m (opens s (placesOf m) (p .0)))
 
-  pub open-lent-refused : (k : ℕ) → openLent s m .reply ≡ refused k → openLent s m .lent ≡ m
+  pub open-lent-refused : (k : Refusal) → openLent s m .reply ≡ refused k → openLent s m .lent ≡ m
   unfolding openLent openVerdict
   open-lent-refused k d = rw (answer-refused (first (openTests s (placesOf m))) tt k (sym (open-reply (first (openTests s (placesOf m))) m) ∙ d))
 

@@ -1,5 +1,5 @@
 -- Receive: the new entries of a packet wait at the tables' ends; the first proposal of the slot comes into view. Assumes nothing.
-use Prim.Native.Nat.{ℕ, _*_, _-_, _/_}
+use Prim.Native.Nat.{ℕ, suc, _*_, _-_, _/_}
 use mathlib.Core.Bool.{Bool, true, not, _&&_, _||_, cond}
 use mathlib.Core.List.{List, [], _∷_, _++_}
 use lib.ListN.{length, drop}
@@ -7,12 +7,12 @@ use lib.Dec.{eqb, leb, ltb}
 use Rattle.protocol.specs.declared.Settings.{Settings}
 use Rattle.protocol.specs.declared.Block.{Block}
 use Rattle.protocol.specs.declared.Vote.{Vote}
-use Rattle.protocol.specs.Lists.{any, all}
+use Rattle.protocol.specs.Lists.{any}
 use Rattle.protocol.specs.Chain.{Found, found, missing, find, foundWith, known, above}
 use Rattle.protocol.specs.Store.{entries, allWaiting, show, sameBlock, sameVote, Places, Node}
 use Rattle.protocol.specs.Sound.{between}
 use Rattle.protocol.specs.Packet.{Packet, packetOf, wellFormed}
-use Rattle.protocol.specs.Refusal.{Test, test, first, Outcome, unless, unsound, wrongBeat}
+use Rattle.protocol.specs.Refusal.{Test, test, testSection, first, Outcome, unless, unsound, wrongBeat}
 
 -- ---- what is stored: an entry that is not known yet goes to the end
 
@@ -36,7 +36,7 @@ blocksAfter x p = addBlocks (entries (x .blocks)) (p .blocks)
 unfoldable pub votesAfter : Node → Packet → List Vote
 votesAfter x p = addVotes (entries (x .votes)) (p .votes)
 
--- ---- the rules of refusal 9, at a beat of this slot
+-- ---- the rules of a packet's entries, at a beat of this slot
 
 unfoldable pub knownAs : Block → Found → Bool
 knownAs b missing = true
@@ -47,11 +47,6 @@ blockAllowed slot before b =
     between 1 slot (b .slot)
     && (foundWith (λ p. ltb (p .slot) (b .slot)) (find before (b .parent)) && knownAs b (find before (b .number)))
 
--- the store and earlier entries count as known
-unfoldable pub blocksAllowed : ℕ → List Block → List Block → Bool
-blocksAllowed slot before [] = true
-blocksAllowed slot before (b ∷ bs) = blockAllowed slot before b && blocksAllowed slot (addBlock before b) bs
-
 unfoldable pub voteAllowed : ℕ → ℕ → List Block → Vote → Bool
 voteAllowed n slot bs a =
     ltb (a .voter) n && (between 1 slot (a .slot) && foundWith (λ b. leb (b .slot) (a .slot)) (find bs (a .number)))
@@ -60,10 +55,17 @@ voteAllowed n slot bs a =
 unfoldable pub headerAllowed : Packet → Bool
 headerAllowed p = eqb (p .kind) 0 || any (λ b. eqb (b .number) (p .number) && eqb (b .slot) (p .slot)) (p .blocks)
 
-unfoldable pub packetAllowed : ℕ → ℕ → Node → Packet → Bool
-packetAllowed n slot x p =
-    blocksAllowed slot (entries (x .blocks)) (p .blocks)
-    && (all (voteAllowed n slot (blocksAfter x p)) (p .votes) && headerAllowed p)
+-- ---- the least index of an entry that breaks a rule, or how many entries there are
+
+-- a block, where those before it count as known
+unfoldable pub firstBadBlock : ℕ → List Block → List Block → ℕ
+firstBadBlock slot before [] = 0
+firstBadBlock slot before (b ∷ bs) = cond (blockAllowed slot before b) (suc (firstBadBlock slot (addBlock before b) bs)) 0
+
+-- a vote, where all blocks of the packet count as known
+unfoldable pub firstBadVote : ℕ → ℕ → List Block → List Vote → ℕ
+firstBadVote n slot bs [] = 0
+firstBadVote n slot bs (a ∷ rest) = cond (voteAllowed n slot bs a) (suc (firstBadVote n slot bs rest)) 0
 
 -- ---- what comes into view
 
@@ -84,7 +86,9 @@ receiveTests s pl x beat bytes =
     unsound s pl x
     ∷ wrongBeat x beat
     ∷ test 8 (not (wellFormed bytes))
-    ∷ test 9 (not (packetAllowed (s .nodes) (beat / 3) x p))
+    ∷ testSection 9 (firstBadBlock (beat / 3) (entries (x .blocks)) (p .blocks)) (p .blocks)
+    ∷ testSection 20 (firstBadVote (s .nodes) (beat / 3) (blocksAfter x p) (p .votes)) (p .votes)
+    ∷ test 21 (not (headerAllowed p))
     ∷ test 10 (ltb (pl .blocks) (length (blocksAfter x p)) || ltb (pl .votes) (length (votesAfter x p)))
     ∷ []
 

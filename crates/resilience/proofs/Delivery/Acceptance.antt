@@ -10,11 +10,12 @@ use Rattle.protocol.specs.Limits.{limits}
 use Rattle.protocol.specs.Chain.{genesis}
 use Rattle.protocol.specs.Store.{Node}
 use Rattle.protocol.specs.Packet.{Packet, packetOf, packetBytes}
-use Rattle.protocol.specs.Refusal.{first, pass, refuse}
-use Rattle.protocol.specs.Calls.Receive.{headerAllowed, packetAllowed, receiveTests}
+use Rattle.protocol.specs.Refusal.{by, first, pass, refuse}
+use Rattle.protocol.specs.Calls.Receive.{headerAllowed, receiveTests}
 use Rattle.protocol.specs.Calls.Write.{gossipOf, proposalOf, proposedNow, packetOut}
 use Rattle.protocol.proofs.Chain.Relations.{In}
 use Rattle.protocol.proofs.Filters.Relations.{Cast}
+use Rattle.protocol.proofs.Store.FirstBad.{Allowed}
 use Rattle.protocol.proofs.Store.Sound.{IsSound, sound-holds, VoteSound, store-sound}
 use Rattle.protocol.proofs.Store.Follow.{allFollow}
 use Rattle.protocol.proofs.Store.Views.{view-stored}
@@ -92,19 +93,19 @@ module _ {N : Network} (X : Execution N) where
     G : IsSound (settings N j) (N .places j) (world X k .node j)
     G = sound-tables X k j honest
 
-    rules-met : packetAllowed (N .nodes) (world X k .beat / 3) (world X k .node j) p ≡ true
+    rules-met : Allowed (N .nodes) (world X k .beat / 3) (world X k .node j) p
     rules-met =
         packet-allowed (OfRun X) (one-block X) slot (world X k .beat / 3) early (N .nodes) (world X k .node j) p (store-sound G)
         (stored-of-run X k (omega arith) j honest) (O .blocks) (O .follow) (O .votes) (O .header)
 
     -- only want of places is left
     left : (b : Bool) → lacking (N .places j) (world X k .node j) p ≡ b
-        → first (receiveTests (settings N j) (N .places j) (world X k .node j) (world X k .beat) (packetBytes p)) ≡ cond b (refuse 10) pass
+        → first (receiveTests (settings N j) (N .places j) (world X k .node j) (world X k .beat) (packetBytes p)) ≡ cond b (refuse (by 10)) pass
     left b e =
         verdict (settings N j) (N .places j) (world X k .node j) (world X k .beat) (packetBytes p) p (round-trip p (O .fits)) (sound-holds G)
         (seen-beat X k j honest) within
         (written-well p (O .fits)) rules-met
-        ∙ ap (λ b. cond b (refuse 10) pass) e
+        ∙ ap (λ b. cond b (refuse (by 10)) pass) e
 
     passes : first (receiveTests (settings N j) (N .places j) (world X k .node j) (world X k .beat) (packetBytes p)) ≡ pass
     unfolding at
@@ -115,7 +116,7 @@ module _ {N : Network} (X : Execution N) where
         go false e = left false e
         go true e =
             absurd (never-lacks X (suc k) l (world X k .beat) j (rw (ap (λ s. step N (world X k) s .log) is ∙ ap (λ o. o .log)
-            (receive-refused N (world X k) j (packetBytes p) 10 (left true e)))
+            (receive-refused N (world X k) j (packetBytes p) (by 10) (left true e)))
             (List·Memᴰ·head refl)))
 
     pub accepts : Receives (settings N j) (N .places j) (world X k .node j) (world X k .beat) (packetBytes p)

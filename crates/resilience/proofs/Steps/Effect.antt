@@ -8,7 +8,7 @@ use lib.ListN.{length}
 use lib.Seq.{take-append-seam}
 use Rattle.protocol.specs.Store.{Node}
 use Rattle.protocol.specs.Packet.{packetOf}
-use Rattle.protocol.specs.Refusal.{first, Outcome, Verdict, pass, refuse, unless}
+use Rattle.protocol.specs.Refusal.{Refusal, refusalNumber, first, Outcome, Verdict, pass, refuse, unless}
 use Rattle.protocol.specs.Calls.Receive.{receive, receivedOf, receiveInto, brings, receiveTests, Received}
 use Rattle.protocol.specs.Calls.Propose.{propose, proposeInto, baseOf, proposeTests}
 use Rattle.protocol.specs.Calls.Vote.{vote, voteInto, headOf, voteTests}
@@ -27,12 +27,12 @@ abbrev pub afterSend : Bool → Turn → Turn
 afterSend false u = afterGossip u
 afterSend true u = afterProposal u
 
--- what a refusal with this number puts in the log
-abbrev pub refusalLog : ℕ → ℕ → ℕ → List Event
-refusalLog b i k = cond (eqb k 10 || eqb k 18) (lacked b i ∷ []) []
+-- what a refusal puts in the log
+abbrev pub refusalLog : ℕ → ℕ → Refusal → List Event
+refusalLog b i k = cond (eqb (refusalNumber k) 10 || eqb (refusalNumber k) 18) (lacked b i ∷ []) []
 
-pub refusal-lacks : (b i k : ℕ) (e : Event) → List·Memᴰ e (refusalLog b i k) → e ≡ lacked b i
-refusal-lacks b i k e m = go (eqb k 10 || eqb k 18) m
+pub refusal-lacks : (b i : ℕ) (k : Refusal) (e : Event) → List·Memᴰ e (refusalLog b i k) → e ≡ lacked b i
+refusal-lacks b i k e m = go (eqb (refusalNumber k) 10 || eqb (refusalNumber k) 18) m
   where
     go : (t : Bool) → List·Memᴰ e (cond t (lacked b i ∷ []) []) → e ≡ lacked b i
     go true m = List·Memᴰ·eq-of-singleton m
@@ -46,7 +46,7 @@ module _ (N : Network) (w : World) where
   pub data Effect (s : Step) : Type 0 where
     began : s ≡ Begin → step N w s ≡ record { beat = w .beat + 1; node = w .node; turn = λ i. ahead; log = w .log } → Effect s
     idle : (i number : ℕ) → s ≡ Due i number → step N w s ≡ after w i (w .node i) (owes true false) (woke (w .beat) i ∷ []) → Effect s
-    declined : (i number : ℕ) → s ≡ Due i number → (k : ℕ)
+    declined : (i number : ℕ) → s ≡ Due i number → (k : Refusal)
         → step N w s ≡ after w i (w .node i) (owes true false) (refusalLog (w .beat) i k ++ (woke (w .beat) i ∷ [])) → Effect s
     proposed : (i number : ℕ) → s ≡ Due i number → (P : Proposes (settings N i) (N .places i) (w .node i) (w .beat) number)
         → step N w s ≡ after w i (proposeInto (settings N i) (w .node i) (w .beat) number) (owes true true)
@@ -59,11 +59,11 @@ module _ (N : Network) (w : World) where
     sending : (proposal : Bool) (i : ℕ) (buffer : List ℕ) → s ≡ Send proposal i buffer
         → Wrote (settings N i) (N .places i) (w .node i) proposal buffer (length (packetOut proposal (w .node i)))
         → step N w s ≡ after w i (w .node i) (afterSend proposal (w .turn i)) (sent (w .beat) i (packetOut proposal (w .node i)) ∷ []) → Effect s
-    unsent : (proposal : Bool) (i : ℕ) (buffer : List ℕ) → s ≡ Send proposal i buffer → (k : ℕ)
+    unsent : (proposal : Bool) (i : ℕ) (buffer : List ℕ) → s ≡ Send proposal i buffer → (k : Refusal)
         → step N w s ≡ after w i (w .node i) (afterSend proposal (w .turn i)) (refusalLog (w .beat) i k) → Effect s
     accepted : (i : ℕ) (bytes : List ℕ) → s ≡ Receive i bytes → (R : Receives (settings N i) (N .places i) (w .node i) (w .beat) bytes)
         → step N w s ≡ after w i (receivedNode i bytes) (w .turn i) (given (w .beat) i bytes true ∷ []) → Effect s
-    rejected : (i : ℕ) (bytes : List ℕ) → s ≡ Receive i bytes → (k : ℕ)
+    rejected : (i : ℕ) (bytes : List ℕ) → s ≡ Receive i bytes → (k : Refusal)
         → step N w s ≡ after w i (w .node i) (w .turn i) (refusalLog (w .beat) i k ++ (given (w .beat) i bytes false ∷ [])) → Effect s
 
   -- ---- the call of a beat
@@ -150,7 +150,7 @@ module _ (N : Network) (w : World) where
         ∙ ap (λ bytes. after w i (w .node i) (afterSend proposal (w .turn i)) (sent (w .beat) i bytes ∷ []))
         (take-append-seam (packetOut proposal (w .node i)) _)
 
-    pub send-refused : (k : ℕ) → first (writeTests (settings N i) (N .places i) (w .node i) proposal buffer) ≡ refuse k
+    pub send-refused : (k : Refusal) → first (writeTests (settings N i) (N .places i) (w .node i) proposal buffer) ≡ refuse k
         → step N w (Send proposal i buffer) ≡ after w i (w .node i) (afterSend proposal (w .turn i)) (refusalLog (w .beat) i k)
     unfolding write writeUnless
     send-refused k q = send-step proposal i buffer ∙ ap afterWrite q
@@ -183,7 +183,7 @@ module _ (N : Network) (w : World) where
     unfolding step receive unless
     receive-done q = ap receiveBy q
 
-    pub receive-refused : (k : ℕ) → first (receiveTests (settings N i) (N .places i) (w .node i) (w .beat) bytes) ≡ refuse k
+    pub receive-refused : (k : Refusal) → first (receiveTests (settings N i) (N .places i) (w .node i) (w .beat) bytes) ≡ refuse k
         → step N w (Receive i bytes) ≡ after w i (w .node i) (w .turn i) (refusalLog (w .beat) i k ++ (given (w .beat) i bytes false ∷ []))
     unfolding step receive unless
     receive-refused k q = ap receiveBy q

@@ -12,7 +12,7 @@ use Rattle.protocol.specs.Packet.{bytesOf, numberOf, field, flat, section, entr
 use Rattle.protocol.specs.Refusal.{first, unless}
 use Rattle.protocol.specs.Sound.{between, settingsSound, placesSound, clockSound, blockSound, restSound, blocksSound, voteSound, votesSound, sound}
 use Rattle.protocol.specs.Calls.Open.{openTests, openNode}
-use Rattle.protocol.specs.Calls.Receive.{addBlock, addBlocks, addVote, addVotes, blocksAfter, votesAfter, knownAs, blockAllowed, blocksAllowed, voteAllowed, headerAllowed, packetAllowed, brings, stoodOn, receiveTests, receivedOf, receiveInto, receive}
+use Rattle.protocol.specs.Calls.Receive.{addBlock, addBlocks, addVote, addVotes, blocksAfter, votesAfter, knownAs, blockAllowed, voteAllowed, headerAllowed, firstBadBlock, firstBadVote, brings, stoodOn, receiveTests, receivedOf, receiveInto, receive}
 use Rattle.protocol.specs.Calls.Propose.{baseOf, proposeTests, propose}
 use Rattle.protocol.specs.Calls.Vote.{headOf, voteTests, vote}
 use Rattle.protocol.specs.Calls.Merge.{mergeTests, merge}
@@ -26,7 +26,7 @@ abbrev pub Move : Type 0
 Move = World → Step
 
 unfoldable pub runs : Network → World → List Move → World
-unfolding step dueAt below allowed any all find foundWith slotIn upGo upStep aboveIn above conflict equivocates counted window later latest choiceOf kept count supports weight isChild beats better bestChild walkStep walkIn walk weightAt head base allWaiting entries inView show showAll sameBlock sameVote bytesOf numberOf field flat section entriesAt headBytes blockBytes voteBytes packetAs blockAt voteAt packetAt packetBytes packetOf headerFormed wellFormed first unless between settingsSound placesSound clockSound blockSound restSound blocksSound voteSound votesSound sound openTests openNode addBlock addBlocks addVote addVotes blocksAfter votesAfter knownAs blockAllowed blocksAllowed voteAllowed headerAllowed packetAllowed brings stoodOn receiveTests receivedOf receiveInto receive baseOf proposeTests propose headOf voteTests vote mergeTests merge lastBlock afterGenesis gossipOf proposalOf proposedNow packetOut over writeTests writeUnless write
+unfolding step dueAt below allowed any all find foundWith slotIn upGo upStep aboveIn above conflict equivocates counted window later latest choiceOf kept count supports weight isChild beats better bestChild walkStep walkIn walk weightAt head base allWaiting entries inView show showAll sameBlock sameVote bytesOf numberOf field flat section entriesAt headBytes blockBytes voteBytes packetAs blockAt voteAt packetAt packetBytes packetOf headerFormed wellFormed first unless between settingsSound placesSound clockSound blockSound restSound blocksSound voteSound votesSound sound openTests openNode addBlock addBlocks addVote addVotes blocksAfter votesAfter knownAs blockAllowed voteAllowed headerAllowed firstBadBlock firstBadVote brings stoodOn receiveTests receivedOf receiveInto receive baseOf proposeTests propose headOf voteTests vote mergeTests merge lastBlock afterGenesis gossipOf proposalOf proposedNow packetOut over writeTests writeUnless write
 runs N w [] = w
 runs N w (m ∷ ms) = runs N (step N w (m w)) ms
 

@@ -1,18 +1,17 @@
--- `cases::untouched` meets its contract. Assumes nothing.
+-- `trials::touched` meets its contract. Assumes nothing.
 use Prim.Native.Nat.{_-_}
-use lib.ListN.{length}
 use borrow.Author.Needs.{needs}
-use Rattle.cases.proofs.untouched.Statement.{statement}
-use Rattle.cases.proofs.untouched.Tie as tie
+use Rattle.trials.proofs.touched.Statement.{statement}
+use Rattle.trials.proofs.touched.Tie as tie
 
 abbrev Inv-loop : tie.InvT-loop
 Inv-loop buffer end₀ i₀ end i = Unit {0}
 
 abbrev μ-loop : tie.MeasureT-loop
-μ-loop buffer end₀ i₀ end i = length buffer - i
+μ-loop buffer end₀ i₀ end i = 100 - i
 
-pub untouched-spec : {M : Type 1} → statement M
-untouched-spec =
+pub touched-spec : {M : Type 1} → statement M
+touched-spec =
     tie.close
     (tie.spec
     Inv-loop

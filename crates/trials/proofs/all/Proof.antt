@@ -1,9 +1,9 @@
--- `cases::all` meets its contract. Assumes nothing.
+-- `trials::all` meets its contract. Assumes nothing.
 use Prim.Native.Nat.{_-_}
 use lib.ListN.{length}
 use borrow.Author.Needs.{needs}
-use Rattle.cases.proofs.all.Statement.{statement}
-use Rattle.cases.proofs.all.Tie as tie
+use Rattle.trials.proofs.all.Statement.{statement}
+use Rattle.trials.proofs.all.Tie as tie
 
 abbrev Inv-loop : tie.InvT-loop
 Inv-loop words x same₀ i₀ same i = Unit {0}

@@ -1,22 +1,24 @@
--- `cases::equal` meets its contract. Assumes nothing.
+-- `trials::copy` meets its contract. Assumes nothing.
 use Prim.Native.Nat.{_-_}
+use mathlib.Core.Path.{_≡_}
 use lib.ListN.{length}
 use borrow.Author.Needs.{needs}
-use Rattle.cases.proofs.equal.Statement.{statement}
-use Rattle.cases.proofs.equal.Tie as tie
+use Rattle.trials.proofs.copy.Statement.{statement}
+use Rattle.trials.proofs.copy.Tie as tie
 
 abbrev Inv-loop : tie.InvT-loop
-Inv-loop a b same₀ i₀ same i = Unit {0}
+Inv-loop from to₀ i₀ to i = length to ≡ length to₀
 
 abbrev μ-loop : tie.MeasureT-loop
-μ-loop a b same₀ i₀ same i = length a - i
+μ-loop from to₀ i₀ to i = length from - i
 
-pub equal-spec : {M : Type 1} → statement M
-equal-spec =
+pub copy-spec : {M : Type 1} → statement M
+copy-spec =
     tie.close
     (tie.spec
     Inv-loop
     μ-loop
+    (λ c. search needs)
     (λ c. search needs)
     (λ c. search needs)
     (λ c. search needs)

@@ -1,14 +1,14 @@
--- `cases::show_rows` meets its contract. Assumes nothing.
+-- `trials::show_rows` meets its contract. Assumes nothing.
 use Prim.Native.Nat.{_-_}
 use borrow.Author.Needs.{needs}
-use Rattle.cases.proofs.show_rows.Statement.{statement}
-use Rattle.cases.proofs.show_rows.Tie as tie
+use Rattle.trials.proofs.show_rows.Statement.{statement}
+use Rattle.trials.proofs.show_rows.Tie as tie
 
 abbrev Inv-loop : tie.InvT-loop
 Inv-loop words used i₀ i = Unit {0}
 
 abbrev μ-loop : tie.MeasureT-loop
-μ-loop words used i₀ i = 16 - i
+μ-loop words used i₀ i = 64 - i
 
 pub show-rows-spec : {M : Type 1} → statement M
 show-rows-spec =

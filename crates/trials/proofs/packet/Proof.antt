@@ -1,0 +1,33 @@
+-- `trials::packet` meets its contract. Assumes nothing.
+use Prim.Native.Nat.{_-_, _*_, _≤_}
+use mathlib.Core.Path.{_≡_}
+use lib.ListN.{length}
+use borrow.Author.Needs.{needs}
+use Rattle.trials.proofs.packet.Statement.{statement}
+use Rattle.trials.proofs.packet.Tie as tie
+
+abbrev Inv-loop : tie.InvT-loop
+Inv-loop words bytes₀ n votes place₀ i₀ bytes place i = (length bytes ≡ length bytes₀) × (place ≤ 8 * i)
+
+abbrev μ-loop : tie.MeasureT-loop
+μ-loop words bytes₀ n votes place₀ i₀ bytes place i = 32 - i
+
+pub packet-spec : {M : Type 1} → statement M
+packet-spec =
+    tie.close
+    (tie.spec
+    Inv-loop
+    μ-loop
+    (λ c κs. search needs)
+    (λ c. search needs)
+    (λ c. search needs)
+    (λ c. search needs)
+    (λ c. search needs)
+    (λ c κs. search needs)
+    (λ c κs. search needs)
+    (λ c κs. search needs)
+    (λ c. search needs)
+    (λ c. search needs)
+    (λ c. search needs)
+    (λ c. search needs)
+    (λ c. search needs))

@@ -1,0 +1,402 @@
+// What a program of cases needs besides the node: the numbers of a line, tables and packets made of them, and how answers are written.
+use answers::Answer;
+use answers::Reply;
+use answers::Taken;
+use answers::Written;
+use protocol::Clock;
+use protocol::Settings;
+ghost use Prim.Native.Nat.{_+_, _≤_};
+ghost use Rattle.io.specs.Counts.{Counts};
+
+// ---- the input
+
+fn digit(byte: u8) -> bool {
+    48 <= byte && byte <= 57
+}
+
+// A number with one more digit.
+fn longer(x: u64, byte: u8) -> u64 {
+    if x < 1000000000000000000 && 48 <= byte {
+        return 10 * x + (byte - 48) as u64;
+    }
+    0
+}
+
+fn add_digit(words: &mut [u64], at: usize, byte: u8) {
+    if at < words.len() && digit(byte) {
+        words[at] = longer(words[at], byte);
+    }
+}
+
+// How many numbers are whole, at a byte behind one that is or is not a digit.
+fn counted(count: usize, before: bool, here: bool) -> usize {
+    if before && !here {
+        if count < 1000 {
+            return count + 1;
+        }
+    }
+    count
+}
+
+// Puts the numbers of a line into words that are zero, and answers how many there are.
+pub fn numbers(line: &[u8], words: &mut [u64]) -> usize {
+    let mut count = 0;
+    let mut before = false;
+    let mut i = 0;
+    while i < line.len() {
+        let here = digit(line[i]);
+        count = counted(count, before, here);
+        add_digit(words, count, line[i]);
+        before = here;
+        i += 1;
+    }
+    counted(count, before, false)
+}
+
+// The place of a byte, or the length.
+pub fn find(bytes: &[u8], byte: u8) -> usize
+    ensures { λ r. ⌜ Counts r (now (bytes .entry)) ⌝ }
+{
+    let mut i = 0;
+    while i < bytes.len() && bytes[i] != byte {
+        i += 1;
+    }
+    i
+}
+
+// A byte that is not there counts as 0.
+pub fn byte_at(bytes: &[u8], i: usize) -> u8 {
+    if i < bytes.len() {
+        return bytes[i];
+    }
+    0
+}
+
+// A length, cut to the one that there is.
+pub fn within(n: usize, words: &[u64]) -> usize
+    ensures { λ r. ⌜ Counts r (now (words .entry)) ⌝ }
+{
+    if n < words.len() {
+        return n;
+    }
+    words.len()
+}
+
+pub fn within_bytes(n: usize, bytes: &[u8]) -> usize
+    ensures { λ r. ⌜ Counts r (now (bytes .entry)) ⌝ }
+{
+    if n < bytes.len() {
+        return n;
+    }
+    bytes.len()
+}
+
+// A word that is not there counts as 0.
+pub fn at(words: &[u64], i: usize) -> u64 {
+    if i < words.len() {
+        return words[i];
+    }
+    0
+}
+
+// The same, as a length or a count.
+pub fn size(words: &[u64], i: usize) -> usize {
+    at(words, i) as usize
+}
+
+pub fn settings(words: &[u64]) -> Settings {
+    Settings {
+        nodes: at(words, 0),
+        own: at(words, 1),
+        expiry: at(words, 2),
+        depth: at(words, 3),
+    }
+}
+
+pub fn clock(words: &[u64]) -> Clock {
+    Clock {
+        seen: at(words, 0),
+        done: at(words, 1),
+        merged: at(words, 2),
+        proposed: at(words, 3),
+    }
+}
+
+// ---- tables
+
+pub fn copy(from: &[u64], to: &mut [u64]) {
+    let mut i = 0;
+    while i < from.len() && i < to.len() {
+        to[i] = from[i];
+        i += 1;
+    }
+}
+
+fn fill(table: &mut [u64], x: u64) {
+    let mut i = 0;
+    while i < table.len() {
+        table[i] = x;
+        i += 1;
+    }
+}
+
+// The given words, and one word in all other places.
+pub fn lay(table: &mut [u64], words: &[u64]) {
+    if words.len() < 3 {
+        return;
+    }
+    let n = within(size(words, 0), table);
+    fill(&mut table[..n], at(words, 1));
+    copy(&words[3..], table);
+}
+
+// Whether the words of a table are those at the start of its copy.
+pub fn same_words(copy: &[u64], words: &[u64]) -> bool {
+    let mut same = true;
+    let mut i = 0;
+    while i < words.len() {
+        if at(copy, i) != words[i] {
+            same = false;
+        }
+        i += 1;
+    }
+    same
+}
+
+fn all(words: &[u64], x: u64) -> bool {
+    let mut same = true;
+    let mut i = 0;
+    while i < words.len() {
+        if words[i] != x {
+            same = false;
+        }
+        i += 1;
+    }
+    same
+}
+
+pub fn same_clock(a: Clock, b: Clock) -> bool {
+    a.seen == b.seen && a.done == b.done && a.merged == b.merged && a.proposed == b.proposed
+}
+
+// ---- packets
+
+// A number below 256, low byte first: the bytes above it stay zero.
+fn put(bytes: &mut [u8], at: usize, x: u64) {
+    if at < bytes.len() && x < 256 {
+        bytes[at] = x as u8;
+    }
+}
+
+// How many bytes number i of a line takes in its packet. Number 0 is the beat, 1 to 3 are the header, 4 is the count of blocks, which follow,
+// and `votes` is where the count of votes stands, which follow.
+fn width(i: usize, votes: usize) -> usize
+    ensures { λ r. ⌜ r ≤ 8 ⌝ }
+{
+    if i == 4 || i == votes {
+        return 2;
+    }
+    if 4 < i && i < votes {
+        return block_width(i % 3);
+    }
+    if i < 4 {
+        return vote_width((i + 2) % 3);
+    }
+    vote_width(i % 3)
+}
+
+// Of a block: slot, number, parent.
+fn block_width(third: usize) -> usize
+    ensures { λ r. ⌜ r ≤ 8 ⌝ }
+{
+    if third == 1 {
+        return 4;
+    }
+    8
+}
+
+// Of a vote: voter, slot, number. The header's kind, slot and number take the same.
+fn vote_width(third: usize) -> usize
+    ensures { λ r. ⌜ r ≤ 8 ⌝ }
+{
+    match third {
+        0 => 1,
+        1 => 4,
+        _ => 8,
+    }
+}
+
+// The place behind number i, which is left out if the line has not so many.
+fn behind(place: usize, i: usize, count: usize, votes: usize) -> usize
+    requires { ⌜ place ≤ 1000 ⌝ }
+    ensures { λ r. ⌜ r ≤ place + 8 ⌝ }
+{
+    if i < count {
+        return place + width(i, votes);
+    }
+    place
+}
+
+// Writes a line's numbers from the kind on into bytes that are zero, and answers the length. At most three blocks.
+fn packet(words: &[u64], bytes: &mut [u8]) -> usize {
+    let n = size(words, 4);
+    if 3 < n {
+        return 0;
+    }
+    let votes = 5 + 3 * n;
+    let mut place = 0;
+    let mut i = 1;
+    while i < 32 {
+        put(bytes, place, at(words, i));
+        place = behind(place, i, words.len(), votes);
+        i += 1;
+    }
+    place
+}
+
+// The bytes of a call, by its first letter; only Receive has any.
+pub fn length(letter: u8, words: &[u64], bytes: &mut [u8]) -> usize {
+    match letter {
+        b'r' => packet(words, bytes),
+        b'b' => size(words, 1),
+        _ => 0,
+    }
+}
+
+// ---- what is written
+
+pub fn text(bytes: &[u8]) {
+    io::write_all(1, bytes);
+}
+
+fn number(n: u64) {
+    io::print_decimal(1, n);
+}
+
+fn named(name: &[u8], n: u64) {
+    text(name);
+    number(n);
+}
+
+fn show_refusal(refusal: verdicts::Refusal) {
+    let n = verdicts::number(refusal);
+    named(b"refused ", n);
+    if n == 9 || n == 20 {
+        named(b" at ", verdicts::index(refusal) as u64);
+    }
+}
+
+pub fn show_clock(clock: Clock) {
+    named(b", clock ", clock.seen);
+    named(b" ", clock.done);
+    named(b" ", clock.merged);
+    named(b" ", clock.proposed);
+}
+
+// A row: its three numbers, and whether it is in view.
+fn show_row(words: &[u64], i: usize)
+    requires { ⌜ i ≤ 1000 ⌝ }
+{
+    named(b" ", at(words, i));
+    named(b"/", at(words, i + 1));
+    named(b"/", at(words, i + 2));
+    if at(words, i + 3) == 1 {
+        text(b" seen");
+        return;
+    }
+    text(b" waiting");
+}
+
+pub fn show_rows(words: &[u64], used: usize) {
+    let mut i = 0;
+    while i < 64 {
+        if i < used {
+            show_row(words, 4 * i);
+        }
+        i += 1;
+    }
+}
+
+fn show_taken(taken: Taken) {
+    named(b"received ", taken.new_blocks);
+    named(b" blocks ", taken.new_votes);
+    text(b" votes");
+    if taken.brought {
+        text(b" in view");
+    }
+}
+
+pub fn refused(reply: Reply) -> bool {
+    match reply {
+        Reply::Refused(_) => true,
+        Reply::Done => false,
+        Reply::Received(_) => false,
+        Reply::Block(_) => false,
+    }
+}
+
+pub fn show_reply(reply: Reply) {
+    match reply {
+        Reply::Refused(refusal) => show_refusal(refusal),
+        Reply::Done => text(b"done"),
+        Reply::Received(taken) => show_taken(taken),
+        Reply::Block(block) => named(b"block ", block),
+    }
+}
+
+pub fn show_answer(answer: Answer) {
+    match answer {
+        Answer::Block(block) => named(b"block ", block),
+        Answer::Nothing => text(b"none"),
+        Answer::Refused(refusal) => show_refusal(refusal),
+    }
+}
+
+pub fn show_same(same: bool) {
+    if same {
+        text(b", memory as before");
+        return;
+    }
+    text(b", MEMORY CHANGED");
+}
+
+pub fn show_zeros(blocks: &[u64], votes: &[u64]) {
+    if blocks.len() < 4 {
+        return;
+    }
+    if all(&blocks[4..], 0) && all(votes, 0) {
+        text(b", zero elsewhere");
+        return;
+    }
+    text(b", NOT ZERO ELSEWHERE");
+}
+
+// The place behind the last byte that is not 238.
+pub fn touched(buffer: &[u8; 100]) -> u64 {
+    let mut end = 0;
+    let mut i = 0;
+    while i < 100 {
+        if buffer[i] != 238 {
+            end = i + 1;
+        }
+        i += 1;
+    }
+    end as u64
+}
+
+pub fn show_written(answer: Written, touched: u64) {
+    match answer {
+        Written::Length(n) => {
+            named(b"wrote ", n);
+            named(b" bytes, untouched beyond ", touched);
+        }
+        Written::Refused(refusal) => {
+            show_refusal(refusal);
+            if touched == 0 {
+                text(b", buffer as before");
+                return;
+            }
+            text(b", BUFFER CHANGED");
+        }
+    }
+}

@@ -3,7 +3,7 @@
 use Prim.Native.Nat.{ℕ, zero, suc, _+_, _*_, _≤_, _<_}
 use mathlib.Core.Bool.{Bool, true, false}
 use mathlib.Core.List.{List, [], _∷_, _++_}
-use mathlib.Core.Path.{_≡_, refl, ap, _∙_}
+use mathlib.Core.Path.{_≡_, refl, ap, sym, _∙_}
 use native.Mathlib.Nat.{add-zero}
 use native.Mathlib.Numerals.{add-one}
 use native.Mathlib.Omega.{arith}
@@ -63,6 +63,12 @@ module _ {A : Type 0} (make : Make A) where
   rows-front ws n zero h = refl
   rows-front ws zero (suc i) h = absurd (omega arith)
   rows-front ws (suc n) (suc i) h = ap (λ (r : List A). headRow ws ∷ r) (rows-front (drop 4 ws) n i (omega arith))
+
+  -- one row more
+  pub rows-more : (ws : List ℕ) (i : ℕ) → rowsOf make ws (i + 1) ≡ rowsOf make ws i ++ (rowAt make ws i ∷ [])
+  rows-more ws i =
+      sym (rows-front ws (i + 1) (i + 1) (omega arith)) ∙ take-rowsOf ws (i + 1) i (omega arith)
+      ∙ ap (λ (r : List A). r ++ (rowAt make ws i ∷ [])) (rows-front ws (i + 1) i (omega arith))
 
   -- ---- one turn of a loop over the rows, where row i was read as a; and its end
 

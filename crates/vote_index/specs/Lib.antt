@@ -1,0 +1,2 @@
+-- The index of votes. Assumes nothing.
+pub mod Index

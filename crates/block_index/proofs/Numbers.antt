@@ -1,23 +1,28 @@
 -- What the index says of the blocks of a table: the place of a number, and numbers that differ, a row more. Assumes nothing.
 use Prim.Native.Nat.{ℕ, _+_, _≤_, _<_}
-use mathlib.Core.Bool.{false, cond}
+use mathlib.Core.Bool.{Bool, true, false, cond}
 use mathlib.Core.List.{List}
 use mathlib.Core.Path.{_≡_, refl, ap, sym, _∙_}
 use native.Mathlib.Omega.{arith}
 use borrow.Author.Tests.{eq-eqb, ne-eqb}
 use lib.Dec.{eqb, leb}
-use lib.ListN.{length, set, replicate, length-replicate, length-set}
+use lib.ListN.{length, set, take, drop, replicate, length-replicate, length-set, take-append-drop}
+use Rattle.protocol.specs.declared.Block.{Block}
 use Rattle.protocol.specs.Chain.{genesis}
-use Rattle.protocol.specs.Store.{visible}
+use Rattle.protocol.specs.Store.{Marked, visible}
 use Rattle.protocol.specs.Lent.{rowsOf, makeBlock}
 use Rattle.protocol.proofs.Lent.Rows.{length-rowsOf}
 use Rattle.rows.specs.Rows.{rowAt}
 use Rattle.rows.proofs.Rows.{getD-rowsOf, rows-front, rows-more}
+use Rattle.search_tree.specs.Lists.{distinct}
 use Rattle.search_tree.specs.Tree.{Sought}
-use Rattle.search_tree.proofs.Lists.{place-front, distinct-new, distinct-old}
+use Rattle.search_tree.proofs.Lists.{place-front, distinct-new, distinct-old, distinct-front}
 use Rattle.search_tree.proofs.Tree.{index-none, index-old, index-new}
 use Rattle.search_tree.proofs.Rows.{Decides, Lists, place-told}
 use Rattle.block_index.specs.Index.{numberAt, numberShape, numbersDiffer, placeOfNumber, BlockIndex}
+
+abbrev sameNumber : Marked Block → Marked Block → Bool
+sameNumber a b = eqb (a .entry .number) (b .entry .number)
 
 decides : Decides eqb
 decides = record { yes = eq-eqb; no = ne-eqb }
@@ -60,13 +65,13 @@ module _ (ws : List ℕ) (i : ℕ) {place : ℕ} (e : place ≡ placeOfNumber (r
   unfolding placeOfNumber numbersDiffer
   differ-new z =
       rw (rows-more makeBlock ws i)
-      (distinct-new (λ a b. eqb (a .entry .number) (b .entry .number)) (rowsOf makeBlock ws i) (rowAt makeBlock ws i) (sym e ∙ z))
+      (distinct-new sameNumber (rowsOf makeBlock ws i) (rowAt makeBlock ws i) (sym e ∙ z))
 
   pub differ-old : (place ≡ 0 → ⊥) → numbersDiffer (rowsOf makeBlock ws (i + 1)) ≡ false
   unfolding placeOfNumber numbersDiffer
   differ-old f =
       rw (rows-more makeBlock ws i)
-      (distinct-old (λ a b. eqb (a .entry .number) (b .entry .number)) (rowsOf makeBlock ws i) (rowAt makeBlock ws i) (λ z. f (e ∙ z)))
+      (distinct-old sameNumber (rowsOf makeBlock ws i) (rowAt makeBlock ws i) (λ z. f (e ∙ z)))
 
 -- the place among the first i, from the place among all: a number stands before row i if its place is at most i
 pub place-before : (ws : List ℕ) (n i x : ℕ) → i ≤ n
@@ -75,3 +80,9 @@ unfolding placeOfNumber
 place-before ws n i x h =
     let z : 0 + i ≡ i = omega arith in
     rw (← rows-front makeBlock ws n i h) (rw z at (place-front (λ m. eqb (m .entry .number) x) (rowsOf makeBlock ws n) 0 i))
+
+pub differ-before : (ws : List ℕ) (n i : ℕ) → i ≤ n → numbersDiffer (rowsOf makeBlock ws n) ≡ true → numbersDiffer (rowsOf makeBlock ws i) ≡ true
+unfolding numbersDiffer
+differ-before ws n i h e =
+    rw (← rows-front makeBlock ws n i h)
+    (distinct-front sameNumber (take i (rowsOf makeBlock ws n)) (drop i (rowsOf makeBlock ws n)) (ap (distinct sameNumber) (take-append-drop i (rowsOf makeBlock ws n)) ∙ e))

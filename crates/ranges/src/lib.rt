@@ -1,13 +1,16 @@
-// The rules of sound tables that look at numbers alone: settings, clock, places and marks.
+// The rules of sound tables that look at numbers alone: settings, clock, places, and the marks, voters and slots of rows.
 // No function keeps an array: the largest call takes less than 1 KB of stack.
 use protocol::Clock;
 use protocol::Settings;
+ghost use mathlib.Core.Bool.{_&&_};
 ghost use mathlib.Core.Path.{_≡_};
 ghost use Prim.Native.Nat.{_*_, _≤_};
 ghost use lib.ListN.{length};
 ghost use lib.Dec.{leb};
+ghost use Rattle.protocol.specs.Lists.{all};
 ghost use Rattle.protocol.specs.Sound.{settingsSound, clockSound, placesSound, between};
-ghost use Rattle.protocol.specs.Lent.{placesIn, marksSound};
+ghost use Rattle.protocol.specs.Lent.{placesIn, marksSound, rowsOf, makeBlock, makeVote};
+ghost use Rattle.ranges.specs.Rows.{blockInRange, voteInRange};
 
 pub fn within(low: u64, high: u64, x: u64) -> bool
     ensures { λ r. ⌜ r ≡ between low high x ⌝ }
@@ -80,15 +83,40 @@ pub fn fits(words: &[u64], used: usize) -> bool
     used <= places_in(words)
 }
 
-// Whether the marks of the used rows are 0 or 1.
-pub fn marks_sound(words: &[u64], used: usize) -> bool
-    requires { ⌜ 4 * used ≤ length (now words) ⌝ }
-    ensures { λ r. ⌜ r ≡ marksSound (now (words .entry)) used ⌝ }
+// Whether the marks of the used rows are 0 or 1, and no slot is above `slot`. One pass over the rows.
+pub fn blocks_in_range(blocks: &[u64], used: usize, slot: u64) -> bool
+    requires { ⌜ 4 * used ≤ length (now blocks) ⌝ }
+    ensures { λ r. ⌜ r ≡ (marksSound (now (blocks .entry)) used && all (blockInRange slot) (rowsOf makeBlock (now (blocks .entry)) used)) ⌝ }
 {
     let mut i: usize = 0;
     while i < used {
-        let mark = rows::mark_at(words, i);
-        if mark > 1 {
+        if rows::mark_at(blocks, i) > 1 {
+            return false;
+        }
+        let row = rows::block_at(blocks, i);
+        if row.block.slot > slot {
+            return false;
+        }
+        i += 1;
+    }
+    true
+}
+
+// Whether the marks of the used rows are 0 or 1, every voter is below `nodes` and every slot from 1 to `slot`. One pass over the rows.
+pub fn votes_in_range(votes: &[u64], used: usize, nodes: u64, slot: u64) -> bool
+    requires { ⌜ 4 * used ≤ length (now votes) ⌝ }
+    ensures { λ r. ⌜ r ≡ (marksSound (now (votes .entry)) used && all (voteInRange nodes slot) (rowsOf makeVote (now (votes .entry)) used)) ⌝ }
+{
+    let mut i: usize = 0;
+    while i < used {
+        if rows::mark_at(votes, i) > 1 {
+            return false;
+        }
+        let row = rows::vote_at(votes, i);
+        if row.vote.voter >= nodes {
+            return false;
+        }
+        if !within(1, slot, row.vote.slot) {
             return false;
         }
         i += 1;

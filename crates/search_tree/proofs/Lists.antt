@@ -3,12 +3,13 @@ use Prim.Native.Nat.{ℕ, zero, suc, _+_, _≤_, _<_}
 use mathlib.Core.Bool.{Bool, true, false, not, _&&_, _||_, cond, and-true, and-false}
 use mathlib.Core.List.{List, [], _∷_, _++_}
 use mathlib.Core.Logic.{_⊎_, inl, inr}
-use mathlib.Core.Path.{_≡_, refl, sym, _∙_}
+use mathlib.Core.Path.{_≡_, refl, ap, sym, _∙_}
 use native.Mathlib.Omega.{arith}
 use borrow.Author.Tests.{le-leb, lt-leb}
 use lib.Dec.{leb}
 use lib.ListN.{length, getD, take}
 use Rattle.protocol.specs.Lists.{any}
+use Rattle.protocol.proofs.Basics.Tests.{both, and-left, and-right}
 use Rattle.protocol.proofs.Basics.Members.{any-append}
 use Rattle.search_tree.specs.Lists.{placeFrom, placeOf, distinct}
 
@@ -28,7 +29,7 @@ module _ {A : Type 0} (d : A) (p : A → Bool) where
 
 module _ {A : Type 0} (p : A → Bool) where
   -- a place that is found lies at or past the start
-  place-past : (xs : List A) (o : ℕ) → (placeFrom p o xs ≡ 0) ⊎ (o < placeFrom p o xs)
+  pub place-past : (xs : List A) (o : ℕ) → (placeFrom p o xs ≡ 0) ⊎ (o < placeFrom p o xs)
   unfolding placeFrom
   place-past [] o = inl refl
   place-past (x ∷ xs) o = go (p x) (place-past xs (suc o))
@@ -94,3 +95,15 @@ module _ {A : Type 0} (same : A → A → Bool) where
 
   pub distinct-old : (xs : List A) (x : A) → (placeOf (λ y. same y x) xs ≡ 0 → ⊥) → distinct same (xs ++ (x ∷ [])) ≡ false
   distinct-old xs x f = distinct-end xs x ∙ rw (any-some (λ y. same y x) xs 0 f) (and-false (distinct same xs))
+
+  -- a front
+  pub distinct-front : (xs ys : List A) → distinct same (xs ++ ys) ≡ true → distinct same xs ≡ true
+  unfolding distinct
+  distinct-front [] ys e = refl
+  distinct-front (x ∷ xs) ys e =
+      both (front (any (same x) xs) (any (same x) ys) (ap not (sym (any-append (same x) xs ys)) ∙ and-left _ _ e))
+      (distinct-front xs ys (and-right (not (any (same x) (xs ++ ys))) _ e))
+    where
+      front : (a b : Bool) → not (a || b) ≡ true → not a ≡ true
+      front true b h = h
+      front false b h = refl

@@ -2,14 +2,20 @@
 use Prim.Native.Nat.{ℕ, _/_}
 use mathlib.Core.Bool.{Bool, true, false, _&&_, and-false}
 use mathlib.Core.List.{List}
-use mathlib.Core.Path.{_≡_, sym, _∙_}
+use mathlib.Core.Path.{_≡_, refl, ap, sym, _∙_}
 use lib.Dec.{leb}
 use Rattle.protocol.specs.declared.Settings.{Settings}
 use Rattle.protocol.specs.declared.Clock.{Clock}
+use Rattle.protocol.specs.Lists.{all}
 use Rattle.protocol.specs.Store.{Places}
-use Rattle.protocol.specs.Sound.{settingsSound, placesSound, clockSound, blocksSound, votesSound, sound}
+use Rattle.protocol.specs.Sound.{settingsSound, placesSound, clockSound, sound}
 use Rattle.protocol.specs.Lent.{Lent, rowsOf, makeBlock, makeVote, placesIn, placesOf, nodeOf, marksSound, lentSound}
 use Rattle.protocol.proofs.Lent.Rows.{length-rowsOf}
+use Rattle.ranges.specs.Rows.{blockInRange, voteInRange}
+use Rattle.block_index.specs.Index.{numbersDiffer}
+use Rattle.vote_index.specs.Index.{votesDiffer}
+use Rattle.soundness.specs.Parts.{chainSound, votedSound, tablesSound}
+use Rattle.soundness.proofs.Split.{blocks-split, votes-split}
 
 module _ (s : Settings) (clock : Clock) (bw : List ℕ) (bu : ℕ) (vw : List ℕ) (vu : ℕ) where
   abbrev lent : Lent
@@ -18,22 +24,42 @@ module _ (s : Settings) (clock : Clock) (bw : List ℕ) (bu : ℕ) (vw : List �
   abbrev places : Places
   places = record { blocks = placesIn bw; votes = placesIn vw }
 
-  abbrev blockTest : Bool
-  blockTest = blocksSound (clock .seen / 3) (rowsOf makeBlock bw bu)
+  abbrev blockRanges : Bool
+  blockRanges = marksSound bw bu && all (blockInRange (clock .seen / 3)) (rowsOf makeBlock bw bu)
 
-  abbrev voteTest : Bool
-  voteTest = votesSound (s .nodes) (clock .seen / 3) (rowsOf makeBlock bw bu) (rowsOf makeVote vw vu)
+  abbrev voteRanges : Bool
+  voteRanges = marksSound vw vu && all (voteInRange (s .nodes) (clock .seen / 3)) (rowsOf makeVote vw vu)
+
+  abbrev tables : Bool
+  tables = tablesSound (rowsOf makeBlock bw bu) (rowsOf makeVote vw vu)
 
   whole : lentSound s lent
-      ≡ (marksSound bw bu
-      && (marksSound vw vu
-      && (settingsSound s
-      && (placesSound places && (leb bu (placesIn bw) && (leb vu (placesIn vw) && (clockSound clock && (blockTest && voteTest))))))))
-  unfolding lentSound sound placesOf nodeOf
-  whole = rw (length-rowsOf makeBlock bw bu, length-rowsOf makeVote vw vu)
+      ≡ (settingsSound s
+      && (placesSound places && (leb bu (placesIn bw) && (leb vu (placesIn vw) && (clockSound clock && (blockRanges && (voteRanges && tables)))))))
+  unfolding lentSound sound placesOf nodeOf tablesSound
+  whole =
+      let bs = rowsOf makeBlock bw bu in
+      let vs = rowsOf makeVote vw vu in
+      let slot = clock .seen / 3 in
+      rw (length-rowsOf makeBlock bw bu, length-rowsOf makeVote vw vu, blocks-split slot bs, votes-split (s .nodes) slot bs vs)
+      (order (marksSound bw bu) (marksSound vw vu) (settingsSound s) (placesSound places) (leb bu (placesIn bw)) (leb vu (placesIn vw)) (clockSound clock)
+      (all (blockInRange slot) bs) (numbersDiffer bs) (chainSound bs) (all (voteInRange (s .nodes) slot) vs) (all (votedSound bs) vs && votesDiffer vs))
+    where
+      inner : (r d k v w : Bool) → ((r && (d && k)) && (v && w)) ≡ (r && (v && (d && (k && w))))
+      inner false d k v w = refl
+      inner true true true v w = refl
+      inner true true false v w = sym (and-false v)
+      inner true false k v w = sym (and-false v)
+
+      order : (a b s p f g c r d k v w : Bool)
+          → (a && (b && (s && (p && (f && (g && (c && ((r && (d && k)) && (v && w)))))))))
+          ≡ (s && (p && (f && (g && (c && ((a && r) && ((b && v) && (d && (k && w)))))))))
+      order true true s p f g c r d k v w = ap (λ (x : Bool). s && (p && (f && (g && (c && x))))) (inner r d k v w)
+      order true false s p f g c r d k v w = sym (simp and-false)
+      order false b s p f g c r d k v w = sym (simp and-false)
 
   pub no-settings : settingsSound s ≡ false → false ≡ lentSound s lent
-  no-settings e = sym (whole ∙ simp (e, and-false))
+  no-settings e = sym (whole ∙ rw e)
 
   pub no-places : placesSound places ≡ false → false ≡ lentSound s lent
   no-places e = sym (whole ∙ simp (e, and-false))
@@ -47,16 +73,13 @@ module _ (s : Settings) (clock : Clock) (bw : List ℕ) (bu : ℕ) (vw : List �
   pub no-clock : clockSound clock ≡ false → false ≡ lentSound s lent
   no-clock e = sym (whole ∙ simp (e, and-false))
 
-  pub no-block-marks : marksSound bw bu ≡ false → false ≡ lentSound s lent
-  no-block-marks e = sym (whole ∙ simp (e, and-false))
+  pub no-block-ranges : blockRanges ≡ false → false ≡ lentSound s lent
+  no-block-ranges e = sym (whole ∙ simp (e, and-false))
 
-  pub no-vote-marks : marksSound vw vu ≡ false → false ≡ lentSound s lent
-  no-vote-marks e = sym (whole ∙ simp (e, and-false))
+  pub no-vote-ranges : voteRanges ≡ false → false ≡ lentSound s lent
+  no-vote-ranges e = sym (whole ∙ simp (e, and-false))
 
-  pub no-blocks : blockTest ≡ false → false ≡ lentSound s lent
-  no-blocks e = sym (whole ∙ simp (e, and-false))
-
-  -- all others pass: the votes decide
-  pub votes-left : settingsSound s ≡ true → placesSound places ≡ true → leb bu (placesIn bw) ≡ true → leb vu (placesIn vw) ≡ true
-      → clockSound clock ≡ true → marksSound bw bu ≡ true → marksSound vw vu ≡ true → blockTest ≡ true → voteTest ≡ lentSound s lent
-  votes-left a b c d e f g h = sym (whole ∙ rw (f, g, a, b, c, d, e, h))
+  -- all others pass: what looks at several rows decides
+  pub tables-left : settingsSound s ≡ true → placesSound places ≡ true → leb bu (placesIn bw) ≡ true → leb vu (placesIn vw) ≡ true
+      → clockSound clock ≡ true → blockRanges ≡ true → voteRanges ≡ true → tables ≡ lentSound s lent
+  tables-left a b c d e f g = sym (whole ∙ rw (a, b, c, d, e, f, g))

@@ -1,1 +1,2 @@
--- Soundness needs no definitions of its own. Assumes nothing.
+-- The rules of sound tables in the order in which code tests them. Assumes nothing.
+pub mod Parts

@@ -1,5 +1,5 @@
 -- A parent, or the block of a vote, by the place that the index of all blocks gives. Assumes nothing.
-use Prim.Native.Nat.{ℕ, zero, suc, _-_, _≤_, _<_}
+use Prim.Native.Nat.{ℕ, suc, _-_, _≤_, _<_}
 use mathlib.Core.Bool.{Bool, true, false, not, _&&_, _||_}
 use mathlib.Core.List.{List}
 use mathlib.Core.Path.{_≡_, sym, _∙_}
@@ -12,7 +12,7 @@ use Rattle.protocol.specs.Lent.{rowsOf, makeBlock}
 use Rattle.rows.specs.Rows.{rowAt}
 use Rattle.rows.proofs.Find.{place-below, found-at, found-none}
 use Rattle.block_index.specs.Index.{numbersDiffer, placeOfNumber}
-use Rattle.block_index.proofs.Numbers.{place-before, differ-before}
+use Rattle.block_index.proofs.Numbers.{place-before}
 use Rattle.block_index.proofs.Found.{at-place, missing-place, view-at}
 
 -- a test of the block with number x, in view if the entry that asks is shown

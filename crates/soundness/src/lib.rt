@@ -20,7 +20,6 @@ ghost use Rattle.protocol.specs.Chain.{genesis, known};
 ghost use Rattle.protocol.specs.Store.{entries, sameBlock};
 ghost use Rattle.protocol.specs.Lent.{rowsOf, makeBlock, makeVote, lentSound};
 ghost use Rattle.rows.specs.Rows.{markedBlock, markedVote};
-ghost use Rattle.block_index.specs.Index.{numbersDiffer, BlockIndex};
 ghost use Rattle.vote_index.specs.Index.{votesDiffer};
 ghost use Rattle.soundness.specs.Parts.{parentSound, chainSound, votedSound, tablesSound, Indexed};
 

@@ -1,10 +1,9 @@
 -- The blocks of a table by number: their places, whether they differ, and the links that are an index of them. Assumes nothing.
-use Prim.Native.Nat.{ℕ, _*_, _/_, _%_, _≤_}
+use Prim.Native.Nat.{ℕ, _*_, _/_, _%_}
 use mathlib.Core.Bool.{Bool}
 use mathlib.Core.List.{List}
-use mathlib.Core.Path.{_≡_}
 use lib.Dec.{eqb}
-use lib.ListN.{length, getD}
+use lib.ListN.{getD}
 use Rattle.protocol.specs.declared.Block.{Block}
 use Rattle.protocol.specs.Store.{Marked}
 use Rattle.search_tree.specs.Lists.{placeOf, distinct}
@@ -25,8 +24,6 @@ numberAt ws i = getD ws (4 * i) 0
 abbrev pub numberShape : Shape ℕ ℕ
 numberShape = record { roots = 2048; radix = 4; root = λ k. k % 2048; first = λ k. k / 2048; digit = λ s. s % 4; rest = λ s. s / 4 }
 
--- the links are an index of the first n rows
-pub record BlockIndex (ws : List ℕ) (n : ℕ) (ls : List ℕ) : Type 0 where
-  pub few : n ≤ 2048
-  pub size : length ls ≡ 10240
-  pub tree : Index numberShape (numberAt ws) n ls
+-- the links are an index of the first n rows: 10,240 links for 2,048 rows
+abbrev pub BlockIndex : List ℕ → ℕ → List ℕ → Type 0
+BlockIndex ws n ls = Index numberShape 2048 (numberAt ws) n ls

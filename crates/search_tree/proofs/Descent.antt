@@ -5,7 +5,7 @@ use mathlib.Core.Path.{_≡_, refl, ap, sym, _∙_}
 use native.Mathlib.Omega.{arith}
 use native.Mathlib.Decide.{decLt}
 use lib.ListN.{getD}
-use Rattle.search_tree.specs.Tree.{Shape, linksOf, child, Reach, here, on, First, Index, Kept, Sought}
+use Rattle.search_tree.specs.Tree.{Shape, linksOf, child, Reach, here, on, First, Tree, Kept, Sought}
 
 -- the descent for k stands at a link, with s left of the key
 pub record Descent {K S : Type 0} (w : Shape K S) (key : ℕ → K) (n : ℕ) (ls : List ℕ) (k : K) (at : ℕ) (s : S) (link : ℕ) : Type 0 where
@@ -15,7 +15,7 @@ pub record Descent {K S : Type 0} (w : Shape K S) (key : ℕ → K) (n : ℕ) (l
   pub left : (j : ℕ) → First key n k j → Reach w ls j at s  -- every first row of key k is reached from here
   pub leads : (ms : List ℕ) → Kept ls ms → (j : ℕ) → Reach w ms j at s → Reach w ms j (w .root k) (w .first k)
 
-module _ {K S : Type 0} {w : Shape K S} {key : ℕ → K} {n : ℕ} {ls : List ℕ} (x : Index w key n ls) where
+module _ {K S : Type 0} {w : Shape K S} {key : ℕ → K} {n : ℕ} {ls : List ℕ} (x : Tree w key n ls) where
   -- a link leads to a row of the index
   link-le : (q : ℕ) → getD ls q 0 ≤ n
   link-le q = go (getD ls q 0) refl

@@ -1,9 +1,9 @@
 -- A digital search tree over rows. `key` gives the key of a row by its place; K are the keys, S is what is left of a key on the way down.
 -- `ls` are the links: one more than a row's place, or 0 where there is none. Assumes nothing.
-use Prim.Native.Nat.{ℕ, suc, _+_, _*_, _<_}
+use Prim.Native.Nat.{ℕ, suc, _+_, _*_, _≤_, _<_}
 use mathlib.Core.List.{List}
 use mathlib.Core.Path.{_≡_}
-use lib.ListN.{getD}
+use lib.ListN.{length, getD}
 
 -- how the tree branches: the links at first are roots, then come `radix` links for each row
 pub record Shape (K S : Type 0) : Type 0 where
@@ -40,9 +40,15 @@ pub record Link {K S : Type 0} (w : Shape K S) (key : ℕ → K) (n q p : ℕ) :
   pub fresh : (m : ℕ) → m < p → key m ≡ key p → ⊥
 
 -- the links are a tree of the first n rows: from the root of each key the first row of that key is reached
-pub record Index {K S : Type 0} (w : Shape K S) (key : ℕ → K) (n : ℕ) (ls : List ℕ) : Type 0 where
+pub record Tree {K S : Type 0} (w : Shape K S) (key : ℕ → K) (n : ℕ) (ls : List ℕ) : Type 0 where
   pub links : (q p : ℕ) → getD ls q 0 ≡ suc p → Link w key n q p
   pub reached : (k : K) (j : ℕ) → First key n k j → Reach w ls j (w .root k) (w .first k)
+
+-- the links are an index of the first n rows, with places for `most`
+pub record Index {K S : Type 0} (w : Shape K S) (most : ℕ) (key : ℕ → K) (n : ℕ) (ls : List ℕ) : Type 0 where
+  pub few : n ≤ most
+  pub size : length ls ≡ linksOf w most
+  pub tree : Tree w key n ls
 
 -- ms has every link of ls
 abbrev pub Kept : List ℕ → List ℕ → Type 0

@@ -1,9 +1,8 @@
 -- The votes of a table: their places, whether they differ, and the links that are an index of them. Assumes nothing.
-use Prim.Native.Nat.{ℕ, _+_, _*_, _/_, _%_, _^_, _≤_}
+use Prim.Native.Nat.{ℕ, _+_, _*_, _/_, _%_, _^_}
 use mathlib.Core.Bool.{Bool}
 use mathlib.Core.List.{List}
-use mathlib.Core.Path.{_≡_}
-use lib.ListN.{length, getD}
+use lib.ListN.{getD}
 use Rattle.protocol.specs.declared.Vote.{Vote}
 use Rattle.protocol.specs.Store.{Marked, sameVote}
 use Rattle.search_tree.specs.Lists.{placeOf, distinct}
@@ -35,8 +34,6 @@ restOf s = record { low = s .low / 4 + s .high % 4 * 4611686018427387904; high =
 abbrev pub voteShape : Shape Vote Digits
 voteShape = record { roots = 8192; radix = 4; root = rootOf; first = firstOf; digit = λ s. s .low % 4; rest = restOf }
 
--- the links are an index of the first n rows
-pub record VoteIndex (ws : List ℕ) (n : ℕ) (ls : List ℕ) : Type 0 where
-  pub few : n ≤ 8192
-  pub size : length ls ≡ 40960
-  pub tree : Index voteShape (voteAt ws) n ls
+-- the links are an index of the first n rows: 40,960 links for 8,192 rows
+abbrev pub VoteIndex : List ℕ → ℕ → List ℕ → Type 0
+VoteIndex ws n ls = Index voteShape 8192 (voteAt ws) n ls

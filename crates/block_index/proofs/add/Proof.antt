@@ -1,7 +1,9 @@
 -- `add` meets its contract. Assumes nothing.
 use borrow.Author.Needs.{needs}
 use native.Mathlib.Omega.{arith}
-use Rattle.block_index.proofs.Numbers.{placed, added-old, added-new, free-within}
+use mathlib.Core.Path.{refl}
+use Rattle.search_tree.proofs.Tree.{index-old, index-new, free-within}
+use Rattle.block_index.proofs.Numbers.{number-placed}
 use Rattle.block_index.proofs.add.Statement.{statement}
 use Rattle.block_index.proofs.add.Tie as tie
 
@@ -10,7 +12,7 @@ put-link-requires c κs =
     let i = c .before in
     let d = i .before in
     let s = d .before .before .before .before .before in
-    (free-within (s .pre .2) (s .pre .1) (d .descend .ensures) (i .if1 .taken), omega arith)
+    (free-within (s .pre .2) (s .pre .1) refl (d .descend .ensures) (i .if1 .taken), omega arith)
 
 returns : tie.Need-returns
 returns c =
@@ -18,13 +20,13 @@ returns c =
     let i = p .before .before in
     let d = i .before in
     let s = d .before .before .before .before .before in
-    (placed _ _ (d .descend .ensures), rw (p .put-link .ensures) (added-new (s .pre .2) (s .pre .1) (d .descend .ensures) (i .if1 .taken)))
+    (number-placed _ _ (d .descend .ensures), rw (p .put-link .ensures) (index-new (s .pre .2) (s .pre .1) refl (d .descend .ensures) (i .if1 .taken)))
 
 returns-2 : tie.Need-returns-2
 returns-2 c =
     let d = c .before in
     let s = d .before .before .before .before .before in
-    (placed _ _ (d .descend .ensures), added-old (s .pre .2) (s .pre .1) (d .descend .ensures) (c .if1 .left))
+    (number-placed _ _ (d .descend .ensures), index-old (s .pre .2) (s .pre .1) refl (d .descend .ensures) (c .if1 .left))
 
 pub add-spec : {M : Type 1} → statement M
 add-spec =

@@ -7,8 +7,9 @@ use mathlib.Core.Path.{_≡_, refl, sym, _∙_}
 use lib.ListN.{length}
 use Rattle.protocol.specs.Lent.{rowsOf, makeVote}
 use Rattle.search_tree.specs.Lists.{distinct}
+use Rattle.search_tree.proofs.Tree.{index-free}
 use Rattle.vote_index.specs.Index.{votesDiffer, VoteIndex}
-use Rattle.vote_index.proofs.Votes.{index-free, differ-new, differ-old}
+use Rattle.vote_index.proofs.Votes.{votes-new, votes-old}
 use Rattle.vote_index.proofs.build.Statement.{statement}
 use Rattle.vote_index.proofs.build.Tie as tie
 
@@ -21,7 +22,7 @@ abbrev μ-loop : tie.MeasureT-loop
 
 loop-holds : tie.Need-loop-holds Inv-loop μ-loop
 unfolding votesDiffer distinct rowsOf
-loop-holds c = (omega arith, refl, refl, index-free _ _ (c .before .before .pre .2))
+loop-holds c = (omega arith, refl, refl, index-free 8192 40960 _ (c .before .before .pre .2) refl)
 
 add-requires : tie.Need-add-requires Inv-loop μ-loop
 add-requires c κs = (omega arith, omega arith, c .before .before .loop .inv .3)
@@ -33,8 +34,8 @@ loop-again c =
       omega arith,
       a .add .kept .1 .1 .0 ∙ l .inv .1,
       ⊎-elim
-          (λ w. w .1 ∙ sym (differ-old _ _ (a .add .ensures .0) (w .0 .taken)))
-          (λ w. w .1 ∙ l .inv .2 ∙ sym (differ-new _ _ (a .add .ensures .0) (w .0 .left)))
+          (λ w. w .1 ∙ sym (votes-old _ _ (a .add .ensures .0) (w .0 .taken)))
+          (λ w. w .1 ∙ l .inv .2 ∙ sym (votes-new _ _ (a .add .ensures .0) (w .0 .left)))
           (c .if1 .came),
       a .add .ensures .1,
     )

@@ -23,7 +23,7 @@ ghost use Rattle.rows.specs.Rows.{markedBlock, markedVote};
 ghost use Rattle.vote_index.specs.Index.{votesDiffer};
 ghost use Rattle.soundness.specs.Parts.{parentSound, chainSound, votedSound, tablesSound, Indexed};
 
-// Whether the number is a block's.
+// Whether the number is a block's. The cost is one step for each block before it.
 pub fn known_block(blocks: &[u64], used: usize, number: u64) -> bool
     requires { ⌜ 4 * used ≤ length (now blocks) ⌝ }
     ensures { λ r. ⌜ r ≡ known (entries (rowsOf makeBlock (now (blocks .entry)) used)) number ⌝ }

@@ -57,6 +57,21 @@ pub missing-place : (ms : List (Marked Block)) (x : ℕ) → placeOfNumber ms x 
 unfolding placeOfNumber
 missing-place ms x e = missing-from 0 ms x e
 
+-- and back
+pub place-at : (ms : List (Marked Block)) (x k : ℕ) → placeOf ms x ≡ At k → k + 1 ≡ placeOfNumber ms x
+place-at ms x k e = go (placeOfNumber ms x) refl
+  where
+    go : (p : ℕ) → placeOfNumber ms x ≡ p → k + 1 ≡ p
+    go zero f = let q = missing-place ms x f in let z : _≡_ {A = ℕ} 0 1 = cc in absurd (omega arith)
+    go (suc j) f = let q = at-place ms x j f in let z : j ≡ k = cc in omega arith
+
+pub place-missing : (ms : List (Marked Block)) (x : ℕ) → placeOf ms x ≡ Missing → 0 ≡ placeOfNumber ms x
+place-missing ms x e = go (placeOfNumber ms x) refl
+  where
+    go : (p : ℕ) → placeOfNumber ms x ≡ p → 0 ≡ p
+    go zero f = refl
+    go (suc j) f = let q = at-place ms x j f in let z : _≡_ {A = ℕ} 0 1 = cc in absurd (omega arith)
+
 -- ---- where numbers differ, a number is that of a block in view if the block at its place is
 
 -- no other block has the number of a

@@ -8,9 +8,9 @@ use native.Mathlib.Omega.{arith}
 use lib.ListN.{length, getD, take}
 use lib.Seq.{take-all}
 use Rattle.protocol.specs.Lists.{any}
-use Rattle.protocol.specs.Store.{Marked, show}
+use Rattle.protocol.specs.Store.{Marked, entries, show}
 use Rattle.protocol.specs.Lent.{Make, rowsOf, stored, marksSound}
-use Rattle.protocol.proofs.Store.Views.{length-show, show-none}
+use Rattle.protocol.proofs.Store.Views.{length-show, entries-show, show-none}
 use Rattle.protocol.proofs.Lent.Rows.{Codec, rows-stored, marks-stored, stored-same, length-rowsOf}
 use Rattle.rows.proofs.Stored.{stored-longer}
 use Rattle.views.proofs.Shows.{show-one}
@@ -27,6 +27,9 @@ module _ {A : Type 0} {make : Make (Marked A)} {row : Marked A → List ℕ} (co
 
     pub rows-shown : rowsOf make ws n ≡ rs
     rows-shown = ap (λ (w : List ℕ). rowsOf make w n) e ∙ rows-stored codec rs ws₀ n long
+
+    pub entries-shown : entries (rowsOf make ws₀ n) ≡ entries (rowsOf make ws n)
+    entries-shown = sym (ap entries rows-shown ∙ entries-show p (rowsOf make ws₀ n))
 
     pub marks-shown : marksSound ws n ≡ true
     marks-shown = ap (λ (w : List ℕ). marksSound w n) e ∙ marks-stored codec rs ws₀ n long
@@ -53,6 +56,9 @@ module _ {A : Type 0} {make : Make (Marked A)} {row : Marked A → List ℕ} (co
     module _ (i : ℕ) {ws : List ℕ} (e : ws ≡ stored row (show (shownFor i) (rowsOf make ws₀ n)) ws₀) where
       pub each-rows : rowsOf make ws n ≡ show (shownFor i) (rowsOf make ws₀ n)
       each-rows = rows-shown ws₀ n (shownFor i) e
+
+      pub each-entries : entries (rowsOf make ws₀ n) ≡ entries (rowsOf make ws n)
+      each-entries = entries-shown ws₀ n (shownFor i) e
 
       pub each-marks : marksSound ws n ≡ true
       each-marks = marks-shown ws₀ n (shownFor i) e

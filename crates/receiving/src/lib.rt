@@ -1,6 +1,7 @@
 // A packet that was accepted is received: its new entries are stored, and those of a slot's first proposal come into view
-// with all that they stand on. With b and v for the blocks and votes of the tables, c and d for those of the packet:
-// blocks cost at most (c + d) × b + b × b, votes d × v. No function keeps an array.
+// with all that they stand on. Storing costs what `storing` says. Coming into view costs descents in an index of each table: one for each
+// of its rows, one for each entry of the packet, and for blocks one for each parent and each vote of the packet.
+// Stack: 20 KiB of links for blocks and then 80 KiB for votes, not at the same time.
 use protocol::Clock;
 ghost use mathlib.Core.Bool.{true};
 ghost use mathlib.Core.Path.{_≡_};
@@ -16,6 +17,7 @@ ghost use Rattle.protocol.specs.Lent.{rowsOf, stored, makeBlock, makeVote, bloc
 ghost use Rattle.protocol.specs.Calls.Receive.{addBlocks, addVotes, stoodOn, receiveInto, brings as bringsIn};
 ghost use Rattle.storing.specs.Grown.{Holds};
 ghost use Rattle.views.specs.Ancestors.{Ordered};
+ghost use Rattle.views.specs.Indexed.{BlocksIndexed};
 ghost use Rattle.receiving.specs.Accepted.{Carried, Accepted, onlyBlocks, onlyVotes, onlyClock};
 
 // Whether a packet is the first proposal of the beat's slot, in phase 0, and so comes into view.
@@ -37,9 +39,11 @@ pub fn brings(clock: Clock, beat: u64, bytes: &[u8]) -> bool
 
 // ---- what comes into view
 
-// The packet's blocks.
-pub fn show_blocks(blocks: &mut [u64], used: usize, bytes: &[u8])
-    requires { ⌜ (4 * used ≤ length (now blocks)) × (marksSound (now blocks) used ≡ true) × Ordered (rowsOf makeBlock (now blocks) used) ⌝ }
+// The packet's blocks, looked up in the links that `views::index_blocks` wrote; marks may have changed since.
+// The cost is a descent for each.
+pub fn show_blocks(blocks: &mut [u64], used: usize, links: &[u16], bytes: &[u8])
+    requires { ⌜ (4 * used ≤ length (now blocks)) × (marksSound (now blocks) used ≡ true) × Ordered (rowsOf makeBlock (now blocks) used)
+        × BlocksIndexed (now blocks) used (now links) ⌝ }
     ensures { λ r. ⌜ now (blocks .exit) ≡ stored blockRow (show (λ b. any (λ c. eqb (b .number) (c .number)) (packetOf (now (bytes .entry)) .blocks)) (rowsOf makeBlock (now (blocks .entry)) used)) (now (blocks .entry)) ⌝ }
 {
     let h = packets::header_of(bytes);
@@ -47,14 +51,15 @@ pub fn show_blocks(blocks: &mut [u64], used: usize, bytes: &[u8])
     let mut i: usize = 0;
     while i < count {
         let b = packets::block_at(bytes, i);
-        views::show_block(blocks, used, b.number);
+        views::show_block(blocks, used, links, b.number);
         i += 1;
     }
 }
 
-// The blocks that the packet's votes are for.
-pub fn show_voted(blocks: &mut [u64], used: usize, bytes: &[u8])
-    requires { ⌜ (4 * used ≤ length (now blocks)) × (marksSound (now blocks) used ≡ true) × Ordered (rowsOf makeBlock (now blocks) used) ⌝ }
+// The blocks that the packet's votes are for, looked up in the same way.
+pub fn show_voted(blocks: &mut [u64], used: usize, links: &[u16], bytes: &[u8])
+    requires { ⌜ (4 * used ≤ length (now blocks)) × (marksSound (now blocks) used ≡ true) × Ordered (rowsOf makeBlock (now blocks) used)
+        × BlocksIndexed (now blocks) used (now links) ⌝ }
     ensures { λ r. ⌜ now (blocks .exit) ≡ stored blockRow (show (λ b. any (λ a. eqb (b .number) (a .number)) (packetOf (now (bytes .entry)) .votes)) (rowsOf makeBlock (now (blocks .entry)) used)) (now (blocks .entry)) ⌝ }
 {
     let h = packets::header_of(bytes);
@@ -62,32 +67,37 @@ pub fn show_voted(blocks: &mut [u64], used: usize, bytes: &[u8])
     let mut i: usize = 0;
     while i < count {
         let a = packets::vote_at(bytes, i);
-        views::show_block(blocks, used, a.number);
+        views::show_block(blocks, used, links, a.number);
         i += 1;
     }
 }
 
 // All blocks that the packet stands on: its blocks, those that its votes are for, and their ancestors.
+// Stack: 20 KiB of links.
 pub fn show_stood_on(blocks: &mut [u64], used: usize, bytes: &[u8])
     requires { ⌜ (4 * used ≤ length (now blocks)) × (marksSound (now blocks) used ≡ true) × Carried (rowsOf makeBlock (now blocks) used) (packetOf (now bytes)) ⌝ }
     ensures { λ r. ⌜ now (blocks .exit) ≡ stored blockRow (show (λ b. stoodOn (entries (rowsOf makeBlock (now (blocks .entry)) used)) (packetOf (now (bytes .entry))) b) (rowsOf makeBlock (now (blocks .entry)) used)) (now (blocks .entry)) ⌝ }
 {
-    show_blocks(blocks, used, bytes);
-    show_voted(blocks, used, bytes);
-    views::show_ancestors(blocks, used);
+    let mut links = [0u16; 10240];
+    views::index_blocks(blocks, used, &mut links);
+    show_blocks(blocks, used, &links, bytes);
+    show_voted(blocks, used, &links, bytes);
+    views::show_ancestors(blocks, used, &links);
 }
 
-// The packet's votes.
+// The packet's votes. Stack: 80 KiB of links.
 pub fn show_votes(votes: &mut [u64], used: usize, bytes: &[u8])
     requires { ⌜ (4 * used ≤ length (now votes)) × (marksSound (now votes) used ≡ true) ⌝ }
     ensures { λ r. ⌜ now (votes .exit) ≡ stored voteRow (show (λ a. any (sameVote a) (packetOf (now (bytes .entry)) .votes)) (rowsOf makeVote (now (votes .entry)) used)) (now (votes .entry)) ⌝ }
 {
     let h = packets::header_of(bytes);
     let count = h.votes as usize;
+    let mut links = [0u16; 40960];
+    let indexed = views::index_votes(votes, used, &mut links);
     let mut i: usize = 0;
     while i < count {
         let a = packets::vote_at(bytes, i);
-        views::show_vote(votes, used, a);
+        views::show_vote(votes, used, &links, indexed, a);
         i += 1;
     }
 }

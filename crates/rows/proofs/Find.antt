@@ -66,9 +66,6 @@ hit i (m ∷ ms) x k e = go (eqb (m .entry .number) x) refl (λ q. hit (suc i) m
         let r = rec f in
         record { after = suc (r .after); is = omega (arith, r .is); below = omega (arith, r .below); finds = rw q (r .finds) }
 
-pub place-after : (i : ℕ) (ms : List (Marked Block)) (x k : ℕ) → placeFrom i ms x ≡ At k → i ≤ k
-place-after i ms x k e = omega (arith, hit i ms x k e .is)
-
 module _ (ws : List ℕ) (n x k : ℕ) (e : placeOf (rowsOf makeBlock ws n) x ≡ At k) where
   pub place-below : k < n
   place-below =

@@ -40,6 +40,16 @@ module _ {A : Type 0} (p : A → Bool) where
       go false (inl e) = inl e
       go false (inr l) = inr (omega arith)
 
+  -- and at most at the last member
+  pub place-most : (xs : List A) (o : ℕ) → placeFrom p o xs ≤ o + length xs
+  unfolding placeFrom
+  place-most [] o = omega arith
+  place-most (x ∷ xs) o = go (p x) (place-most xs (suc o))
+    where
+      go : (t : Bool) → placeFrom p (suc o) xs ≤ suc o + length xs → cond t (suc o) (placeFrom p (suc o) xs) ≤ o + suc (length xs)
+      go true r = omega arith
+      go false r = omega arith
+
   -- the place among the first i is the place among all, if that is one of the first i
   pub place-front : (xs : List A) (o i : ℕ) → placeFrom p o (take i xs) ≡ cond (leb (placeFrom p o xs) (o + i)) (placeFrom p o xs) 0
   unfolding placeFrom

@@ -3,5 +3,7 @@ pub mod Shows
 pub mod Order
 pub mod Ancestors
 pub mod One
+pub mod Found
+pub mod Indexed
 pub mod Pass
 pub mod Proposal

@@ -1,27 +1,28 @@
 -- Tables in order: numbers stand once, and parents stand before their children. Assumes nothing.
 use Prim.Native.Nat.{ℕ, zero, suc, _+_, _<_}
-use mathlib.Core.Bool.{Bool, true, false, _||_, cond, or-true, or-false}
+use mathlib.Core.Bool.{Bool, true, false, cond}
 use mathlib.Core.List.{List, [], _∷_, _++_, List·Memᴰ, List·Memᴰ·head, List·Memᴰ·tail, List·Memᴰ·cases-cons, List·Memᴰ·not-nil, Memᴰ·append-right, append-assoc, append-nil, head-eq-of-cons-eq}
 use mathlib.Core.Logic.{_⊎_, inl, inr}
 use mathlib.Core.Path.{_≡_, refl, ap, sym, _∙_}
 use native.Mathlib.Omega.{arith}
 use lib.Dec.{eqb}
-use lib.ListN.{getD, take, drop, set}
+use lib.ListN.{take, drop}
 use borrow.Author.Tests.{eqb-true}
 use Rattle.protocol.specs.declared.Block.{Block}
+use Rattle.protocol.specs.Lists.{any}
 use Rattle.protocol.specs.Chain.{genesis}
-use Rattle.protocol.specs.Store.{Marked, visible, entries, inView, show, showAll}
-use Rattle.protocol.proofs.Basics.Tests.{and-right}
+use Rattle.protocol.specs.Store.{Marked, entries, inView, show, showAll}
+use Rattle.protocol.proofs.Basics.Tests.{and-right, not-passes}
+use Rattle.protocol.proofs.Basics.Members.{any-true}
 use Rattle.protocol.proofs.Chain.Above.{parent-known}
 use Rattle.protocol.proofs.Chain.Relations.{In, Sound}
 use Rattle.protocol.proofs.Store.Follow.{allFollow, blockFollows, follow-apart}
 use Rattle.protocol.proofs.Store.Tables.{Table, table-true, table-holds, table-sound}
 use Rattle.protocol.proofs.Store.Views.{entries-all, view-all, view-stored}
-use Rattle.rows.specs.declared.Place.the-variants.{At, Missing}
-use Rattle.rows.specs.Find.{placeFrom}
-use Rattle.rows.proofs.Find.{place-after}
+use Rattle.search_tree.specs.Lists.{distinct}
+use Rattle.block_index.specs.Index.{numbersDiffer}
 use Rattle.views.specs.Ancestors.{Ordered}
-use Rattle.views.proofs.Shows.{show-idle, all-show}
+use Rattle.views.proofs.Shows.{all-show}
 
 -- ---- numbers stand once
 
@@ -54,39 +55,19 @@ shown-row (x ∷ xs) A m n k = go (x .shown) refl k (List·Memᴰ·cases-cons n)
     go true s h (inr o) rec = here (List·Memᴰ·cases-cons h) o (rec o)
     go false s h (inr o) rec = rec o h
 
--- ---- the block with number x comes into view
+-- as code tests it
+pub apart-differ : (ms : List (Marked Block)) → Apart (entries ms) → numbersDiffer ms ≡ true
+unfolding numbersDiffer distinct Apart entries
+apart-differ [] A = refl
+apart-differ (m ∷ ms) A = rw (not-passes other) (apart-differ ms (A .1))
+  where
+    other : any (λ b. eqb (m .entry .number) (b .entry .number)) ms ≡ true → ⊥
+    other e =
+        let r = any-true (λ b. eqb (m .entry .number) (b .entry .number)) ms e in
+        A .0 (r .0 .entry) (entry-in ms (r .0) (r .1)) (eqb-true (m .entry .number) (r .0 .entry .number) (r .2))
 
 abbrev pub numbered : ℕ → Block → Bool
 numbered x b = eqb (b .number) x
-
-none-numbered : (ms : List (Marked Block)) (x : ℕ) → ((d : Block) → In d (entries ms) → x ≡ d .number → ⊥) → show (numbered x) ms ≡ ms
-none-numbered ms x f = show-idle (numbered x) ms (λ m n e. absurd (f (m .entry) (entry-in ms m n) (sym (eqb-true (m .entry .number) x e))))
-
--- by its place
-pub set-show : (i : ℕ) (ms : List (Marked Block)) (x k j : ℕ) (m : Marked Block) → Apart (entries ms) → placeFrom i ms x ≡ At k → k ≡ i + j → m ≡ getD ms j m
-    → set ms j (visible (m .entry)) ≡ show (numbered x) ms
-unfolding Apart entries placeFrom show
-set-show i [] x k j m A e q g = let z : _≡_ {A = ℕ} 0 1 = cc in absurd (omega arith)
-set-show i (c ∷ ms) x k j m A e q g = go (eqb (c .entry .number) x) refl e j q g (λ o h r f. set-show (suc i) ms x k o m (A .1) h r f)
-  where
-    go : (t : Bool) → eqb (c .entry .number) x ≡ t → cond t (At i) (placeFrom (suc i) ms x) ≡ At k → (o : ℕ) → k ≡ i + o → m ≡ getD (c ∷ ms) o m
-        → ((o : ℕ) → placeFrom (suc i) ms x ≡ At k → k ≡ suc i + o → m ≡ getD ms o m → set ms o (visible (m .entry)) ≡ show (numbered x) ms)
-        → set (c ∷ ms) o (visible (m .entry)) ≡ record { entry = c .entry; shown = c .shown || t } ∷ show (numbered x) ms
-    go true s h zero r f rec =
-        rw (or-true (c .shown), f, none-numbered ms x (λ d n v. A .0 d n (eqb-true (c .entry .number) x s ∙ v)))
-    go true s h (suc o) r f rec = let z : i ≡ k = cc in absurd (omega arith)
-    go false s h zero r f rec = absurd (omega (arith, place-after (suc i) ms x k h))
-    go false s h (suc o) r f rec = rw (or-false (c .shown), rec o h (omega arith) f)
-
-pub missing-show : (i : ℕ) (ms : List (Marked Block)) (x : ℕ) → placeFrom i ms x ≡ Missing → show (numbered x) ms ≡ ms
-unfolding placeFrom show
-missing-show i [] x e = refl
-missing-show i (c ∷ ms) x e = go (eqb (c .entry .number) x) (λ h. missing-show (suc i) ms x h) e
-  where
-    go : (t : Bool) → (placeFrom (suc i) ms x ≡ Missing → show (numbered x) ms ≡ ms) → cond t (At i) (placeFrom (suc i) ms x) ≡ Missing
-        → record { entry = c .entry; shown = c .shown || t } ∷ show (numbered x) ms ≡ c ∷ ms
-    go true rec h = let z : _≡_ {A = ℕ} 0 1 = cc in absurd (omega arith)
-    go false rec h = rw (or-false (c .shown), rec h)
 
 -- ---- parents stand before their children
 

@@ -6,10 +6,10 @@ use mathlib.Core.Path.{_≡_, refl, ap, sym, _∙_}
 use native.Mathlib.Omega.{arith}
 use lib.ListN.{length}
 use Rattle.protocol.specs.declared.Block.{Block}
-use Rattle.protocol.specs.Store.{Marked, inView, show}
+use Rattle.protocol.specs.Store.{Marked, entries, inView, show}
 use Rattle.protocol.specs.Lent.{rowsOf, stored, makeBlock, blockRow, marksSound}
 use Rattle.protocol.proofs.Store.Tables.{Closed}
-use Rattle.protocol.proofs.Store.Views.{length-show}
+use Rattle.protocol.proofs.Store.Views.{length-show, entries-show}
 use Rattle.protocol.proofs.Lent.Rows.{block-codec, rows-stored, marks-stored, stored-same, length-rowsOf}
 use Rattle.rows.specs.Rows.{rowAt}
 use Rattle.rows.proofs.Rows.{drop-read, drop-end}
@@ -22,6 +22,7 @@ use Rattle.views.proofs.Ancestors.{ClosedFrom, closed-end, closed-waits
 pub record Pass (ws₀ : List ℕ) (n : ℕ) (ws : List ℕ) (i : ℕ) : Type 0 where
   pub holds : ws ≡ stored blockRow (rowsOf makeBlock ws n) ws₀
   pub marks : marksSound ws n ≡ true
+  pub entered : entries (rowsOf makeBlock ws₀ n) ≡ entries (rowsOf makeBlock ws n)
   pub ordered : Ordered (rowsOf makeBlock ws n)
   pub same : showAncestors (rowsOf makeBlock ws n) ≡ showAncestors (rowsOf makeBlock ws₀ n)
   pub closed : ClosedFrom i (rowsOf makeBlock ws n)
@@ -31,6 +32,7 @@ module _ (ws₀ : List ℕ) (n : ℕ) where
   pass-begin h k O = record {
     holds = sym (stored-same block-codec ws₀ n k h);
     marks = k;
+    entered = refl;
     ordered = O;
     same = refl;
     closed = closed-end (rowsOf makeBlock ws₀ n) n (drop-end makeBlock ws₀ n n (omega arith));
@@ -45,6 +47,7 @@ module _ (ws₀ : List ℕ) (n : ℕ) where
     pass-waits s = record {
       holds = P .holds;
       marks = P .marks;
+      entered = P .entered;
       ordered = P .ordered;
       same = P .same;
       closed = closed-waits (rowsOf makeBlock ws n) j m (drop-read makeBlock ws n j h r) later s;
@@ -62,6 +65,7 @@ module _ (ws₀ : List ℕ) (n : ℕ) where
               ∙ stored-longer block-codec N R ws₀ (omega (arith, l, length-rowsOf makeBlock ws n))
               ∙ ap (λ (o : List (Marked Block)). stored blockRow o ws₀) (sym rows);
           marks = rw q (marks-stored block-codec N ws n l);
+          entered = P .entered ∙ sym (ap entries rows ∙ entries-show (numbered (m .entry .parent)) R);
           ordered = rw rows (ordered-show R (P .ordered) (numbered (m .entry .parent)));
           same = ap showAncestors rows ∙ parent-same R (P .ordered) (m .entry) (row-shown R j m d later (P .ordered) z s) (row-number R j m d later (P .ordered) z s) ∙ P .same;
           closed = rw rows (closed-brings R j m d later (P .ordered) z s);

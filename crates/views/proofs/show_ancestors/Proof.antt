@@ -4,23 +4,25 @@ use native.Mathlib.Omega.{arith}
 use Prim.Native.Nat.{_≤_}
 use mathlib.Core.Path.{_≡_, refl, _∙_}
 use lib.ListN.{length}
+use Rattle.views.proofs.Indexed.{blocks-indexed}
 use Rattle.views.proofs.Pass.{Pass, pass-begin, pass-waits, pass-shows, pass-end}
 use Rattle.views.proofs.show_ancestors.Statement.{statement}
 use Rattle.views.proofs.show_ancestors.Tie as tie
 
 abbrev Inv-loop : tie.InvT-loop
-Inv-loop blocks₀ used i₀ blocks i = (i ≤ used) × (length blocks ≡ length blocks₀) × Pass blocks₀ used blocks i
+Inv-loop blocks₀ used links i₀ blocks i = (i ≤ used) × (length blocks ≡ length blocks₀) × Pass blocks₀ used blocks i
 
 abbrev μ-loop : tie.MeasureT-loop
-μ-loop blocks₀ used i₀ blocks i = i
+μ-loop blocks₀ used links i₀ blocks i = i
 
 loop-holds : tie.Need-loop-holds Inv-loop μ-loop
-loop-holds c = let s = c .before in (omega arith, refl, pass-begin _ _ (s .pre .0) (s .pre .1) (s .pre .2))
+loop-holds c = let s = c .before .before in (omega arith, refl, pass-begin _ _ (s .pre .0) (s .pre .1) (s .pre .2))
 
 show-block-requires : tie.Need-show-block-requires Inv-loop μ-loop
 show-block-requires c κs =
-    let l = c .before .before .before .before .before .loop in
-    (omega arith, l .inv .2 .marks, l .inv .2 .ordered)
+    let p = c .before .before .before .before .before in
+    let l = p .loop in
+    (omega arith, l .inv .2 .marks, l .inv .2 .ordered, blocks-indexed _ _ _ (l .inv .2 .entered) (p .before .before .before .pre .3))
 
 loop-again : tie.Need-loop-again Inv-loop μ-loop
 loop-again c =

@@ -1,7 +1,7 @@
 // A packet that was accepted is received: its new entries are stored, and those of a slot's first proposal come into view
 // with all that they stand on. Storing costs what `storing` says. Coming into view costs descents in an index of each table: one for each
 // of its rows, one for each entry of the packet, and for blocks one for each parent and each vote of the packet.
-// Stack: 20 KiB of links for blocks and then 80 KiB for votes, not at the same time.
+// Stack: 20 KiB of links for blocks, and after them 80 KiB for votes.
 use protocol::Clock;
 ghost use mathlib.Core.Bool.{true};
 ghost use mathlib.Core.Path.{_≡_};

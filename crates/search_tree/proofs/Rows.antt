@@ -1,10 +1,11 @@
 -- What an index says of the rows of a table: the place of a key, and keys that differ, a row more. Assumes nothing.
-use Prim.Native.Nat.{ℕ, zero, suc, _+_, _<_}
+use Prim.Native.Nat.{ℕ, zero, suc, _+_, _≤_, _<_}
 use mathlib.Core.Bool.{Bool, true, false}
 use mathlib.Core.List.{List, [], _∷_, _++_}
 use mathlib.Core.Path.{_≡_, refl, ap, sym, _∙_}
 use native.Mathlib.Omega.{arith}
-use lib.ListN.{length, getD}
+use lib.ListN.{length, getD, take}
+use lib.Seq.{length-take-le, getD-take}
 use Rattle.search_tree.specs.Lists.{placeOf, distinct}
 use Rattle.search_tree.specs.Tree.{Shape, Sought}
 use Rattle.search_tree.proofs.Lists.{place-hit, place-none, distinct-new, distinct-old}
@@ -21,24 +22,31 @@ pub record Table {A : Type 0} (d : A) (rows : ℕ → List A) (row : ℕ → A) 
   pub more : (n : ℕ) → rows (n + 1) ≡ rows n ++ (row n ∷ [])
 
 -- `of` takes a row's key
-module _ {A K : Type 0} {eq : K → K → Bool} (t : Decides eq) {d : A} {rows : ℕ → List A} {row : ℕ → A} (T : Table d rows row) (of : A → K) where
-  pub placed : {S : Type 0} {w : Shape K S} {n : ℕ} {ls : List ℕ} {k : K} {at place : ℕ} → Sought w (λ j. of (row j)) n ls k at place → place ≡ placeOf (λ a. eq (of a) k) (rows n)
-  placed {n = n} {k = k} {place = place} s = go place refl
+module _ {A K : Type 0} {eq : K → K → Bool} (t : Decides eq) (d : A) (of : A → K) {S : Type 0} {w : Shape K S} where
+  -- the rows of an index in a list
+  placed-among : {key : ℕ → K} {n : ℕ} {ls : List ℕ} {k : K} {at place : ℕ} (xs : List A) → length xs ≡ n → ((j : ℕ) → j < n → of (getD xs j d) ≡ key j)
+      → Sought w key n ls k at place → place ≡ placeOf (λ a. eq (of a) k) xs
+  placed-among {n = n} {k = k} {place = place} xs size same s = go place refl
     where
-      same : (j : ℕ) → j < n → of (getD (rows n) j d) ≡ of (row j)
-      same j l = ap of (T .read n j l)
-
-      go : (p : ℕ) → place ≡ p → p ≡ placeOf (λ a. eq (of a) k) (rows n)
+      go : (p : ℕ) → place ≡ p → p ≡ placeOf (λ a. eq (of a) k) xs
       go zero e =
-          let size = T .size n in
-          sym (place-none d (λ a. eq (of a) k) (rows n) 0 (λ m l. t .no (of (getD (rows n) m d)) k (λ q. s .none e m (omega arith) (sym (same m (omega arith)) ∙ q))))
+          sym (place-none d (λ a. eq (of a) k) xs 0 (λ m l. t .no (of (getD xs m d)) k (λ q. s .none e m (omega arith) (sym (same m (omega arith)) ∙ q))))
       go (suc p) e =
-          let size = T .size n in
           let f = s .hit p e in
-          let l : p < length (rows n) = omega (arith, f .below) in
+          let l : p < length xs = omega (arith, f .below) in
           let z : suc p ≡ suc (0 + p) = omega arith in
-          z ∙ sym (place-hit d (λ a. eq (of a) k) (rows n) 0 p l (t .yes (of (getD (rows n) p d)) k (same p (f .below) ∙ f .has))
-          (λ m h. t .no (of (getD (rows n) m d)) k (λ q. f .fresh m h (sym (same m (omega arith)) ∙ q))))
+          z ∙ sym (place-hit d (λ a. eq (of a) k) xs 0 p l (t .yes (of (getD xs p d)) k (same p (f .below) ∙ f .has))
+          (λ m h. t .no (of (getD xs m d)) k (λ q. f .fresh m h (sym (same m (omega arith)) ∙ q))))
+
+  -- the first n members of a list
+  pub placed-front : (xs : List A) {n : ℕ} {ls : List ℕ} {k : K} {at place : ℕ} → n ≤ length xs → Sought w (λ j. of (getD xs j d)) n ls k at place
+      → place ≡ placeOf (λ a. eq (of a) k) (take n xs)
+  placed-front xs {n} h s = placed-among (take n xs) (length-take-le n xs h) (λ j l. ap of (getD-take n xs j d l)) s
+
+-- the first n rows of a table
+pub placed : {A K : Type 0} {eq : K → K → Bool} → Decides eq → {d : A} {rows : ℕ → List A} {row : ℕ → A} → Table d rows row → (of : A → K)
+    → {S : Type 0} {w : Shape K S} {n : ℕ} {ls : List ℕ} {k : K} {at place : ℕ} → Sought w (λ j. of (row j)) n ls k at place → place ≡ placeOf (λ a. eq (of a) k) (rows n)
+placed t {d} {rows} T of {n = n} s = placed-among t d of (rows n) (T .size n) (λ j l. ap of (T .read n j l)) s
 
 -- whether keys differ, row n more
 module _ {A : Type 0} {d : A} {rows : ℕ → List A} {row : ℕ → A} (T : Table d rows row) (same : A → A → Bool) (n : ℕ) {place : ℕ}

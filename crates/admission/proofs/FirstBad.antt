@@ -1,17 +1,31 @@
 -- The index of the first entry that is not allowed, by the turns of a loop over the entries. Assumes nothing.
 use Prim.Native.Nat.{ℕ, suc, _+_, _≤_, _<_}
-use mathlib.Core.Bool.{true, false, cond}
+use mathlib.Core.Bool.{Bool, true, false, cond}
 use mathlib.Core.List.{List}
-use mathlib.Core.Path.{_≡_, refl}
+use mathlib.Core.Path.{_≡_, refl, ap, sym, _∙_}
 use native.Mathlib.Omega.{arith}
 use lib.ListN.{length, getD, take, drop, drop-of-length-le}
+use lib.Seq.{take-all}
 use Rattle.protocol.specs.declared.Block.{Block}
 use Rattle.protocol.specs.declared.Vote.{Vote}
-use Rattle.protocol.specs.Chain.{genesis}
+use Rattle.protocol.specs.Chain.{Found, find, genesis}
 use Rattle.protocol.specs.Calls.Receive.{addBlocks, blockAllowed, voteAllowed, firstBadBlock, firstBadVote}
 use Rattle.packets.specs.Header.{noVote}
+use Rattle.admission.specs.Lookup.{blockPasses, votePasses}
 use Rattle.admission.proofs.Entries.{rest-entry, front-entry}
 use Rattle.admission.proofs.Known.{addBlocks-end}
+
+-- ---- the rules of an entry, by what was found
+
+module _ {r : Bool} where
+  pub block-told : (slot : ℕ) (before : List Block) (c : Block) {b : Block} {parent old : Found} → b ≡ c → parent ≡ find before (b .parent) → old ≡ find before (b .number)
+      → r ≡ blockPasses slot b parent old → r ≡ blockAllowed slot before c
+  unfolding blockAllowed blockPasses
+  block-told slot before c e p o q = rw (← e) (q ∙ rw (p, o))
+
+  pub vote-told : (n slot : ℕ) (bs : List Block) (a : Vote) {f : Found} → f ≡ find bs (a .number) → r ≡ votePasses n slot a f → r ≡ voteAllowed n slot bs a
+  unfolding voteAllowed votePasses
+  vote-told n slot bs a e q = q ∙ rw e
 
 -- ---- one turn of a loop over the entries, i of them seen
 
@@ -38,6 +52,13 @@ module _ (slot : ℕ) (before bs : List Block) (i : ℕ) where
   pub block-end : length bs ≤ i → i + firstBadBlock slot (addBlocks before (take i bs)) (drop i bs) ≡ i
   unfolding firstBadBlock
   block-end h = rw (drop-of-length-le bs h) (omega arith)
+
+-- all blocks of the packet are known
+pub whole : (nodes slot : ℕ) (bs ps : List Block) (vs : List Vote) (n : ℕ) → n ≡ length ps
+    → firstBadVote nodes slot (addBlocks bs ps) vs ≡ firstBadVote nodes slot (addBlocks bs (take n ps)) vs
+whole nodes slot bs ps vs n e =
+    let l : length ps ≤ n = omega (arith, e) in
+    ap (λ (t : List Block). firstBadVote nodes slot (addBlocks bs t) vs) (sym (take-all n ps l))
 
 module _ (n slot : ℕ) (bs : List Block) (vs : List Vote) (i : ℕ) where
   pub vote-good : {a : Vote} → i < length vs → a ≡ getD vs i noVote → voteAllowed n slot bs a ≡ true

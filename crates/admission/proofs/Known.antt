@@ -73,6 +73,10 @@ module _ (bs cs : List Block) (x : ℕ) where
   unfolding orElse
   added-miss e = find-added bs cs x ∙ rw e refl
 
+-- the number that stands twice is found at its first place, so it is one whether the later block was added
+pub added-joined : (bs cs : List Block) (x : ℕ) → find (addBlocks bs cs) x ≡ find (bs ++ cs) x
+added-joined bs cs x = find-added bs cs x ∙ sym (find-append bs cs x)
+
 -- one more block of the packet
 pub addBlocks-end : (bs cs : List Block) (c : Block) → addBlocks bs (cs ++ (c ∷ [])) ≡ addBlock (addBlocks bs cs) c
 unfolding addBlocks

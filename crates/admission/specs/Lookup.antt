@@ -1,8 +1,23 @@
--- What code answers when it looks a block up. Assumes nothing.
-use Rattle.protocol.specs.Chain.{Found, found, missing}
+-- What code answers when it looks a block up, and the rules of an entry by such answers. Assumes nothing.
+use Prim.Native.Nat.{ℕ}
+use mathlib.Core.Bool.{Bool, _&&_}
+use lib.Dec.{leb, ltb}
+use Rattle.protocol.specs.declared.Block.{Block}
+use Rattle.protocol.specs.declared.Vote.{Vote}
+use Rattle.protocol.specs.Chain.{Found, found, missing, foundWith}
+use Rattle.protocol.specs.Sound.{between}
+use Rattle.protocol.specs.Calls.Receive.{knownAs}
 use Rattle.admission.specs.declared.Lookup.{Lookup}
 use Rattle.admission.specs.declared.Lookup.the-variants.{Hit, Missing}
 
 abbrev pub foundOf : Lookup → Found
 foundOf (Hit b) = found b
 foundOf Missing = missing
+
+-- `blockAllowed`, by what was found by the parent's number and by the block's own
+unfoldable pub blockPasses : ℕ → Block → Found → Found → Bool
+blockPasses slot b parent old = between 1 slot (b .slot) && (foundWith (λ p. ltb (p .slot) (b .slot)) parent && knownAs b old)
+
+-- `voteAllowed`, by what was found by the vote's number
+unfoldable pub votePasses : ℕ → ℕ → Vote → Found → Bool
+votePasses n slot a block = ltb (a .voter) n && (between 1 slot (a .slot) && foundWith (λ b. leb (b .slot) (a .slot)) block)

@@ -1,20 +1,22 @@
-// Whether a packet's entries keep the rules, and which is the first that does not. Nothing may be changed before that is known, so the earlier blocks of a packet are
-// looked up in the packet itself. An entry is looked up in the table and then in the packet: all entries together cost
-// the packet's entries times the blocks of the table and of the packet. No function keeps an array.
+// Whether a packet's entries keep the rules, and which is the first that does not. Nothing may be changed before that is known, so the
+// blocks of a packet are looked up in one index together with those of the table.
+// The cost is two descents for each block and one for each vote, of which the longest meets 28 blocks. Where table and packet have more
+// than 4,096 blocks together, every block is searched for instead. Stack: 36 KiB of links.
 use protocol::Block;
 use protocol::Vote;
 use rows::Place;
 ghost use mathlib.Core.Bool.{_&&_};
 ghost use mathlib.Core.Path.{_≡_};
-ghost use Prim.Native.Nat.{_*_, _<_, _≤_};
+ghost use Prim.Native.Nat.{_+_, _*_, _≤_};
 ghost use lib.Dec.{eqb, leb, ltb};
-ghost use lib.ListN.{length, getD, take};
-ghost use Rattle.protocol.specs.Chain.{find, foundWith, genesis};
+ghost use lib.ListN.{length, take};
+ghost use Rattle.protocol.specs.Chain.{find, foundWith};
 ghost use Rattle.protocol.specs.Store.{entries, sameBlock};
 ghost use Rattle.protocol.specs.Packet.{packetOf};
 ghost use Rattle.protocol.specs.Lent.{rowsOf, makeBlock};
-ghost use Rattle.protocol.specs.Calls.Receive.{addBlocks, knownAs, blockAllowed, voteAllowed, headerAllowed, firstBadBlock, firstBadVote};
-ghost use Rattle.admission.specs.Lookup.{foundOf};
+ghost use Rattle.protocol.specs.Calls.Receive.{addBlocks, knownAs, headerAllowed, firstBadBlock, firstBadVote};
+ghost use Rattle.known_blocks.specs.Known.{knownBlocks, foundAt};
+ghost use Rattle.admission.specs.Lookup.{foundOf, blockPasses, votePasses};
 
 // ---- looking a block up
 
@@ -56,6 +58,18 @@ pub fn find_known(blocks: &[u64], used: usize, bytes: &[u8], count: usize, numbe
     }
 }
 
+// The block that a place in the index of `known_blocks` stands for: one more than where the block is, or 0.
+fn block_of(blocks: &[u64], used: usize, bytes: &[u8], place: usize) -> Lookup
+    requires { ⌜ (4 * used ≤ length (now blocks)) × (place ≤ used + length (packetOf (now bytes) .blocks)) ⌝ }
+    ensures { λ r. ⌜ foundOf r ≡ foundAt (knownBlocks (now (blocks .entry)) used (now (bytes .entry))) place ⌝ }
+{
+    if place == 0 {
+        return Lookup::Missing;
+    }
+    let b = known_blocks::block_at(blocks, used, bytes, place - 1);
+    Lookup::Hit(b)
+}
+
 // ---- blocks
 
 // Whether a block was found, of a lower slot.
@@ -89,25 +103,22 @@ fn known_as(b: Block, old: Lookup) -> bool
     }
 }
 
-// Block i of the packet, where the table and the packet's earlier blocks are known. Two lookups.
-pub fn block_allowed(slot: u64, blocks: &[u64], used: usize, bytes: &[u8], i: usize) -> bool
-    requires { ⌜ (4 * used ≤ length (now blocks)) × (i < length (packetOf (now bytes) .blocks)) ⌝ }
-    ensures { λ r. ⌜ r ≡ blockAllowed slot (addBlocks (entries (rowsOf makeBlock (now (blocks .entry)) used)) (take i (packetOf (now (bytes .entry)) .blocks))) (getD (packetOf (now (bytes .entry)) .blocks) i genesis) ⌝ }
+// Whether block b keeps the rules at a beat of this slot, by what was found among the blocks before it: by its parent's number and by its own.
+fn block_allowed(slot: u64, b: Block, parent: Lookup, old: Lookup) -> bool
+    ensures { λ r. ⌜ r ≡ blockPasses slot b (foundOf parent) (foundOf old) ⌝ }
 {
-    let b = packets::block_at(bytes, i);
     if !ranges::within(1, slot, b.slot) {
         return false;
     }
-    let parent = find_known(blocks, used, bytes, i, b.parent);
     if !below(parent, b.slot) {
         return false;
     }
-    let old = find_known(blocks, used, bytes, i, b.number);
     known_as(b, old)
 }
 
-// The index of the first block that is not allowed, or the number of blocks.
-pub fn first_bad_block(slot: u64, blocks: &[u64], used: usize, bytes: &[u8]) -> usize
+// The same as `first_bad_block`, for packets and tables that no index has room for: more than 4,096 blocks together. Two searches of
+// the table and of the packet's earlier blocks for each block.
+fn search_bad_block(slot: u64, blocks: &[u64], used: usize, bytes: &[u8]) -> usize
     requires { ⌜ 4 * used ≤ length (now blocks) ⌝ }
     ensures { λ r. ⌜ r ≡ firstBadBlock slot (entries (rowsOf makeBlock (now (blocks .entry)) used)) (packetOf (now (bytes .entry)) .blocks) ⌝ }
 {
@@ -115,7 +126,39 @@ pub fn first_bad_block(slot: u64, blocks: &[u64], used: usize, bytes: &[u8]) -> 
     let count = h.blocks as usize;
     let mut i: usize = 0;
     while i < count {
-        if !block_allowed(slot, blocks, used, bytes, i) {
+        let b = packets::block_at(bytes, i);
+        let parent = find_known(blocks, used, bytes, i, b.parent);
+        let old = find_known(blocks, used, bytes, i, b.number);
+        if !block_allowed(slot, b, parent, old) {
+            return i;
+        }
+        i += 1;
+    }
+    i
+}
+
+// The index of the first block that is not allowed, or the number of blocks. The table and the packet's earlier blocks are known.
+// The cost is a descent for each block of the table and two for each of the packet, as long as they are 4,096 together. A packet with
+// more, which no honest node sends, costs its blocks times the blocks of the table and of the packet. Stack: 36 KiB of links.
+pub fn first_bad_block(slot: u64, blocks: &[u64], used: usize, bytes: &[u8]) -> usize
+    requires { ⌜ 4 * used ≤ length (now blocks) ⌝ }
+    ensures { λ r. ⌜ r ≡ firstBadBlock slot (entries (rowsOf makeBlock (now (blocks .entry)) used)) (packetOf (now (bytes .entry)) .blocks) ⌝ }
+{
+    let h = packets::header_of(bytes);
+    let count = h.blocks as usize;
+    if !known_blocks::fits(used, count) {
+        return search_bad_block(slot, blocks, used, bytes);
+    }
+    let mut links = [0u16; 18432];
+    known_blocks::build(blocks, used, bytes, used, &mut links);
+    let mut i: usize = 0;
+    while i < count {
+        let b = packets::block_at(bytes, i);
+        let parent_place = known_blocks::place(blocks, used, bytes, used + i, &links, b.parent);
+        let parent = block_of(blocks, used, bytes, parent_place);
+        let earlier_place = known_blocks::add(blocks, used, bytes, used + i, &mut links);
+        let earlier = block_of(blocks, used, bytes, earlier_place);
+        if !block_allowed(slot, b, parent, earlier) {
             return i;
         }
         i += 1;
@@ -135,18 +178,9 @@ fn at_most(block: Lookup, slot: u64) -> bool
     }
 }
 
-// A vote, where the table and the first `count` blocks of the packet are known.
-pub fn vote_allowed(
-    nodes: u64,
-    slot: u64,
-    blocks: &[u64],
-    used: usize,
-    bytes: &[u8],
-    count: usize,
-    vote: Vote,
-) -> bool
-    requires { ⌜ (4 * used ≤ length (now blocks)) × (count ≤ length (packetOf (now bytes) .blocks)) ⌝ }
-    ensures { λ r. ⌜ r ≡ voteAllowed nodes slot (addBlocks (entries (rowsOf makeBlock (now (blocks .entry)) used)) (take count (packetOf (now (bytes .entry)) .blocks))) vote ⌝ }
+// Whether a vote keeps the rules at a beat of this slot, by the block that was found by its number.
+fn vote_allowed(nodes: u64, slot: u64, vote: Vote, block: Lookup) -> bool
+    ensures { λ r. ⌜ r ≡ votePasses nodes slot vote (foundOf block) ⌝ }
 {
     if nodes <= vote.voter {
         return false;
@@ -154,12 +188,12 @@ pub fn vote_allowed(
     if !ranges::within(1, slot, vote.slot) {
         return false;
     }
-    let block = find_known(blocks, used, bytes, count, vote.number);
     at_most(block, vote.slot)
 }
 
-// The index of the first vote that is not allowed, or the number of votes. All blocks of the packet are known.
-pub fn first_bad_vote(nodes: u64, slot: u64, blocks: &[u64], used: usize, bytes: &[u8]) -> usize
+// The same as `first_bad_vote`, for packets and tables that no index has room for: more than 4,096 blocks together. One search of the
+// table and of the packet's blocks for each vote.
+fn search_bad_vote(nodes: u64, slot: u64, blocks: &[u64], used: usize, bytes: &[u8]) -> usize
     requires { ⌜ 4 * used ≤ length (now blocks) ⌝ }
     ensures { λ r. ⌜ r ≡ firstBadVote nodes slot (addBlocks (entries (rowsOf makeBlock (now (blocks .entry)) used)) (packetOf (now (bytes .entry)) .blocks)) (packetOf (now (bytes .entry)) .votes) ⌝ }
 {
@@ -169,7 +203,36 @@ pub fn first_bad_vote(nodes: u64, slot: u64, blocks: &[u64], used: usize, bytes:
     let mut i: usize = 0;
     while i < count {
         let vote = packets::vote_at(bytes, i);
-        if !vote_allowed(nodes, slot, blocks, used, bytes, known, vote) {
+        let block = find_known(blocks, used, bytes, known, vote.number);
+        if !vote_allowed(nodes, slot, vote, block) {
+            return i;
+        }
+        i += 1;
+    }
+    i
+}
+
+// The index of the first vote that is not allowed, or the number of votes. All blocks of the packet are known.
+// The cost is a descent for each block of the table and of the packet, and one for each vote, as long as the blocks are 4,096 together.
+// A packet with more, which no honest node sends, costs its votes times the blocks. Stack: 36 KiB of links.
+pub fn first_bad_vote(nodes: u64, slot: u64, blocks: &[u64], used: usize, bytes: &[u8]) -> usize
+    requires { ⌜ 4 * used ≤ length (now blocks) ⌝ }
+    ensures { λ r. ⌜ r ≡ firstBadVote nodes slot (addBlocks (entries (rowsOf makeBlock (now (blocks .entry)) used)) (packetOf (now (bytes .entry)) .blocks)) (packetOf (now (bytes .entry)) .votes) ⌝ }
+{
+    let h = packets::header_of(bytes);
+    let known = h.blocks as usize;
+    let count = h.votes as usize;
+    if !known_blocks::fits(used, known) {
+        return search_bad_vote(nodes, slot, blocks, used, bytes);
+    }
+    let mut links = [0u16; 18432];
+    known_blocks::build(blocks, used, bytes, used + known, &mut links);
+    let mut i: usize = 0;
+    while i < count {
+        let vote = packets::vote_at(bytes, i);
+        let place = known_blocks::place(blocks, used, bytes, used + known, &links, vote.number);
+        let block = block_of(blocks, used, bytes, place);
+        if !vote_allowed(nodes, slot, vote, block) {
             return i;
         }
         i += 1;

@@ -1,26 +1,24 @@
 -- The blocks of a table and of a packet: how many, each by its place, the first of them, and what a place says of a number. Assumes nothing.
-use Prim.Native.Nat.{ℕ, zero, suc, _+_, _-_, _≤_, _<_}
-use mathlib.Core.Bool.{Bool, true, false, cond}
-use mathlib.Core.List.{List, [], _∷_, _++_}
-use mathlib.Core.Path.{_≡_, refl, ap, sym, _∙_}
+use Prim.Native.Nat.{ℕ, _+_, _-_, _≤_, _<_}
+use mathlib.Core.List.{List, _++_}
+use mathlib.Core.Path.{_≡_, ap, sym, _∙_}
 use native.Mathlib.Omega.{arith}
 use borrow.Author.Tests.{eq-eqb, ne-eqb}
 use lib.Dec.{eqb}
 use lib.ListN.{length, getD, take}
 use Rattle.protocol.specs.declared.Block.{Block}
-use Rattle.protocol.specs.Chain.{find, found, missing, genesis}
+use Rattle.protocol.specs.Chain.{genesis}
 use Rattle.protocol.specs.Store.{Marked, entries, visible}
 use Rattle.protocol.specs.Packet.{packetOf}
 use Rattle.protocol.specs.Lent.{rowsOf, makeBlock}
 use Rattle.protocol.proofs.Lent.Rows.{length-rowsOf}
 use Rattle.rows.specs.Rows.{rowAt}
 use Rattle.rows.proofs.Rows.{getD-rowsOf}
-use Rattle.search_tree.specs.Lists.{placeFrom}
 use Rattle.search_tree.specs.Tree.{Sought}
 use Rattle.search_tree.proofs.Rows.{Decides, placed-front}
 use Rattle.search_tree.proofs.Joined.{length-joined, front-joined, joined-row, joined-past}
 use Rattle.block_index.specs.Index.{numberShape}
-use Rattle.known_blocks.specs.Known.{knownBlocks, placeOfNumber, foundAt, numberAt}
+use Rattle.known_blocks.specs.Known.{knownBlocks, placeOfNumber, numberAt}
 
 module _ (ws : List ℕ) (used : ℕ) (bytes : List ℕ) where
   abbrev R : List (Marked Block)

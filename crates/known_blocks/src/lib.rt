@@ -7,12 +7,23 @@ use protocol::Block;
 use search_tree::Spot;
 ghost use mathlib.Core.Path.{_≡_};
 ghost use Prim.Native.Nat.{_+_, _*_, _<_, _≤_};
+ghost use lib.Dec.{leb};
 ghost use lib.ListN.{length, getD, take, replicate};
 ghost use Rattle.protocol.specs.Chain.{genesis};
 ghost use Rattle.protocol.specs.Packet.{packetOf};
 ghost use Rattle.search_tree.specs.Tree.{Sought};
 ghost use Rattle.block_index.specs.Index.{numberShape};
 ghost use Rattle.known_blocks.specs.Known.{knownBlocks, numberAt, placeOfNumber, KnownIndex};
+
+// Whether the index has room for the blocks of a table and of a packet.
+pub fn fits(used: usize, count: usize) -> bool
+    ensures { λ r. ⌜ r ≡ leb (used + count) 4096 ⌝ }
+{
+    if 4096 < used {
+        return false;
+    }
+    count <= 4096 - used
+}
 
 // The block at place j.
 pub fn block_at(blocks: &[u64], used: usize, bytes: &[u8], j: usize) -> Block

@@ -40,11 +40,11 @@ module _ {A : Type 0} (p : A → Bool) where
       go false (inl e) = inl e
       go false (inr l) = inr (omega arith)
 
-  -- and at most at the last member
-  pub place-most : (xs : List A) (o : ℕ) → placeFrom p o xs ≤ o + length xs
+  -- and no further than the end
+  pub place-within : (xs : List A) (o : ℕ) → placeFrom p o xs ≤ o + length xs
   unfolding placeFrom
-  place-most [] o = omega arith
-  place-most (x ∷ xs) o = go (p x) (place-most xs (suc o))
+  place-within [] o = omega arith
+  place-within (x ∷ xs) o = go (p x) (place-within xs (suc o))
     where
       go : (t : Bool) → placeFrom p (suc o) xs ≤ suc o + length xs → cond t (suc o) (placeFrom p (suc o) xs) ≤ o + suc (length xs)
       go true r = omega arith

@@ -17,7 +17,7 @@ use Rattle.rows.specs.Rows.{rowAt, putRow}
 use Rattle.rows.proofs.Rows.{getD-rowsOf}
 use Rattle.rows.proofs.Stored.{put-set}
 use Rattle.search_tree.specs.Lists.{placeFrom, placeOf, distinct}
-use Rattle.search_tree.proofs.Lists.{place-past, place-most}
+use Rattle.search_tree.proofs.Lists.{place-past, place-within}
 use Rattle.views.proofs.Shows.{show-idle}
 
 module _ {A : Type 0} (p : A → Bool) where
@@ -63,7 +63,7 @@ module _ {A : Type 0} (p : A → Bool) where
   module _ {make : Make (Marked A)} {row : Marked A → List ℕ} (codec : Codec (Marked A) make row) (ws : List ℕ) (n : ℕ)
       {place : ℕ} (e : place ≡ placeOf passes (rowsOf make ws n)) where
     pub one-below : (place ≡ 0 → ⊥) → place - 1 < n
-    one-below some = omega (arith, e, place-most passes (rowsOf make ws n) 0, length-rowsOf make ws n)
+    one-below some = omega (arith, e, place-within passes (rowsOf make ws n) 0, length-rowsOf make ws n)
 
     module _ (h : 4 * n ≤ length ws) (s : marksSound ws n ≡ true) where
       pub one-none : place ≡ 0 → ws ≡ stored row (show p (rowsOf make ws n)) ws

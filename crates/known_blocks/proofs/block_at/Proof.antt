@@ -1,6 +1,5 @@
 -- `block_at` meets its contract. Assumes nothing.
 use borrow.Author.Needs.{needs}
-use native.Mathlib.Omega.{arith}
 use mathlib.Core.Path.{_∙_}
 use Rattle.known_blocks.proofs.Numbers.{known-row, known-past}
 use Rattle.known_blocks.proofs.block_at.Statement.{statement}

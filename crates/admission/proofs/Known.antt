@@ -73,7 +73,7 @@ module _ (bs cs : List Block) (x : ℕ) where
   unfolding orElse
   added-miss e = find-added bs cs x ∙ rw e refl
 
--- the number that stands twice is found at its first place, so it is one whether the later block was added
+-- a later block with a number that is known is not found, whether it is added or not
 pub added-joined : (bs cs : List Block) (x : ℕ) → find (addBlocks bs cs) x ≡ find (bs ++ cs) x
 added-joined bs cs x = find-added bs cs x ∙ sym (find-append bs cs x)
 

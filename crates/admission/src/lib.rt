@@ -1,7 +1,8 @@
 // Whether a packet's entries keep the rules, and which is the first that does not. Nothing may be changed before that is known, so the
 // blocks of a packet are looked up in one index together with those of the table.
-// The cost is two descents for each block and one for each vote, of which the longest meets 28 blocks. Where table and packet have more
-// than 4,096 blocks together, every block is searched for instead. Stack: 36 KiB of links.
+// All entries together cost two descents for each block of the table, three for each block of the packet and one for each vote, of which the
+// longest meets 28 blocks. Where table and packet have more than 4,096 blocks together, each entry costs a search instead.
+// Stack: 36 KiB of links.
 use protocol::Block;
 use protocol::Vote;
 use rows::Place;
@@ -26,7 +27,7 @@ pub enum Lookup {
     Missing,
 }
 
-// Among the first `count` blocks of the packet.
+// Among the first `count` blocks of the packet. The cost is a search of these.
 pub fn find_in_packet(bytes: &[u8], count: usize, number: u64) -> Lookup
     requires { ⌜ count ≤ length (packetOf (now bytes) .blocks) ⌝ }
     ensures { λ r. ⌜ foundOf r ≡ find (take count (packetOf (now (bytes .entry)) .blocks)) number ⌝ }
@@ -42,7 +43,8 @@ pub fn find_in_packet(bytes: &[u8], count: usize, number: u64) -> Lookup
     Lookup::Missing
 }
 
-// In the table as it will be with the first `count` blocks of the packet added: in the table, and then in the packet.
+// In the table as it will be with the first `count` blocks of the packet added: in the table, and then in the packet. The cost is a
+// search of both.
 pub fn find_known(blocks: &[u64], used: usize, bytes: &[u8], count: usize, number: u64) -> Lookup
     requires { ⌜ (4 * used ≤ length (now blocks)) × (count ≤ length (packetOf (now bytes) .blocks)) ⌝ }
     ensures { λ r. ⌜ foundOf r ≡ find (addBlocks (entries (rowsOf makeBlock (now (blocks .entry)) used)) (take count (packetOf (now (bytes .entry)) .blocks))) number ⌝ }
@@ -116,8 +118,8 @@ fn block_allowed(slot: u64, b: Block, parent: Lookup, old: Lookup) -> bool
     known_as(b, old)
 }
 
-// The same as `first_bad_block`, for packets and tables that no index has room for: more than 4,096 blocks together. Two searches of
-// the table and of the packet's earlier blocks for each block.
+// What `first_bad_block` answers, where the index has no room for all blocks: more than 4,096 together. The cost is two searches of the
+// table and of the packet's earlier blocks for each block.
 fn search_bad_block(slot: u64, blocks: &[u64], used: usize, bytes: &[u8]) -> usize
     requires { ⌜ 4 * used ≤ length (now blocks) ⌝ }
     ensures { λ r. ⌜ r ≡ firstBadBlock slot (entries (rowsOf makeBlock (now (blocks .entry)) used)) (packetOf (now (bytes .entry)) .blocks) ⌝ }
@@ -138,8 +140,8 @@ fn search_bad_block(slot: u64, blocks: &[u64], used: usize, bytes: &[u8]) -> usi
 }
 
 // The index of the first block that is not allowed, or the number of blocks. The table and the packet's earlier blocks are known.
-// The cost is a descent for each block of the table and two for each of the packet, as long as they are 4,096 together. A packet with
-// more, which no honest node sends, costs its blocks times the blocks of the table and of the packet. Stack: 36 KiB of links.
+// The cost is a descent for each block of the table and two for each block of the packet, if these are at most 4,096 together. A longer
+// packet, which no honest node sends, costs its blocks times the blocks of the table and of the packet. Stack: 36 KiB of links.
 pub fn first_bad_block(slot: u64, blocks: &[u64], used: usize, bytes: &[u8]) -> usize
     requires { ⌜ 4 * used ≤ length (now blocks) ⌝ }
     ensures { λ r. ⌜ r ≡ firstBadBlock slot (entries (rowsOf makeBlock (now (blocks .entry)) used)) (packetOf (now (bytes .entry)) .blocks) ⌝ }
@@ -191,8 +193,8 @@ fn vote_allowed(nodes: u64, slot: u64, vote: Vote, block: Lookup) -> bool
     at_most(block, vote.slot)
 }
 
-// The same as `first_bad_vote`, for packets and tables that no index has room for: more than 4,096 blocks together. One search of the
-// table and of the packet's blocks for each vote.
+// What `first_bad_vote` answers, where the index has no room for all blocks: more than 4,096 together. The cost is a search of the table
+// and of the packet's blocks for each vote.
 fn search_bad_vote(nodes: u64, slot: u64, blocks: &[u64], used: usize, bytes: &[u8]) -> usize
     requires { ⌜ 4 * used ≤ length (now blocks) ⌝ }
     ensures { λ r. ⌜ r ≡ firstBadVote nodes slot (addBlocks (entries (rowsOf makeBlock (now (blocks .entry)) used)) (packetOf (now (bytes .entry)) .blocks)) (packetOf (now (bytes .entry)) .votes) ⌝ }
@@ -213,8 +215,8 @@ fn search_bad_vote(nodes: u64, slot: u64, blocks: &[u64], used: usize, bytes: &[
 }
 
 // The index of the first vote that is not allowed, or the number of votes. All blocks of the packet are known.
-// The cost is a descent for each block of the table and of the packet, and one for each vote, as long as the blocks are 4,096 together.
-// A packet with more, which no honest node sends, costs its votes times the blocks. Stack: 36 KiB of links.
+// The cost is a descent for each block of the table, for each block of the packet and for each vote, if the blocks are at most 4,096
+// together. A packet of more blocks, which no honest node sends, costs its votes times the blocks. Stack: 36 KiB of links.
 pub fn first_bad_vote(nodes: u64, slot: u64, blocks: &[u64], used: usize, bytes: &[u8]) -> usize
     requires { ⌜ 4 * used ≤ length (now blocks) ⌝ }
     ensures { λ r. ⌜ r ≡ firstBadVote nodes slot (addBlocks (entries (rowsOf makeBlock (now (blocks .entry)) used)) (packetOf (now (bytes .entry)) .blocks)) (packetOf (now (bytes .entry)) .votes) ⌝ }

@@ -4,7 +4,6 @@ use mathlib.Core.Bool.{Bool, true, false, cond}
 use mathlib.Core.List.{List}
 use mathlib.Core.Path.{_≡_, ap, _∙_}
 use native.Mathlib.Omega.{arith}
-use borrow.Author.Tests.{eq-eqb, ne-eqb}
 use lib.Dec.{eqb, leb}
 use lib.ListN.{take, drop, take-append-drop}
 use Rattle.protocol.specs.declared.Block.{Block}
@@ -17,14 +16,11 @@ use Rattle.rows.proofs.Rows.{getD-rowsOf, rows-front, rows-more}
 use Rattle.search_tree.specs.Lists.{distinct}
 use Rattle.search_tree.specs.Tree.{Sought}
 use Rattle.search_tree.proofs.Lists.{place-front, distinct-front}
-use Rattle.search_tree.proofs.Rows.{Decides, Table, placed, differ-new, differ-old}
+use Rattle.search_tree.proofs.Rows.{Table, numbers-decided, placed, differ-new, differ-old}
 use Rattle.block_index.specs.Index.{numberAt, numberShape, numbersDiffer, placeOfNumber}
 
 abbrev sameNumber : Marked Block → Marked Block → Bool
 sameNumber a b = eqb (a .entry .number) (b .entry .number)
-
-decides : Decides eqb
-decides = record { yes = eq-eqb; no = ne-eqb }
 
 table : (ws : List ℕ) → Table (visible genesis) (rowsOf makeBlock ws) (rowAt makeBlock ws)
 table ws =
@@ -36,7 +32,7 @@ table ws =
 
 pub number-placed : (ws : List ℕ) (n : ℕ) {ls : List ℕ} {x at place : ℕ} → Sought numberShape (numberAt ws) n ls x at place → place ≡ placeOfNumber (rowsOf makeBlock ws n) x
 unfolding placeOfNumber
-number-placed ws n s = placed decides (table ws) (λ m. m .entry .number) s
+number-placed ws n s = placed numbers-decided (table ws) (λ m. m .entry .number) s
 
 module _ (ws : List ℕ) (i : ℕ) {place : ℕ} (e : place ≡ placeOfNumber (rowsOf makeBlock ws i) (numberAt ws i)) where
   pub numbers-new : place ≡ 0 → numbersDiffer (rowsOf makeBlock ws (i + 1)) ≡ numbersDiffer (rowsOf makeBlock ws i)

@@ -3,8 +3,6 @@ use Prim.Native.Nat.{ℕ, _+_, _-_, _≤_, _<_}
 use mathlib.Core.List.{List, _++_}
 use mathlib.Core.Path.{_≡_, ap, sym, _∙_}
 use native.Mathlib.Omega.{arith}
-use borrow.Author.Tests.{eq-eqb, ne-eqb}
-use lib.Dec.{eqb}
 use lib.ListN.{length, getD, take}
 use Rattle.protocol.specs.declared.Block.{Block}
 use Rattle.protocol.specs.Chain.{genesis}
@@ -15,7 +13,7 @@ use Rattle.protocol.proofs.Lent.Rows.{length-rowsOf}
 use Rattle.rows.specs.Rows.{rowAt}
 use Rattle.rows.proofs.Rows.{getD-rowsOf}
 use Rattle.search_tree.specs.Tree.{Sought}
-use Rattle.search_tree.proofs.Rows.{Decides, placed-front}
+use Rattle.search_tree.proofs.Rows.{numbers-decided, placed-front}
 use Rattle.search_tree.proofs.Joined.{length-joined, front-joined, joined-row, joined-past}
 use Rattle.block_index.specs.Index.{numberShape}
 use Rattle.known_blocks.specs.Known.{knownBlocks, placeOfNumber, numberAt}
@@ -49,7 +47,4 @@ module _ (ws : List ℕ) (used : ℕ) (bytes : List ℕ) where
   unfolding placeOfNumber
   number-placed n h s =
       let l : n ≤ length (knownBlocks ws used bytes) = omega (arith, length-known) in
-      placed-front decides genesis (λ b. b .number) (knownBlocks ws used bytes) l s
-    where
-      decides : Decides eqb
-      decides = record { yes = eq-eqb; no = ne-eqb }
+      placed-front numbers-decided genesis (λ b. b .number) (knownBlocks ws used bytes) l s

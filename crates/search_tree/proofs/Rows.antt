@@ -1,9 +1,12 @@
--- What an index says of the rows of a table: the place of a key, and keys that differ, a row more. Assumes nothing.
+-- What an index says of the rows of a table, or of the first members of a list: the place of a key, and keys that differ, a row more.
+-- Assumes nothing.
 use Prim.Native.Nat.{ℕ, zero, suc, _+_, _≤_, _<_}
 use mathlib.Core.Bool.{Bool, true, false}
 use mathlib.Core.List.{List, [], _∷_, _++_}
 use mathlib.Core.Path.{_≡_, refl, ap, sym, _∙_}
 use native.Mathlib.Omega.{arith}
+use borrow.Author.Tests.{eq-eqb, ne-eqb}
+use lib.Dec.{eqb}
 use lib.ListN.{length, getD, take}
 use lib.Seq.{length-take-le, getD-take}
 use Rattle.search_tree.specs.Lists.{placeOf, distinct}
@@ -14,6 +17,9 @@ use Rattle.search_tree.proofs.Lists.{place-hit, place-none, distinct-ne
 pub record Decides {K : Type 0} (eq : K → K → Bool) : Type 0 where
   pub yes : (a b : K) → a ≡ b → eq a b ≡ true
   pub no : (a b : K) → (a ≡ b → ⊥) → eq a b ≡ false
+
+pub numbers-decided : Decides eqb
+numbers-decided = record { yes = eq-eqb; no = ne-eqb }
 
 -- a table by its first n rows, and by row n; d stands for the rows past the end
 pub record Table {A : Type 0} (d : A) (rows : ℕ → List A) (row : ℕ → A) : Type 0 where

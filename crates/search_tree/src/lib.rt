@@ -1,7 +1,8 @@
 // A digital search tree over the rows of a table, in an array of links. A link is one more than a row's place, or 0 where there is
 // none. The first links are roots, and each row has a link for each digit. A key is looked up from its root, by a digit for each row
 // on the way that has another key. So no descent is longer than a key has digits, whatever the keys are.
-// Here are its definitions and laws, for any rows, keys and digits, and how a link is read and written.
+// Here are its definitions and laws, for any rows, keys and digits, also for the rows of a table and then the entries of a packet, and how
+// a link is read and written.
 ghost use mathlib.Core.Path.{_≡_};
 ghost use Prim.Native.Nat.{_<_};
 ghost use lib.ListN.{length, getD, set};

@@ -1,21 +1,23 @@
 -- What the index says of the blocks of a table: the place of a number, and numbers that differ, a row more. Assumes nothing.
 use Prim.Native.Nat.{ℕ, _+_, _≤_}
-use mathlib.Core.Bool.{Bool, true, false, cond}
+use mathlib.Core.Bool.{Bool, true, false, not, cond}
 use mathlib.Core.List.{List}
-use mathlib.Core.Path.{_≡_, ap, _∙_}
+use mathlib.Core.Path.{_≡_, ap, sym, _∙_}
 use native.Mathlib.Omega.{arith}
 use lib.Dec.{eqb, leb}
 use lib.ListN.{take, drop, take-append-drop}
 use Rattle.protocol.specs.declared.Block.{Block}
-use Rattle.protocol.specs.Chain.{genesis}
-use Rattle.protocol.specs.Store.{Marked, visible}
+use Rattle.protocol.specs.Chain.{genesis, known}
+use Rattle.protocol.specs.Store.{Marked, entries, visible}
 use Rattle.protocol.specs.Lent.{rowsOf, makeBlock}
 use Rattle.protocol.proofs.Lent.Rows.{length-rowsOf}
 use Rattle.rows.specs.Rows.{rowAt}
 use Rattle.rows.proofs.Rows.{getD-rowsOf, rows-front, rows-more}
+use Rattle.rows.proofs.Find.{known-any}
+use Rattle.rows.proofs.Views.{any-entries}
 use Rattle.search_tree.specs.Lists.{distinct}
 use Rattle.search_tree.specs.Tree.{Sought}
-use Rattle.search_tree.proofs.Lists.{place-front, distinct-front}
+use Rattle.search_tree.proofs.Lists.{place-front, any-placed, distinct-front}
 use Rattle.search_tree.proofs.Rows.{Table, numbers-decided, placed, differ-new, differ-old}
 use Rattle.block_index.specs.Index.{numberAt, numberShape, numbersDiffer, placeOfNumber}
 
@@ -33,6 +35,12 @@ table ws =
 pub number-placed : (ws : List ℕ) (n : ℕ) {ls : List ℕ} {x at place : ℕ} → Sought numberShape (numberAt ws) n ls x at place → place ≡ placeOfNumber (rowsOf makeBlock ws n) x
 unfolding placeOfNumber
 number-placed ws n s = placed numbers-decided (table ws) (λ m. m .entry .number) s
+
+-- a number is known if it has a place
+pub number-known : (ms : List (Marked Block)) (x : ℕ) {place : ℕ} → place ≡ placeOfNumber ms x → not (eqb place 0) ≡ known (entries ms) x
+unfolding placeOfNumber
+number-known ms x e =
+    ap (λ (k : ℕ). not (eqb k 0)) e ∙ sym (known-any (entries ms) x ∙ any-entries (λ b. eqb (b .number) x) ms ∙ any-placed (λ m. eqb (m .entry .number) x) ms 0)
 
 module _ (ws : List ℕ) (i : ℕ) {place : ℕ} (e : place ≡ placeOfNumber (rowsOf makeBlock ws i) (numberAt ws i)) where
   pub numbers-new : place ≡ 0 → numbersDiffer (rowsOf makeBlock ws (i + 1)) ≡ numbersDiffer (rowsOf makeBlock ws i)

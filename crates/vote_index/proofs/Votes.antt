@@ -1,18 +1,22 @@
 -- What the index says of the votes of a table: the place of a vote, and votes that differ, a row more. Assumes nothing.
 use Prim.Native.Nat.{ℕ, _+_, _*_, _/_, _%_, _≤_, _<_}
-use mathlib.Core.Bool.{Bool, false}
+use mathlib.Core.Bool.{Bool, false, not}
 use mathlib.Core.List.{List}
-use mathlib.Core.Path.{_≡_}
+use mathlib.Core.Path.{_≡_, ap, sym, _∙_}
 use native.Mathlib.Omega.{arith}
+use lib.Dec.{eqb}
 use Rattle.protocol.specs.declared.Vote.{Vote}
-use Rattle.protocol.specs.Store.{Marked, sameVote, visible}
+use Rattle.protocol.specs.Lists.{any}
+use Rattle.protocol.specs.Store.{Marked, entries, sameVote, visible}
 use Rattle.protocol.specs.Lent.{rowsOf, makeVote}
-use Rattle.protocol.proofs.Basics.Tests.{not-passes}
+use Rattle.protocol.proofs.Basics.Tests.{not-passes, same-test}
 use Rattle.protocol.proofs.Lent.Rows.{length-rowsOf}
 use Rattle.protocol.proofs.Store.Views.{vote-same, same-vote}
 use Rattle.rows.specs.Rows.{rowAt}
 use Rattle.rows.proofs.Rows.{getD-rowsOf, rows-more}
+use Rattle.rows.proofs.Views.{any-entries}
 use Rattle.search_tree.specs.Tree.{Sought}
+use Rattle.search_tree.proofs.Lists.{any-placed}
 use Rattle.search_tree.proofs.Rows.{Decides, Table, placed, differ-new, differ-old}
 use Rattle.vote_index.specs.Index.{voteAt, voteShape, votesDiffer, placeOfVote}
 
@@ -38,6 +42,17 @@ table ws = record { size = length-rowsOf makeVote ws; read = λ n j l. getD-rows
 pub vote-placed : (ws : List ℕ) (n : ℕ) {ls : List ℕ} {a : Vote} {at place : ℕ} → Sought voteShape (voteAt ws) n ls a at place → place ≡ placeOfVote (rowsOf makeVote ws n) a
 unfolding placeOfVote
 vote-placed ws n s = placed decides (table ws) (λ m. m .entry) s
+
+-- either vote may be compared with the other
+pub same-turned : (a b : Vote) → sameVote a b ≡ sameVote b a
+same-turned a b = same-test (sameVote a b) (sameVote b a) (λ e. same-vote b a (sym (vote-same a b e))) (λ e. same-vote a b (sym (vote-same b a e)))
+
+-- a vote is there if it has a place
+pub vote-known : (ms : List (Marked Vote)) (a : Vote) {place : ℕ} → place ≡ placeOfVote ms a → not (eqb place 0) ≡ any (sameVote a) (entries ms)
+unfolding placeOfVote
+vote-known ms a e =
+    ap (λ (k : ℕ). not (eqb k 0)) e
+    ∙ sym (any-entries (sameVote a) ms ∙ ap (λ p. any p ms) (λ i m. same-turned a (m .entry) i) ∙ any-placed (λ m. sameVote (m .entry) a) ms 0)
 
 abbrev sameEntry : Marked Vote → Marked Vote → Bool
 sameEntry a b = sameVote (a .entry) (b .entry)

@@ -1,46 +1,82 @@
 -- `add_vote` meets its contract. Assumes nothing.
 use borrow.Author.Needs.{needs}
+use native.Mathlib.Omega.{arith}
 use mathlib.Core.Path.{sym, _∙_}
-use borrow.Author.Tests.{not-true, not-false}
 use Rattle.protocol.specs.Calls.Receive.{addVotes}
 use Rattle.protocol.proofs.Lent.Rows.{vote-codec}
 use Rattle.protocol.proofs.Store.New.{knowsVote, adding-votes}
 use Rattle.storing.proofs.Turns.{room-now, room-new, enter-old, enter-new}
+use Rattle.storing.proofs.Indexed.{votes-kept}
 use Rattle.storing.proofs.add_vote.Statement.{statement}
 use Rattle.storing.proofs.add_vote.Tie as tie
 
-find-vote-requires : tie.Need-find-vote-requires
-find-vote-requires c κs = room-now knowsVote addVotes adding-votes vote-codec _ _ _ (c .before .before .before .pre .0)
+knows-vote-requires : tie.Need-knows-vote-requires
+knows-vote-requires c κs =
+    let s = c .before .before .before .before .before in
+    (room-now knowsVote addVotes adding-votes vote-codec _ _ _ (s .pre .0), s .pre .2)
 
-append-vote-requires : tie.Need-append-vote-requires
-append-vote-requires c κs =
-    let t = c .before .before in
-    let f = t .before in
-    let s = f .before .before .before .before in
-    (room-new knowsVote addVotes adding-votes vote-codec _ _ _ (sym (f .find-vote .ensures) ∙ not-true (f .find-vote .result) (t .if1 .taken)) (s .pre .0), s .pre .1)
+abbrev start : tie.After-knows-vote → tie.Start
+start k = k .before .before .before .before .before .before
 
 returns : tie.Need-returns
 returns c =
-    let a = c .before .before in
-    let t = a .before .before .before in
-    let f = t .before in
-    enter-new knowsVote addVotes adding-votes vote-codec _ _ _ (sym (f .find-vote .ensures) ∙ not-true (f .find-vote .result) (t .if1 .taken))
-    (a .append-vote .ensures .0) (a .append-vote .ensures .1)
+    let k = c .before in
+    let s = start k in (
+      enter-old knowsVote addVotes adding-votes vote-codec _ _ _ (room-now knowsVote addVotes adding-votes vote-codec _ _ _ (s .pre .0)) (s .pre .1)
+          (sym (k .knows-vote .ensures) ∙ c .if1 .taken),
+      s .pre .2,
+    )
+
+append-vote-requires : tie.Need-append-vote-requires
+append-vote-requires c κs =
+    let i = c .before .before in
+    let k = i .before in
+    let s = start k in
+    (room-new knowsVote addVotes adding-votes vote-codec _ _ _ (sym (k .knows-vote .ensures) ∙ i .if1 .left) (s .pre .0), s .pre .1)
 
 returns-2 : tie.Need-returns-2
 returns-2 c =
-    let f = c .before in
-    let s = f .before .before .before .before in
-    enter-old knowsVote addVotes adding-votes vote-codec _ _ _ (room-now knowsVote addVotes adding-votes vote-codec _ _ _ (s .pre .0)) (s .pre .1)
-    (sym (f .find-vote .ensures) ∙ not-false (f .find-vote .result) (c .if1 .left))
+    let a = c .before .before .before in
+    let i = a .before .before .before in
+    let k = i .before in (
+      enter-new knowsVote addVotes adding-votes vote-codec _ _ _ (sym (k .knows-vote .ensures) ∙ i .if1 .left) (a .append-vote .ensures .0) (a .append-vote .ensures .1),
+      λ h. absurd (omega (arith, a .append-vote .ensures .1)),
+    )
+
+add-requires : tie.Need-add-requires
+add-requires c κs =
+    let i = c .before .before in
+    let a = i .before .before .before in
+    let k = a .before .before .before .before in
+    let s = start k in (
+      omega (arith, a .append-vote .kept .0, room-new knowsVote addVotes adding-votes vote-codec _ _ _ (sym (k .knows-vote .ensures) ∙ a .before .before .before .if1 .left) (s .pre .0)),
+      omega (arith, i .if2 .left),
+      votes-kept _ _ _ (s .pre .2 (omega (arith, i .if2 .left))) (a .append-vote .ensures .0),
+    )
+
+returns-3 : tie.Need-returns-3
+returns-3 c =
+    let d = c .before .before in
+    let a = d .before .before .before .before .before .before in
+    let i = a .before .before .before in
+    let k = i .before in (
+      enter-new knowsVote addVotes adding-votes vote-codec _ _ _ (sym (k .knows-vote .ensures) ∙ i .if1 .left) (a .append-vote .ensures .0) (a .append-vote .ensures .1),
+      λ h. rw (a .append-vote .ensures .1) (d .add .ensures .1),
+    )
 
 pub add-vote-spec : {M : Type 1} → statement M
 add-vote-spec =
     tie.close
     (tie.spec
-    find-vote-requires
-    append-vote-requires
+    knows-vote-requires
+    (λ c. search needs)
     (λ c. search needs)
     returns
+    append-vote-requires
     (λ c. search needs)
-    returns-2)
+    (λ c. search needs)
+    returns-2
+    add-requires
+    (λ c. search needs)
+    (λ c. search needs)
+    returns-3)

@@ -4,7 +4,8 @@
 // Here are its definitions and laws, for any rows, keys and digits, also for the rows of a table and then the entries of a packet, and how
 // a link is read and written.
 ghost use mathlib.Core.Path.{_≡_};
-ghost use Prim.Native.Nat.{_<_};
+ghost use Prim.Native.Nat.{_+_, _<_};
+ghost use lib.Dec.{leb};
 ghost use lib.ListN.{length, getD, set};
 
 // Where a descent ended: the link it stands at, and one more than the place of the row found, or 0.
@@ -31,4 +32,14 @@ pub fn put_link(links: &mut [u16], at: usize, link: usize)
     ensures { λ r. ⌜ now (links .exit) ≡ set (now (links .entry)) at link ⌝ }
 {
     links[at] = link as u16;
+}
+
+// Whether an index with places for `most` has room for so many rows of a table and then of another list.
+pub fn fits(used: usize, count: usize, most: usize) -> bool
+    ensures { λ r. ⌜ r ≡ leb (used + count) most ⌝ }
+{
+    if most < used {
+        return false;
+    }
+    count <= most - used
 }

@@ -2,3 +2,4 @@
 pub mod Adding
 pub mod Turns
 pub mod Indexed
+pub mod Joined

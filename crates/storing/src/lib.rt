@@ -1,6 +1,8 @@
 // What of a packet is new to the tables: how many entries, and adding them at the tables' ends, where they wait.
-// An entry is looked up in the table, and where nothing was added yet in the packet too: all entries together cost at most
-// the packet's entries times the rows of the table and the entries of the packet.
+// Entries are counted by an index of the table and the packet together, since nothing is stored yet, and added by an index of the
+// table, which grows with it. So each entry costs a descent or two, whatever numbers it has: at most 28 steps for a block and 49 for
+// a vote. Entries past the places of an index, which no honest packet has, are searched for one by one.
+// Stack: each function has the links of one index, 36 and 144 KiB to count blocks and votes, 20 and 80 KiB to add them.
 use admission::Lookup;
 use protocol::Block;
 use protocol::Vote;
@@ -20,12 +22,12 @@ ghost use Rattle.protocol.specs.Lent.{rowsOf, makeBlock, makeVote, blockRow, vo
 ghost use Rattle.protocol.specs.Calls.Receive.{addBlocks, addVotes};
 ghost use Rattle.packets.specs.Header.{noVote};
 ghost use Rattle.storing.specs.Grown.{grown, Holds};
-ghost use Rattle.storing.specs.Indexed.{BlocksIndexed, VotesIndexed};
+ghost use Rattle.storing.specs.Indexed.{BlocksIndexed, VotesIndexed, BlocksKnown, VotesKnown};
 
 // ---- how many are new
 
-// Whether block i of the packet stands neither in the table nor at an earlier place of the packet.
-pub fn is_new_block(blocks: &[u64], used: usize, bytes: &[u8], i: usize) -> bool
+// Whether block i of the packet stands neither in the table nor at an earlier place of the packet, by a search of both, row by row.
+fn search_new_block(blocks: &[u64], used: usize, bytes: &[u8], i: usize) -> bool
     requires { ⌜ (4 * used ≤ length (now blocks)) × (i < length (packetOf (now bytes) .blocks)) ⌝ }
     ensures { λ r. ⌜ r ≡ not (known (addBlocks (entries (rowsOf makeBlock (now (blocks .entry)) used)) (take i (packetOf (now (bytes .entry)) .blocks))) (getD (packetOf (now (bytes .entry)) .blocks) i genesis .number)) ⌝ }
 {
@@ -37,24 +39,51 @@ pub fn is_new_block(blocks: &[u64], used: usize, bytes: &[u8], i: usize) -> bool
     }
 }
 
-// How many blocks of the packet are new.
+// The same by an index of the table and of the packet's earlier blocks, which block i joins. The cost is a descent.
+// Past the 4,096 places of the index it is searched for: a packet of an honest node has at most the 2,048 blocks of its table.
+fn is_new_block(blocks: &[u64], used: usize, bytes: &[u8], i: usize, links: &mut [u16]) -> bool
+    requires { ⌜ (4 * used ≤ length (now blocks)) × (i < length (packetOf (now bytes) .blocks)) × BlocksKnown (now blocks) used (now bytes) i (now links) ⌝ }
+    ensures { λ r. ⌜ (r ≡ not (known (addBlocks (entries (rowsOf makeBlock (now (blocks .entry)) used)) (take i (packetOf (now (bytes .entry)) .blocks))) (getD (packetOf (now (bytes .entry)) .blocks) i genesis .number)))
+        × BlocksKnown (now (blocks .entry)) used (now (bytes .entry)) (i + 1) (now (links .exit)) ⌝ }
+{
+    if !search_tree::fits(used, i, 4095) {
+        return search_new_block(blocks, used, bytes, i);
+    }
+    known_blocks::add(blocks, used, bytes, used + i, links) == 0
+}
+
+// The index of the table's blocks, which those of the packet join one by one. The cost is a descent for each row.
+fn index_known_blocks(blocks: &[u64], used: usize, bytes: &[u8], links: &mut [u16])
+    requires { ⌜ (4 * used ≤ length (now blocks)) × (now links ≡ replicate 18432 0) ⌝ }
+    ensures { λ r. ⌜ BlocksKnown (now (blocks .entry)) used (now (bytes .entry)) 0 (now (links .exit)) ⌝ }
+{
+    if used <= 4096 {
+        known_blocks::build(blocks, used, bytes, used, links);
+    }
+}
+
+// How many blocks of the packet are new. The cost is a descent for each row of the table and each block of the packet, as long as
+// these are at most 4,096 together; each further block of the packet is searched for in the table and in the packet.
+// Stack: 36 KiB for the links of 4,096 blocks.
 pub fn new_blocks(blocks: &[u64], used: usize, bytes: &[u8]) -> usize
     requires { ⌜ 4 * used ≤ length (now blocks) ⌝ }
     ensures { λ r. ⌜ used + r ≡ length (addBlocks (entries (rowsOf makeBlock (now (blocks .entry)) used)) (packetOf (now (bytes .entry)) .blocks)) ⌝ }
 {
     let h = packets::header_of(bytes);
     let count = h.blocks as usize;
+    let mut links = [0u16; 18432];
+    index_known_blocks(blocks, used, bytes, &mut links);
     let mut n: usize = 0;
     let mut i: usize = 0;
     while i < count {
-        n += is_new_block(blocks, used, bytes, i) as usize;
+        n += is_new_block(blocks, used, bytes, i, &mut links) as usize;
         i += 1;
     }
     n
 }
 
 // Whether a vote is among the first `count` of the packet.
-pub fn vote_in_packet(bytes: &[u8], count: usize, vote: Vote) -> bool
+fn vote_in_packet(bytes: &[u8], count: usize, vote: Vote) -> bool
     requires { ⌜ count ≤ length (packetOf (now bytes) .votes) ⌝ }
     ensures { λ r. ⌜ r ≡ any (sameVote vote) (take count (packetOf (now (bytes .entry)) .votes)) ⌝ }
 {
@@ -69,8 +98,8 @@ pub fn vote_in_packet(bytes: &[u8], count: usize, vote: Vote) -> bool
     false
 }
 
-// Whether vote i of the packet stands neither in the table nor at an earlier place of the packet.
-pub fn is_new_vote(votes: &[u64], used: usize, bytes: &[u8], i: usize) -> bool
+// Whether vote i of the packet stands neither in the table nor at an earlier place of the packet, by a search of both, row by row.
+fn search_new_vote(votes: &[u64], used: usize, bytes: &[u8], i: usize) -> bool
     requires { ⌜ (4 * used ≤ length (now votes)) × (i < length (packetOf (now bytes) .votes)) ⌝ }
     ensures { λ r. ⌜ r ≡ not (any (sameVote (getD (packetOf (now (bytes .entry)) .votes) i noVote)) (addVotes (entries (rowsOf makeVote (now (votes .entry)) used)) (take i (packetOf (now (bytes .entry)) .votes)))) ⌝ }
 {
@@ -81,17 +110,44 @@ pub fn is_new_vote(votes: &[u64], used: usize, bytes: &[u8], i: usize) -> bool
     !vote_in_packet(bytes, i, a)
 }
 
-// How many votes of the packet are new.
+// The same by an index of the table and of the packet's earlier votes, which vote i joins. The cost is a descent.
+// Past the 16,384 places of the index it is searched for: a packet of an honest node has at most the 8,192 votes of its table.
+fn is_new_vote(votes: &[u64], used: usize, bytes: &[u8], i: usize, links: &mut [u16]) -> bool
+    requires { ⌜ (4 * used ≤ length (now votes)) × (i < length (packetOf (now bytes) .votes)) × VotesKnown (now votes) used (now bytes) i (now links) ⌝ }
+    ensures { λ r. ⌜ (r ≡ not (any (sameVote (getD (packetOf (now (bytes .entry)) .votes) i noVote)) (addVotes (entries (rowsOf makeVote (now (votes .entry)) used)) (take i (packetOf (now (bytes .entry)) .votes)))))
+        × VotesKnown (now (votes .entry)) used (now (bytes .entry)) (i + 1) (now (links .exit)) ⌝ }
+{
+    if !search_tree::fits(used, i, 16383) {
+        return search_new_vote(votes, used, bytes, i);
+    }
+    known_votes::add(votes, used, bytes, used + i, links) == 0
+}
+
+// The index of the table's votes, which those of the packet join one by one. The cost is a descent for each row.
+fn index_known_votes(votes: &[u64], used: usize, bytes: &[u8], links: &mut [u16])
+    requires { ⌜ (4 * used ≤ length (now votes)) × (now links ≡ replicate 73728 0) ⌝ }
+    ensures { λ r. ⌜ VotesKnown (now (votes .entry)) used (now (bytes .entry)) 0 (now (links .exit)) ⌝ }
+{
+    if used <= 16384 {
+        known_votes::build(votes, used, bytes, used, links);
+    }
+}
+
+// How many votes of the packet are new. The cost is a descent for each row of the table and each vote of the packet, as long as
+// these are at most 16,384 together; each further vote of the packet is searched for in the table and in the packet.
+// Stack: 144 KiB for the links of 16,384 votes.
 pub fn new_votes(votes: &[u64], used: usize, bytes: &[u8]) -> usize
     requires { ⌜ 4 * used ≤ length (now votes) ⌝ }
     ensures { λ r. ⌜ used + r ≡ length (addVotes (entries (rowsOf makeVote (now (votes .entry)) used)) (packetOf (now (bytes .entry)) .votes)) ⌝ }
 {
     let h = packets::header_of(bytes);
     let count = h.votes as usize;
+    let mut links = [0u16; 73728];
+    index_known_votes(votes, used, bytes, &mut links);
     let mut n: usize = 0;
     let mut i: usize = 0;
     while i < count {
-        n += is_new_vote(votes, used, bytes, i) as usize;
+        n += is_new_vote(votes, used, bytes, i, &mut links) as usize;
         i += 1;
     }
     n

@@ -15,6 +15,7 @@ use Rattle.protocol.proofs.Store.Views.{vote-same, same-vote}
 use Rattle.rows.specs.Rows.{rowAt}
 use Rattle.rows.proofs.Rows.{getD-rowsOf, rows-more}
 use Rattle.rows.proofs.Views.{any-entries}
+use Rattle.search_tree.specs.Lists.{placeOf}
 use Rattle.search_tree.specs.Tree.{Sought}
 use Rattle.search_tree.proofs.Lists.{any-placed}
 use Rattle.search_tree.proofs.Rows.{Decides, Table, placed, differ-new, differ-old}
@@ -30,7 +31,7 @@ carry-fits a b h = go (a / 4) (b % 4) (quarter a h) (omega arith)
     go : (x y : ℕ) → x < 4611686018427387904 → y ≤ 3 → x + y * 4611686018427387904 < 18446744073709551616
     go x y p q = omega arith
 
-decides : Decides sameVote
+pub decides : Decides sameVote
 decides = record { yes = same-vote; no = λ a b f. not-passes (λ e. f (vote-same a b e)) }
 
 abbrev someVote : Marked Vote
@@ -44,15 +45,16 @@ unfolding placeOfVote
 vote-placed ws n s = placed decides (table ws) (λ m. m .entry) s
 
 -- either vote may be compared with the other
-pub same-turned : (a b : Vote) → sameVote a b ≡ sameVote b a
+same-turned : (a b : Vote) → sameVote a b ≡ sameVote b a
 same-turned a b = same-test (sameVote a b) (sameVote b a) (λ e. same-vote b a (sym (vote-same a b e))) (λ e. same-vote a b (sym (vote-same b a e)))
 
--- a vote is there if it has a place
+-- a vote is there if it has a place: among any rows, where `of` takes a row's vote, and in a table
+pub has-place : {A : Type 0} (of : A → Vote) (xs : List A) (a : Vote) → any (λ x. sameVote a (of x)) xs ≡ not (eqb (placeOf (λ x. sameVote (of x) a) xs) 0)
+has-place of xs a = ap (λ p. any p xs) (λ i x. same-turned a (of x) i) ∙ any-placed (λ x. sameVote (of x) a) xs 0
+
 pub vote-known : (ms : List (Marked Vote)) (a : Vote) {place : ℕ} → place ≡ placeOfVote ms a → not (eqb place 0) ≡ any (sameVote a) (entries ms)
 unfolding placeOfVote
-vote-known ms a e =
-    ap (λ (k : ℕ). not (eqb k 0)) e
-    ∙ sym (any-entries (sameVote a) ms ∙ ap (λ p. any p ms) (λ i m. same-turned a (m .entry) i) ∙ any-placed (λ m. sameVote (m .entry) a) ms 0)
+vote-known ms a e = ap (λ (k : ℕ). not (eqb k 0)) e ∙ sym (any-entries (sameVote a) ms ∙ has-place (λ m. m .entry) ms a)
 
 abbrev sameEntry : Marked Vote → Marked Vote → Bool
 sameEntry a b = sameVote (a .entry) (b .entry)

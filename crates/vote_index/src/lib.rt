@@ -18,13 +18,15 @@ pub struct Digits {
     pub high: u64,
 }
 
-fn root(vote: Vote) -> usize
+// The root at which the descent for a vote begins.
+pub fn root(vote: Vote) -> usize
     ensures { λ r. ⌜ r ≡ rootOf vote ⌝ }
 {
     (vote.slot % 128 * 64 + vote.voter % 64) as usize
 }
 
-fn first(vote: Vote) -> Digits
+// The digits of a vote at its root.
+pub fn first(vote: Vote) -> Digits
     ensures { λ r. ⌜ r ≡ firstOf vote ⌝ }
 {
     let high = vote.slot / 128;
@@ -35,7 +37,8 @@ fn first(vote: Vote) -> Digits
     }
 }
 
-fn rest(digits: Digits) -> Digits
+// The digits after a step.
+pub fn rest(digits: Digits) -> Digits
     ensures { λ r. ⌜ r ≡ restOf digits ⌝ }
 {
     Digits {

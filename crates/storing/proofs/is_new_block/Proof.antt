@@ -1,20 +1,45 @@
 -- `is_new_block` meets its contract. Assumes nothing.
 use borrow.Author.Needs.{needs}
-use Rattle.protocol.specs.Chain.{foundWith}
+use borrow.Author.Tests.{leb-true, leb-false, not-true, not-false}
+use native.Mathlib.Omega.{arith}
+use Prim.Native.Nat.{_+_, _≤_, _<_}
+use mathlib.Core.Path.{_≡_, sym, _∙_}
+use Rattle.storing.proofs.Joined.{number-new}
 use Rattle.storing.proofs.is_new_block.Statement.{statement}
 use Rattle.storing.proofs.is_new_block.Tie as tie
 
+abbrev start : tie.After-fits2 → tie.Start
+start f = f .before .before .before .before
+
 returns : tie.Need-returns
-unfolding foundWith
 returns c =
     let f = c .before .before in
-    rw (← f .before .block-at .ensures, ← f .find-known .ensures, c .enum-told .given .1)
+    let a = start f .args in
+    let l : 4095 < a .used + a .i = leb-false (a .used + a .i) 4095 (sym (f .fits2 .ensures) ∙ not-true (f .fits2 .result) (c .before .if1 .taken)) in
+    (c .search-new-block .ensures, λ h. absurd (omega arith))
+
+-- there is room for one more
+room : (c : tie.Else1) → let a = start (c .before) .args in a .used + a .i ≤ 4095
+room c =
+    let f = c .before in
+    let a = start f .args in
+    leb-true (a .used + a .i) 4095 (sym (f .fits2 .ensures) ∙ not-false (f .fits2 .result) (c .if1 .left))
+
+add-add : tie.Need-add-add
+add-add c = let l = room c in search needs
+
+add-requires : tie.Need-add-requires
+add-requires c κs =
+    let l = room (c .before) in
+    let s = start (c .before .before) in
+    (s .pre .0, omega (arith, s .pre .1), omega arith, s .pre .2 (omega arith))
 
 returns-2 : tie.Need-returns-2
-unfolding foundWith
 returns-2 c =
-    let f = c .before .before in
-    rw (← f .before .block-at .ensures, ← f .find-known .ensures, c .enum-told2 .given .1)
+    let d = c .before .before in
+    let a = start (d .before .before .before) .args in
+    let z : a .used + (a .i + 1) ≡ a .used + a .i + 1 = omega arith in
+    (number-new _ _ _ _ (d .add .ensures .0), λ h. rw z (d .add .ensures .1))
 
 pub is-new-block-spec : {M : Type 1} → statement M
 is-new-block-spec =
@@ -22,7 +47,8 @@ is-new-block-spec =
     (tie.spec
     (λ c κs. search needs)
     (λ c κs. search needs)
-    (λ c. search needs)
-    (λ c. search needs)
     returns
+    add-add
+    add-requires
+    (λ c. search needs)
     returns-2)

@@ -1,18 +1,54 @@
 -- `is_new_vote` meets its contract. Assumes nothing.
 use borrow.Author.Needs.{needs}
-use Rattle.admission.proofs.Known.{any-added}
+use borrow.Author.Tests.{leb-true, leb-false, not-true, not-false}
+use native.Mathlib.Omega.{arith}
+use Prim.Native.Nat.{_+_, _≤_, _<_}
+use mathlib.Core.Path.{_≡_, sym, _∙_}
+use Rattle.storing.proofs.Joined.{vote-new}
 use Rattle.storing.proofs.is_new_vote.Statement.{statement}
 use Rattle.storing.proofs.is_new_vote.Tie as tie
 
+abbrev start : tie.After-fits2 → tie.Start
+start f = f .before .before .before .before
+
 returns : tie.Need-returns
 returns c =
+    let f = c .before .before in
+    let a = start f .args in
+    let l : 16383 < a .used + a .i = leb-false (a .used + a .i) 16383 (sym (f .fits2 .ensures) ∙ not-true (f .fits2 .result) (c .before .if1 .taken)) in
+    (c .search-new-vote .ensures, λ h. absurd (omega arith))
+
+-- there is room for one more
+room : (c : tie.Else1) → let a = start (c .before) .args in a .used + a .i ≤ 16383
+room c =
     let f = c .before in
-    rw (← f .before .vote-at .ensures, any-added _ _ _, ← f .find-vote .ensures, c .if1 .taken)
+    let a = start f .args in
+    leb-true (a .used + a .i) 16383 (sym (f .fits2 .ensures) ∙ not-false (f .fits2 .result) (c .if1 .left))
+
+add-add : tie.Need-add-add
+add-add c = let l = room c in search needs
+
+add-requires : tie.Need-add-requires
+add-requires c κs =
+    let l = room (c .before) in
+    let s = start (c .before .before) in
+    (s .pre .0, omega (arith, s .pre .1), omega arith, s .pre .2 (omega arith))
 
 returns-2 : tie.Need-returns-2
 returns-2 c =
-    let f = c .before .before in
-    rw (← f .before .vote-at .ensures, any-added _ _ _, ← f .find-vote .ensures, c .before .if1 .left, ← c .vote-in-packet .ensures)
+    let d = c .before .before in
+    let a = start (d .before .before .before) .args in
+    let z : a .used + (a .i + 1) ≡ a .used + a .i + 1 = omega arith in
+    (vote-new _ _ _ _ (d .add .ensures .0), λ h. rw z (d .add .ensures .1))
 
 pub is-new-vote-spec : {M : Type 1} → statement M
-is-new-vote-spec = tie.close (tie.spec (λ c κs. search needs) (λ c κs. search needs) returns (λ c κs. search needs) returns-2)
+is-new-vote-spec =
+    tie.close
+    (tie.spec
+    (λ c κs. search needs)
+    (λ c κs. search needs)
+    returns
+    add-add
+    add-requires
+    (λ c. search needs)
+    returns-2)

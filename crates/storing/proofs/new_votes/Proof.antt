@@ -1,10 +1,10 @@
 -- `new_votes` meets its contract. Assumes nothing.
 use borrow.Author.Needs.{needs}
 use native.Mathlib.Omega.{arith}
-use Prim.Native.Nat.{_+_, _-_, _≤_}
-use mathlib.Core.Path.{_≡_, _∙_}
+use Prim.Native.Nat.{ℕ, _+_, _-_, _≤_}
+use mathlib.Core.Path.{_≡_, refl, _∙_}
 use denote.Ref.{now}
-use lib.ListN.{length, take}
+use lib.ListN.{length, take, length-replicate}
 use Rattle.packets.specs.Header.{noVote}
 use Rattle.protocol.specs.Store.{entries}
 use Rattle.protocol.specs.Packet.{packetOf}
@@ -14,46 +14,69 @@ use Rattle.protocol.proofs.Store.Views.{length-entries}
 use Rattle.protocol.proofs.Lent.Rows.{length-rowsOf}
 use Rattle.protocol.proofs.Store.New.{knowsVote, adding-votes}
 use Rattle.admission.proofs.Header.{header-votes}
+use Rattle.storing.specs.Indexed.{VotesKnown}
 use Rattle.storing.proofs.Turns.{flag-one, count-begin, count-turn, count-end}
 use Rattle.storing.proofs.new_votes.Statement.{statement}
 use Rattle.storing.proofs.new_votes.Tie as tie
 
 abbrev Inv-loop : tie.InvT-loop
-Inv-loop votes used bytes count n₀ i₀ n i =
+Inv-loop votes used bytes count links₀ n₀ i₀ links n i =
     (count ≡ length (packetOf bytes .votes))
     × (n ≤ i)
     × (used + n ≡ length (addVotes (entries (rowsOf makeVote votes used)) (take i (packetOf bytes .votes))))
+    × VotesKnown votes used bytes i links
+    × (length links ≡ 73728)
 
 abbrev μ-loop : tie.MeasureT-loop
-μ-loop votes used bytes count n₀ i₀ n i = count - i
+μ-loop votes used bytes count links₀ n₀ i₀ links n i = count - i
+
+index-known-votes-requires : tie.Need-index-known-votes-requires Inv-loop μ-loop
+index-known-votes-requires c κs = (c .before .before .before .before .pre, refl)
 
 loop-holds : tie.Need-loop-holds Inv-loop μ-loop
-loop-holds c = (
-  header-votes _ (c .header-of .ensures),
-  omega arith,
-  count-begin knowsVote addVotes adding-votes _ (packetOf (now (c .before .before .before .args .bytes)) .votes) _ (length-entries _ ∙ length-rowsOf makeVote _ _),
-)
+loop-holds c =
+    let j = c .before in
+    let h = j .before .before in (
+      header-votes _ (h .header-of .ensures),
+      omega arith,
+      count-begin knowsVote addVotes adding-votes _ (packetOf (now (h .before .before .before .args .bytes)) .votes) _ (length-entries _ ∙ length-rowsOf makeVote _ _),
+      j .index-known-votes .ensures,
+      j .index-known-votes .kept .1 .1 .1 .0 ∙ length-replicate {A = ℕ} 73728 0,
+    )
+
+abbrev start : tie.At-loop Inv-loop μ-loop → tie.Start Inv-loop μ-loop
+start l = l .before .before .before .before .before .before .before
+
+is-new-vote-requires : tie.Need-is-new-vote-requires Inv-loop μ-loop
+is-new-vote-requires c κs =
+    let l = c .before .before in
+    (start l .pre, omega (arith, l .loop .inv .0, c .before .loop-test .taken), l .loop .inv .3)
 
 add-n : tie.Need-add-n Inv-loop μ-loop
 add-n c =
-    let l = c .before .before .loop in
-    let f = flag-one (c .is-new-vote .result) in
-    omega (arith, f, l .inv .1, c .before .loop-test .taken)
+    let j = c .before in
+    let l = j .before .before .before in
+    let f = flag-one (j .is-new-vote .result) in
+    omega (arith, f, l .before .before .before .before .header-of .ok, l .loop .inv .1, j .before .before .loop-test .taken)
 
 loop-again : tie.Need-loop-again Inv-loop μ-loop
 loop-again c =
-    let l = c .before .before in
-    let f = flag-one (c .is-new-vote .result) in (
+    let j = c .before in
+    let t = j .before .before in
+    let l = t .before in
+    let f = flag-one (j .is-new-vote .result) in (
       l .loop .inv .0,
       omega (arith, f, l .loop .inv .1),
-      count-turn knowsVote addVotes adding-votes _ (packetOf (now (l .before .before .before .before .args .bytes)) .votes) _ noVote _ (l .loop .i)
-          (omega (arith, l .loop .inv .0, c .before .loop-test .taken)) (l .loop .inv .2) (c .is-new-vote .ensures),
+      count-turn knowsVote addVotes adding-votes _ (packetOf (now (start l .args .bytes)) .votes) _ noVote _ (l .loop .i)
+          (omega (arith, l .loop .inv .0, t .loop-test .taken)) (l .loop .inv .2) (j .is-new-vote .ensures .0),
+      j .is-new-vote .ensures .1,
+      j .is-new-vote .kept .1 .1 .1 .1 .0 ∙ l .loop .inv .4,
     )
 
 returns : tie.Need-returns Inv-loop μ-loop
 returns c =
     let l = c .before in
-    count-end knowsVote addVotes adding-votes _ (packetOf (now (l .before .before .before .before .args .bytes)) .votes) _ _ (l .loop .i)
+    count-end knowsVote addVotes adding-votes _ (packetOf (now (start l .args .bytes)) .votes) _ _ (l .loop .i)
     (omega (arith, l .loop .inv .0, c .loop-test .left)) (l .loop .inv .2)
 
 pub new-votes-spec : {M : Type 1} → statement M
@@ -63,8 +86,11 @@ new-votes-spec =
     Inv-loop
     μ-loop
     (λ c κs. search needs)
+    (λ c. search needs)
+    index-known-votes-requires
     loop-holds
-    (λ c κs. search needs)
+    (λ c. search needs)
+    is-new-vote-requires
     (λ c. search needs)
     add-n
     (λ c. search needs)

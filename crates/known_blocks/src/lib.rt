@@ -19,7 +19,10 @@ ghost use Rattle.known_blocks.specs.Known.{knownBlocks, numberAt, placeO
 pub fn fits(used: usize, count: usize) -> bool
     ensures { λ r. ⌜ r ≡ leb (used + count) 4096 ⌝ }
 {
-    search_tree::fits(used, count, 4096)
+    if 4096 < used {
+        return false;
+    }
+    count <= 4096 - used
 }
 
 // The block at place j.

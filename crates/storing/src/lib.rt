@@ -1,7 +1,8 @@
 // What of a packet is new to the tables: how many entries, and adding them at the tables' ends, where they wait.
 // Entries are counted by an index of the table and the packet together, since nothing is stored yet, and added by an index of the
 // table, which grows with it. So each entry costs a descent or two, whatever numbers it has: at most 28 steps for a block and 49 for
-// a vote. Entries past the places of an index, which no honest packet has, are searched for one by one.
+// a vote. Entries past the places of an index, which no honest packet has, are searched for one by one, and so are fewer than 8
+// entries, since that costs less than to build an index. Inner functions take the number of places as `most`, which is 0 for none.
 // Stack: each function has the links of one index, 36 and 144 KiB to count blocks and votes, 20 and 80 KiB to add them.
 use admission::Lookup;
 use protocol::Block;
@@ -39,47 +40,67 @@ fn search_new_block(blocks: &[u64], used: usize, bytes: &[u8], i: usize) -> bool
     }
 }
 
-// The same by an index of the table and of the packet's earlier blocks, which block i joins. The cost is a descent.
-// Past the 4,096 places of the index it is searched for: a packet of an honest node has at most the 2,048 blocks of its table.
-fn is_new_block(blocks: &[u64], used: usize, bytes: &[u8], i: usize, links: &mut [u16]) -> bool
-    requires { ⌜ (4 * used ≤ length (now blocks)) × (i < length (packetOf (now bytes) .blocks)) × BlocksKnown (now blocks) used (now bytes) i (now links) ⌝ }
+// The same by an index of the table and of the packet's earlier blocks, which block i joins: a descent. Past `most` places of the
+// index it is searched for: a packet of an honest node has at most the 2,048 blocks of its table.
+fn is_new_block(
+    blocks: &[u64],
+    used: usize,
+    bytes: &[u8],
+    i: usize,
+    most: usize,
+    links: &mut [u16],
+) -> bool
+    requires { ⌜ (4 * used ≤ length (now blocks)) × (i < length (packetOf (now bytes) .blocks)) × (most ≤ 4096) × BlocksKnown most (now blocks) used (now bytes) i (now links) ⌝ }
     ensures { λ r. ⌜ (r ≡ not (known (addBlocks (entries (rowsOf makeBlock (now (blocks .entry)) used)) (take i (packetOf (now (bytes .entry)) .blocks))) (getD (packetOf (now (bytes .entry)) .blocks) i genesis .number)))
-        × BlocksKnown (now (blocks .entry)) used (now (bytes .entry)) (i + 1) (now (links .exit)) ⌝ }
+        × BlocksKnown most (now (blocks .entry)) used (now (bytes .entry)) (i + 1) (now (links .exit)) ⌝ }
 {
-    if !search_tree::fits(used, i, 4095) {
+    if !search_tree::has_room(used, i, most) {
         return search_new_block(blocks, used, bytes, i);
     }
     known_blocks::add(blocks, used, bytes, used + i, links) == 0
 }
 
-// The index of the table's blocks, which those of the packet join one by one. The cost is a descent for each row.
+// How many blocks of the packet are new, by an index of the table with `most` places.
+fn count_blocks(blocks: &[u64], used: usize, bytes: &[u8], most: usize, links: &mut [u16]) -> usize
+    requires { ⌜ (4 * used ≤ length (now blocks)) × (most ≤ 4096) × BlocksKnown most (now blocks) used (now bytes) 0 (now links) ⌝ }
+    ensures { λ r. ⌜ used + r ≡ length (addBlocks (entries (rowsOf makeBlock (now (blocks .entry)) used)) (packetOf (now (bytes .entry)) .blocks)) ⌝ }
+{
+    let h = packets::header_of(bytes);
+    let count = h.blocks as usize;
+    let mut n: usize = 0;
+    let mut i: usize = 0;
+    while i < count {
+        n += is_new_block(blocks, used, bytes, i, most, links) as usize;
+        i += 1;
+    }
+    n
+}
+
+// The index of the table's blocks, which those of the packet are to join. The cost is a descent for each row.
 fn index_known_blocks(blocks: &[u64], used: usize, bytes: &[u8], links: &mut [u16])
     requires { ⌜ (4 * used ≤ length (now blocks)) × (now links ≡ replicate 18432 0) ⌝ }
-    ensures { λ r. ⌜ BlocksKnown (now (blocks .entry)) used (now (bytes .entry)) 0 (now (links .exit)) ⌝ }
+    ensures { λ r. ⌜ BlocksKnown 4096 (now (blocks .entry)) used (now (bytes .entry)) 0 (now (links .exit)) ⌝ }
 {
-    if used <= 4096 {
+    if used < 4096 {
         known_blocks::build(blocks, used, bytes, used, links);
     }
 }
 
 // How many blocks of the packet are new. The cost is a descent for each row of the table and each block of the packet, as long as
-// these are at most 4,096 together; each further block of the packet is searched for in the table and in the packet.
-// Stack: 36 KiB for the links of 4,096 blocks.
+// these are at most 4,096 together; each further block is searched for in the table and in the packet. So are fewer than 8 blocks,
+// which costs less than an index. Stack: 36 KiB for the links of 4,096 blocks.
 pub fn new_blocks(blocks: &[u64], used: usize, bytes: &[u8]) -> usize
     requires { ⌜ 4 * used ≤ length (now blocks) ⌝ }
     ensures { λ r. ⌜ used + r ≡ length (addBlocks (entries (rowsOf makeBlock (now (blocks .entry)) used)) (packetOf (now (bytes .entry)) .blocks)) ⌝ }
 {
     let h = packets::header_of(bytes);
-    let count = h.blocks as usize;
+    if h.blocks < 8 {
+        let mut none = [0u16; 1];
+        return count_blocks(blocks, used, bytes, 0, &mut none);
+    }
     let mut links = [0u16; 18432];
     index_known_blocks(blocks, used, bytes, &mut links);
-    let mut n: usize = 0;
-    let mut i: usize = 0;
-    while i < count {
-        n += is_new_block(blocks, used, bytes, i, &mut links) as usize;
-        i += 1;
-    }
-    n
+    count_blocks(blocks, used, bytes, 4096, &mut links)
 }
 
 // Whether a vote is among the first `count` of the packet.
@@ -110,47 +131,67 @@ fn search_new_vote(votes: &[u64], used: usize, bytes: &[u8], i: usize) -> bool
     !vote_in_packet(bytes, i, a)
 }
 
-// The same by an index of the table and of the packet's earlier votes, which vote i joins. The cost is a descent.
-// Past the 16,384 places of the index it is searched for: a packet of an honest node has at most the 8,192 votes of its table.
-fn is_new_vote(votes: &[u64], used: usize, bytes: &[u8], i: usize, links: &mut [u16]) -> bool
-    requires { ⌜ (4 * used ≤ length (now votes)) × (i < length (packetOf (now bytes) .votes)) × VotesKnown (now votes) used (now bytes) i (now links) ⌝ }
+// The same by an index of the table and of the packet's earlier votes, which vote i joins: a descent. Past `most` places of the
+// index it is searched for: a packet of an honest node has at most the 8,192 votes of its table.
+fn is_new_vote(
+    votes: &[u64],
+    used: usize,
+    bytes: &[u8],
+    i: usize,
+    most: usize,
+    links: &mut [u16],
+) -> bool
+    requires { ⌜ (4 * used ≤ length (now votes)) × (i < length (packetOf (now bytes) .votes)) × (most ≤ 16384) × VotesKnown most (now votes) used (now bytes) i (now links) ⌝ }
     ensures { λ r. ⌜ (r ≡ not (any (sameVote (getD (packetOf (now (bytes .entry)) .votes) i noVote)) (addVotes (entries (rowsOf makeVote (now (votes .entry)) used)) (take i (packetOf (now (bytes .entry)) .votes)))))
-        × VotesKnown (now (votes .entry)) used (now (bytes .entry)) (i + 1) (now (links .exit)) ⌝ }
+        × VotesKnown most (now (votes .entry)) used (now (bytes .entry)) (i + 1) (now (links .exit)) ⌝ }
 {
-    if !search_tree::fits(used, i, 16383) {
+    if !search_tree::has_room(used, i, most) {
         return search_new_vote(votes, used, bytes, i);
     }
     known_votes::add(votes, used, bytes, used + i, links) == 0
 }
 
-// The index of the table's votes, which those of the packet join one by one. The cost is a descent for each row.
+// How many votes of the packet are new, by an index of the table with `most` places.
+fn count_votes(votes: &[u64], used: usize, bytes: &[u8], most: usize, links: &mut [u16]) -> usize
+    requires { ⌜ (4 * used ≤ length (now votes)) × (most ≤ 16384) × VotesKnown most (now votes) used (now bytes) 0 (now links) ⌝ }
+    ensures { λ r. ⌜ used + r ≡ length (addVotes (entries (rowsOf makeVote (now (votes .entry)) used)) (packetOf (now (bytes .entry)) .votes)) ⌝ }
+{
+    let h = packets::header_of(bytes);
+    let count = h.votes as usize;
+    let mut n: usize = 0;
+    let mut i: usize = 0;
+    while i < count {
+        n += is_new_vote(votes, used, bytes, i, most, links) as usize;
+        i += 1;
+    }
+    n
+}
+
+// The index of the table's votes, which those of the packet are to join. The cost is a descent for each row.
 fn index_known_votes(votes: &[u64], used: usize, bytes: &[u8], links: &mut [u16])
     requires { ⌜ (4 * used ≤ length (now votes)) × (now links ≡ replicate 73728 0) ⌝ }
-    ensures { λ r. ⌜ VotesKnown (now (votes .entry)) used (now (bytes .entry)) 0 (now (links .exit)) ⌝ }
+    ensures { λ r. ⌜ VotesKnown 16384 (now (votes .entry)) used (now (bytes .entry)) 0 (now (links .exit)) ⌝ }
 {
-    if used <= 16384 {
+    if used < 16384 {
         known_votes::build(votes, used, bytes, used, links);
     }
 }
 
 // How many votes of the packet are new. The cost is a descent for each row of the table and each vote of the packet, as long as
-// these are at most 16,384 together; each further vote of the packet is searched for in the table and in the packet.
-// Stack: 144 KiB for the links of 16,384 votes.
+// these are at most 16,384 together; each further vote is searched for in the table and in the packet. So are fewer than 8 votes,
+// which costs less than an index. Stack: 144 KiB for the links of 16,384 votes.
 pub fn new_votes(votes: &[u64], used: usize, bytes: &[u8]) -> usize
     requires { ⌜ 4 * used ≤ length (now votes) ⌝ }
     ensures { λ r. ⌜ used + r ≡ length (addVotes (entries (rowsOf makeVote (now (votes .entry)) used)) (packetOf (now (bytes .entry)) .votes)) ⌝ }
 {
     let h = packets::header_of(bytes);
-    let count = h.votes as usize;
+    if h.votes < 8 {
+        let mut none = [0u16; 1];
+        return count_votes(votes, used, bytes, 0, &mut none);
+    }
     let mut links = [0u16; 73728];
     index_known_votes(votes, used, bytes, &mut links);
-    let mut n: usize = 0;
-    let mut i: usize = 0;
-    while i < count {
-        n += is_new_vote(votes, used, bytes, i, &mut links) as usize;
-        i += 1;
-    }
-    n
+    count_votes(votes, used, bytes, 16384, &mut links)
 }
 
 // ---- adding
@@ -158,19 +199,19 @@ pub fn new_votes(votes: &[u64], used: usize, bytes: &[u8]) -> usize
 // The index of the table's blocks. A table of more than 2,048 blocks, which no call accepts, has none.
 fn index_blocks(blocks: &[u64], used: usize, links: &mut [u16])
     requires { ⌜ (4 * used ≤ length (now blocks)) × (now links ≡ replicate 10240 0) ⌝ }
-    ensures { λ r. ⌜ BlocksIndexed (now (blocks .entry)) used (now (links .exit)) ⌝ }
+    ensures { λ r. ⌜ BlocksIndexed 2049 (now (blocks .entry)) used (now (links .exit)) ⌝ }
 {
-    if used <= 2048 {
+    if used < 2049 {
         block_index::build(blocks, used, links);
     }
 }
 
 // Whether a block of the table has the number. The cost is a descent; without an index, a search of the rows.
-fn knows_block(blocks: &[u64], used: usize, links: &[u16], number: u64) -> bool
-    requires { ⌜ (4 * used ≤ length (now blocks)) × BlocksIndexed (now blocks) used (now links) ⌝ }
+fn knows_block(blocks: &[u64], used: usize, most: usize, links: &[u16], number: u64) -> bool
+    requires { ⌜ (4 * used ≤ length (now blocks)) × BlocksIndexed most (now blocks) used (now links) ⌝ }
     ensures { λ r. ⌜ r ≡ known (entries (rowsOf makeBlock (now (blocks .entry)) used)) number ⌝ }
 {
-    if used <= 2048 {
+    if used < most {
         return block_index::place(blocks, used, links, number) != 0;
     }
     let place = rows::find_block(blocks, used, number);
@@ -180,95 +221,123 @@ fn knows_block(blocks: &[u64], used: usize, links: &[u16], number: u64) -> bool
     }
 }
 
-// A block goes to the end, waiting, unless its number is there; and joins the index. Two descents.
-fn add_block(blocks: &mut [u64], used: &mut usize, links: &mut [u16], block: Block)
-    requires { ⌜ (4 * length (addBlocks (entries (rowsOf makeBlock (now blocks) (now used))) (block ∷ [])) ≤ length (now blocks)) × (marksSound (now blocks) (now used) ≡ true) × BlocksIndexed (now blocks) (now used) (now links) ⌝ }
+// A block goes to the end, waiting, unless its number is there; and joins the index. Two descents, or a search.
+fn add_block(blocks: &mut [u64], used: &mut usize, most: usize, links: &mut [u16], block: Block)
+    requires { ⌜ (4 * length (addBlocks (entries (rowsOf makeBlock (now blocks) (now used))) (block ∷ [])) ≤ length (now blocks)) × (marksSound (now blocks) (now used) ≡ true) × (most ≤ 2049) × BlocksIndexed most (now blocks) (now used) (now links) ⌝ }
     ensures { λ r. ⌜ Holds (Marked Block) blockRow (grown addBlocks (rowsOf makeBlock (now (blocks .entry)) (now (used .entry))) (block ∷ [])) (now (blocks .entry)) (now (blocks .exit)) (now (used .exit))
-        × BlocksIndexed (now (blocks .exit)) (now (used .exit)) (now (links .exit)) ⌝ }
+        × BlocksIndexed most (now (blocks .exit)) (now (used .exit)) (now (links .exit)) ⌝ }
 {
     let n = *used;
-    if knows_block(blocks, n, links, block.number) {
+    if knows_block(blocks, n, most, links, block.number) {
         return;
     }
     changes::append_block(blocks, used, block, false);
-    if 2048 <= n {
+    if most <= *used {
         return;
     }
     block_index::add(blocks, n, links);
 }
 
 // The packet's blocks, in order. The earlier ones are in the table by then, so each is looked up there alone.
-// The cost is a descent for each row of the table and two for each block of the packet. Stack: 20 KiB for the links of 2,048 blocks.
+fn store_blocks(blocks: &mut [u64], used: &mut usize, bytes: &[u8], most: usize, links: &mut [u16])
+    requires { ⌜ (4 * length (addBlocks (entries (rowsOf makeBlock (now blocks) (now used))) (packetOf (now bytes) .blocks)) ≤ length (now blocks)) × (marksSound (now blocks) (now used) ≡ true) × (most ≤ 2049) × BlocksIndexed most (now blocks) (now used) (now links) ⌝ }
+    ensures { λ r. ⌜ Holds (Marked Block) blockRow (grown addBlocks (rowsOf makeBlock (now (blocks .entry)) (now (used .entry))) (packetOf (now (bytes .entry)) .blocks)) (now (blocks .entry)) (now (blocks .exit)) (now (used .exit)) ⌝ }
+{
+    let h = packets::header_of(bytes);
+    let count = h.blocks as usize;
+    let mut i: usize = 0;
+    while i < count {
+        let block = packets::block_at(bytes, i);
+        add_block(blocks, used, most, links, block);
+        i += 1;
+    }
+}
+
+// The packet's blocks are added. The cost is a descent for each row of the table and two for each block of the packet; fewer than
+// 8 blocks are searched for, which costs less. Stack: 20 KiB for the links of 2,048 blocks.
 pub fn add_blocks(blocks: &mut [u64], used: &mut usize, bytes: &[u8])
     requires { ⌜ (4 * length (addBlocks (entries (rowsOf makeBlock (now blocks) (now used))) (packetOf (now bytes) .blocks)) ≤ length (now blocks)) × (marksSound (now blocks) (now used) ≡ true) ⌝ }
     ensures { λ r. ⌜ Holds (Marked Block) blockRow (grown addBlocks (rowsOf makeBlock (now (blocks .entry)) (now (used .entry))) (packetOf (now (bytes .entry)) .blocks)) (now (blocks .entry)) (now (blocks .exit)) (now (used .exit)) ⌝ }
 {
     let h = packets::header_of(bytes);
-    let count = h.blocks as usize;
+    if h.blocks < 8 {
+        let mut none = [0u16; 1];
+        store_blocks(blocks, used, bytes, 0, &mut none);
+        return;
+    }
     let mut links = [0u16; 10240];
     let n = *used;
     index_blocks(blocks, n, &mut links);
-    let mut i: usize = 0;
-    while i < count {
-        let block = packets::block_at(bytes, i);
-        add_block(blocks, used, &mut links, block);
-        i += 1;
-    }
+    store_blocks(blocks, used, bytes, 2049, &mut links);
 }
 
 // The index of the table's votes. A table of more than 8,192 votes, which no call accepts, has none.
 fn index_votes(votes: &[u64], used: usize, links: &mut [u16])
     requires { ⌜ (4 * used ≤ length (now votes)) × (now links ≡ replicate 40960 0) ⌝ }
-    ensures { λ r. ⌜ VotesIndexed (now (votes .entry)) used (now (links .exit)) ⌝ }
+    ensures { λ r. ⌜ VotesIndexed 8193 (now (votes .entry)) used (now (links .exit)) ⌝ }
 {
-    if used <= 8192 {
+    if used < 8193 {
         vote_index::build(votes, used, links);
     }
 }
 
 // Whether the vote is in the table. The cost is a descent; without an index, a search of the rows.
-fn knows_vote(votes: &[u64], used: usize, links: &[u16], vote: Vote) -> bool
-    requires { ⌜ (4 * used ≤ length (now votes)) × VotesIndexed (now votes) used (now links) ⌝ }
+fn knows_vote(votes: &[u64], used: usize, most: usize, links: &[u16], vote: Vote) -> bool
+    requires { ⌜ (4 * used ≤ length (now votes)) × VotesIndexed most (now votes) used (now links) ⌝ }
     ensures { λ r. ⌜ r ≡ any (sameVote vote) (entries (rowsOf makeVote (now (votes .entry)) used)) ⌝ }
 {
-    if used <= 8192 {
+    if used < most {
         return vote_index::place(votes, used, links, vote) != 0;
     }
     rows::find_vote(votes, 0, used, vote)
 }
 
-// A vote goes to the end, waiting, unless it is there; and joins the index. Two descents.
-fn add_vote(votes: &mut [u64], used: &mut usize, links: &mut [u16], vote: Vote)
-    requires { ⌜ (4 * length (addVotes (entries (rowsOf makeVote (now votes) (now used))) (vote ∷ [])) ≤ length (now votes)) × (marksSound (now votes) (now used) ≡ true) × VotesIndexed (now votes) (now used) (now links) ⌝ }
+// A vote goes to the end, waiting, unless it is there; and joins the index. Two descents, or a search.
+fn add_vote(votes: &mut [u64], used: &mut usize, most: usize, links: &mut [u16], vote: Vote)
+    requires { ⌜ (4 * length (addVotes (entries (rowsOf makeVote (now votes) (now used))) (vote ∷ [])) ≤ length (now votes)) × (marksSound (now votes) (now used) ≡ true) × (most ≤ 8193) × VotesIndexed most (now votes) (now used) (now links) ⌝ }
     ensures { λ r. ⌜ Holds (Marked Vote) voteRow (grown addVotes (rowsOf makeVote (now (votes .entry)) (now (used .entry))) (vote ∷ [])) (now (votes .entry)) (now (votes .exit)) (now (used .exit))
-        × VotesIndexed (now (votes .exit)) (now (used .exit)) (now (links .exit)) ⌝ }
+        × VotesIndexed most (now (votes .exit)) (now (used .exit)) (now (links .exit)) ⌝ }
 {
     let n = *used;
-    if knows_vote(votes, n, links, vote) {
+    if knows_vote(votes, n, most, links, vote) {
         return;
     }
     changes::append_vote(votes, used, vote, false);
-    if 8192 <= n {
+    if most <= *used {
         return;
     }
     vote_index::add(votes, n, links);
 }
 
-// The packet's votes, in order.
-// The cost is a descent for each row of the table and two for each vote of the packet. Stack: 80 KiB for the links of 8,192 votes.
+// The packet's votes, in order. The earlier ones are in the table by then, so each is looked up there alone.
+fn store_votes(votes: &mut [u64], used: &mut usize, bytes: &[u8], most: usize, links: &mut [u16])
+    requires { ⌜ (4 * length (addVotes (entries (rowsOf makeVote (now votes) (now used))) (packetOf (now bytes) .votes)) ≤ length (now votes)) × (marksSound (now votes) (now used) ≡ true) × (most ≤ 8193) × VotesIndexed most (now votes) (now used) (now links) ⌝ }
+    ensures { λ r. ⌜ Holds (Marked Vote) voteRow (grown addVotes (rowsOf makeVote (now (votes .entry)) (now (used .entry))) (packetOf (now (bytes .entry)) .votes)) (now (votes .entry)) (now (votes .exit)) (now (used .exit)) ⌝ }
+{
+    let h = packets::header_of(bytes);
+    let count = h.votes as usize;
+    let mut i: usize = 0;
+    while i < count {
+        let vote = packets::vote_at(bytes, i);
+        add_vote(votes, used, most, links, vote);
+        i += 1;
+    }
+}
+
+// The packet's votes are added. The cost is a descent for each row of the table and two for each vote of the packet; fewer than
+// 8 votes are searched for, which costs less. Stack: 80 KiB for the links of 8,192 votes.
 pub fn add_votes(votes: &mut [u64], used: &mut usize, bytes: &[u8])
     requires { ⌜ (4 * length (addVotes (entries (rowsOf makeVote (now votes) (now used))) (packetOf (now bytes) .votes)) ≤ length (now votes)) × (marksSound (now votes) (now used) ≡ true) ⌝ }
     ensures { λ r. ⌜ Holds (Marked Vote) voteRow (grown addVotes (rowsOf makeVote (now (votes .entry)) (now (used .entry))) (packetOf (now (bytes .entry)) .votes)) (now (votes .entry)) (now (votes .exit)) (now (used .exit)) ⌝ }
 {
     let h = packets::header_of(bytes);
-    let count = h.votes as usize;
+    if h.votes < 8 {
+        let mut none = [0u16; 1];
+        store_votes(votes, used, bytes, 0, &mut none);
+        return;
+    }
     let mut links = [0u16; 40960];
     let n = *used;
     index_votes(votes, n, &mut links);
-    let mut i: usize = 0;
-    while i < count {
-        let vote = packets::vote_at(bytes, i);
-        add_vote(votes, used, &mut links, vote);
-        i += 1;
-    }
+    store_votes(votes, used, bytes, 8193, &mut links);
 }

@@ -13,7 +13,7 @@ use Rattle.storing.proofs.add_block.Tie as tie
 knows-block-requires : tie.Need-knows-block-requires
 knows-block-requires c κs =
     let s = c .before .before .before .before .before in
-    (room-now knowsBlock addBlocks adding-blocks block-codec _ _ _ (s .pre .0), s .pre .2)
+    (room-now knowsBlock addBlocks adding-blocks block-codec _ _ _ (s .pre .0), s .pre .3)
 
 abbrev start : tie.After-knows-block → tie.Start
 start k = k .before .before .before .before .before .before
@@ -24,7 +24,7 @@ returns c =
     let s = start k in (
       enter-old knowsBlock addBlocks adding-blocks block-codec _ _ _ (room-now knowsBlock addBlocks adding-blocks block-codec _ _ _ (s .pre .0)) (s .pre .1)
           (sym (k .knows-block .ensures) ∙ c .if1 .taken),
-      s .pre .2,
+      s .pre .3,
     )
 
 append-block-requires : tie.Need-append-block-requires
@@ -40,7 +40,7 @@ returns-2 c =
     let i = a .before .before .before in
     let k = i .before in (
       enter-new knowsBlock addBlocks adding-blocks block-codec _ _ _ (sym (k .knows-block .ensures) ∙ i .if1 .left) (a .append-block .ensures .0) (a .append-block .ensures .1),
-      λ h. absurd (omega (arith, a .append-block .ensures .1)),
+      λ h. absurd (omega (arith, c .if2 .taken)),
     )
 
 add-requires : tie.Need-add-requires
@@ -50,8 +50,8 @@ add-requires c κs =
     let k = a .before .before .before .before in
     let s = start k in (
       omega (arith, a .append-block .kept .0, room-new knowsBlock addBlocks adding-blocks block-codec _ _ _ (sym (k .knows-block .ensures) ∙ a .before .before .before .if1 .left) (s .pre .0)),
-      omega (arith, i .if2 .left),
-      blocks-kept _ _ _ (s .pre .2 (omega (arith, i .if2 .left))) (a .append-block .ensures .0),
+      omega (arith, s .pre .2, i .if2 .left, a .append-block .ensures .1),
+      blocks-kept _ _ _ (s .pre .3 (omega (arith, i .if2 .left, a .append-block .ensures .1))) (a .append-block .ensures .0),
     )
 
 returns-3 : tie.Need-returns-3

@@ -1,103 +1,42 @@
 -- `add_blocks` meets its contract. Assumes nothing.
 use borrow.Author.Needs.{needs}
 use native.Mathlib.Omega.{arith}
-use Prim.Native.Nat.{ℕ, _-_}
-use mathlib.Core.Path.{_≡_, refl, _∙_}
-use denote.Ref.{now}
-use lib.ListN.{length, length-replicate}
-use Rattle.protocol.specs.declared.Block.{Block}
-use Rattle.protocol.specs.Chain.{genesis}
-use Rattle.protocol.specs.Store.{Marked}
-use Rattle.protocol.specs.Packet.{packetOf}
-use Rattle.protocol.specs.Lent.{blockRow}
+use mathlib.Core.Path.{refl}
 use Rattle.protocol.specs.Calls.Receive.{addBlocks}
 use Rattle.protocol.proofs.Lent.Rows.{block-codec}
 use Rattle.protocol.proofs.Store.New.{knowsBlock, adding-blocks}
-use Rattle.admission.proofs.Header.{header-blocks}
-use Rattle.storing.specs.Grown.{Holds}
-use Rattle.storing.specs.Indexed.{BlocksIndexed}
-use Rattle.storing.proofs.Turns.{room-now, after, add-begin, add-room, add-marks, add-turn, add-end}
+use Rattle.storing.proofs.Turns.{room-now}
 use Rattle.storing.proofs.add_blocks.Statement.{statement}
 use Rattle.storing.proofs.add_blocks.Tie as tie
 
-abbrev Inv-loop : tie.InvT-loop
-Inv-loop blocks₀ used₀ bytes count links₀ n i₀ blocks used links i =
-    (count ≡ length (packetOf bytes .blocks))
-    × (length blocks ≡ length blocks₀)
-    × Holds (Marked Block) blockRow (after knowsBlock addBlocks adding-blocks block-codec blocks₀ used₀ (packetOf bytes .blocks) i) blocks₀ blocks used
-    × BlocksIndexed blocks used links
-    × (length links ≡ 10240)
+store-blocks-requires : tie.Need-store-blocks-requires
+store-blocks-requires c κs =
+    let s = c .before .before .before .before .before .before .before .before in
+    (s .pre .0, s .pre .1, omega arith, λ h. absurd (omega arith))
 
-abbrev μ-loop : tie.MeasureT-loop
-μ-loop blocks₀ used₀ bytes count links₀ n i₀ blocks used links i = count - i
-
-index-blocks-requires : tie.Need-index-blocks-requires Inv-loop μ-loop
+index-blocks-requires : tie.Need-index-blocks-requires
 index-blocks-requires c κs =
-    let s = c .before .before .before .before .before .before in
+    let s = c .before .before .before .before .before .before .before .before in
     (room-now knowsBlock addBlocks adding-blocks block-codec _ _ _ (s .pre .0), refl)
 
-loop-holds : tie.Need-loop-holds Inv-loop μ-loop
-loop-holds c =
-    let x = c .before in
-    let h = x .before .before .before .before in
-    let s = h .before .before .before in (
-      header-blocks _ (h .header-of .ensures),
-      refl,
-      add-begin knowsBlock addBlocks adding-blocks block-codec _ _ (packetOf (now (s .args .bytes)) .blocks)
-          (room-now knowsBlock addBlocks adding-blocks block-codec _ _ _ (s .pre .0)) (s .pre .1),
-      x .index-blocks .ensures,
-      x .index-blocks .kept .1 .1 .0 ∙ length-replicate {A = ℕ} 10240 0,
-    )
-
-abbrev start : tie.At-loop Inv-loop μ-loop → tie.Start Inv-loop μ-loop
-start l = l .before .before .before .before .before .before .before .before .before
-
-add-block-requires : tie.Need-add-block-requires Inv-loop μ-loop
-add-block-requires c κs =
-    let v = c .before .before .before in
-    let l = v .before .before in
-    let s = start l in (
-      add-room knowsBlock addBlocks adding-blocks block-codec _ _ (packetOf (now (s .args .bytes)) .blocks) (l .loop .i) (l .loop .inv .2) genesis
-          (omega (arith, l .loop .inv .0, v .before .loop-test .taken)) (v .block-at .ensures) (s .pre .0) (l .loop .inv .1),
-      add-marks knowsBlock addBlocks adding-blocks block-codec _ _ (packetOf (now (s .args .bytes)) .blocks) (l .loop .i) (l .loop .inv .2),
-      l .loop .inv .3,
-    )
-
-loop-again : tie.Need-loop-again Inv-loop μ-loop
-loop-again c =
-    let a = c .before .before .before in
-    let v = a .before .before .before .before in
-    let l = v .before .before in
-    let s = start l in (
-      l .loop .inv .0,
-      a .add-block .kept .0 ∙ l .loop .inv .1,
-      add-turn knowsBlock addBlocks adding-blocks block-codec _ _ (packetOf (now (s .args .bytes)) .blocks) (l .loop .i) (l .loop .inv .2) genesis
-          (omega (arith, l .loop .inv .0, v .before .loop-test .taken)) (v .block-at .ensures) (a .add-block .ensures .0),
-      a .add-block .ensures .1,
-      a .add-block .kept .1 .1 .0 ∙ l .loop .inv .4,
-    )
-
-returns : tie.Need-returns Inv-loop μ-loop
-returns c =
-    let l = c .before in
-    add-end knowsBlock addBlocks adding-blocks block-codec _ _ (packetOf (now (start l .args .bytes)) .blocks) (l .loop .i) (l .loop .inv .2)
-    (omega (arith, l .loop .inv .0, c .loop-test .left))
+store-blocks-requires-2 : tie.Need-store-blocks-requires-2
+store-blocks-requires-2 c κs =
+    let x = c .before .before .before .before in
+    let s = x .before .before .before .before .before .before .before .before .before in
+    (s .pre .0, s .pre .1, omega arith, x .index-blocks .ensures)
 
 pub add-blocks-spec : {M : Type 1} → statement M
 add-blocks-spec =
     tie.close
     (tie.spec
-    Inv-loop
-    μ-loop
     (λ c κs. search needs)
+    (λ c. search needs)
+    store-blocks-requires
+    (λ c. search needs)
+    (λ c. c .before .before .before .store-blocks .ensures)
     (λ c. search needs)
     index-blocks-requires
-    loop-holds
-    (λ c κs. search needs)
     (λ c. search needs)
-    add-block-requires
+    store-blocks-requires-2
     (λ c. search needs)
-    (λ c. search needs)
-    loop-again
-    (λ c. search needs)
-    returns)
+    (λ c. c .before .before .before .store-blocks2 .ensures))

@@ -13,7 +13,7 @@ use Rattle.storing.proofs.add_vote.Tie as tie
 knows-vote-requires : tie.Need-knows-vote-requires
 knows-vote-requires c κs =
     let s = c .before .before .before .before .before in
-    (room-now knowsVote addVotes adding-votes vote-codec _ _ _ (s .pre .0), s .pre .2)
+    (room-now knowsVote addVotes adding-votes vote-codec _ _ _ (s .pre .0), s .pre .3)
 
 abbrev start : tie.After-knows-vote → tie.Start
 start k = k .before .before .before .before .before .before
@@ -24,7 +24,7 @@ returns c =
     let s = start k in (
       enter-old knowsVote addVotes adding-votes vote-codec _ _ _ (room-now knowsVote addVotes adding-votes vote-codec _ _ _ (s .pre .0)) (s .pre .1)
           (sym (k .knows-vote .ensures) ∙ c .if1 .taken),
-      s .pre .2,
+      s .pre .3,
     )
 
 append-vote-requires : tie.Need-append-vote-requires
@@ -40,7 +40,7 @@ returns-2 c =
     let i = a .before .before .before in
     let k = i .before in (
       enter-new knowsVote addVotes adding-votes vote-codec _ _ _ (sym (k .knows-vote .ensures) ∙ i .if1 .left) (a .append-vote .ensures .0) (a .append-vote .ensures .1),
-      λ h. absurd (omega (arith, a .append-vote .ensures .1)),
+      λ h. absurd (omega (arith, c .if2 .taken)),
     )
 
 add-requires : tie.Need-add-requires
@@ -50,8 +50,8 @@ add-requires c κs =
     let k = a .before .before .before .before in
     let s = start k in (
       omega (arith, a .append-vote .kept .0, room-new knowsVote addVotes adding-votes vote-codec _ _ _ (sym (k .knows-vote .ensures) ∙ a .before .before .before .if1 .left) (s .pre .0)),
-      omega (arith, i .if2 .left),
-      votes-kept _ _ _ (s .pre .2 (omega (arith, i .if2 .left))) (a .append-vote .ensures .0),
+      omega (arith, s .pre .2, i .if2 .left, a .append-vote .ensures .1),
+      votes-kept _ _ _ (s .pre .3 (omega (arith, i .if2 .left, a .append-vote .ensures .1))) (a .append-vote .ensures .0),
     )
 
 returns-3 : tie.Need-returns-3

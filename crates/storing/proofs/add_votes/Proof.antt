@@ -1,103 +1,42 @@
 -- `add_votes` meets its contract. Assumes nothing.
 use borrow.Author.Needs.{needs}
 use native.Mathlib.Omega.{arith}
-use Prim.Native.Nat.{ℕ, _-_}
-use mathlib.Core.Path.{_≡_, refl, _∙_}
-use denote.Ref.{now}
-use lib.ListN.{length, length-replicate}
-use Rattle.protocol.specs.declared.Vote.{Vote}
-use Rattle.packets.specs.Header.{noVote}
-use Rattle.protocol.specs.Store.{Marked}
-use Rattle.protocol.specs.Packet.{packetOf}
-use Rattle.protocol.specs.Lent.{voteRow}
+use mathlib.Core.Path.{refl}
 use Rattle.protocol.specs.Calls.Receive.{addVotes}
 use Rattle.protocol.proofs.Lent.Rows.{vote-codec}
 use Rattle.protocol.proofs.Store.New.{knowsVote, adding-votes}
-use Rattle.admission.proofs.Header.{header-votes}
-use Rattle.storing.specs.Grown.{Holds}
-use Rattle.storing.specs.Indexed.{VotesIndexed}
-use Rattle.storing.proofs.Turns.{room-now, after, add-begin, add-room, add-marks, add-turn, add-end}
+use Rattle.storing.proofs.Turns.{room-now}
 use Rattle.storing.proofs.add_votes.Statement.{statement}
 use Rattle.storing.proofs.add_votes.Tie as tie
 
-abbrev Inv-loop : tie.InvT-loop
-Inv-loop votes₀ used₀ bytes count links₀ n i₀ votes used links i =
-    (count ≡ length (packetOf bytes .votes))
-    × (length votes ≡ length votes₀)
-    × Holds (Marked Vote) voteRow (after knowsVote addVotes adding-votes vote-codec votes₀ used₀ (packetOf bytes .votes) i) votes₀ votes used
-    × VotesIndexed votes used links
-    × (length links ≡ 40960)
+store-votes-requires : tie.Need-store-votes-requires
+store-votes-requires c κs =
+    let s = c .before .before .before .before .before .before .before .before in
+    (s .pre .0, s .pre .1, omega arith, λ h. absurd (omega arith))
 
-abbrev μ-loop : tie.MeasureT-loop
-μ-loop votes₀ used₀ bytes count links₀ n i₀ votes used links i = count - i
-
-index-votes-requires : tie.Need-index-votes-requires Inv-loop μ-loop
+index-votes-requires : tie.Need-index-votes-requires
 index-votes-requires c κs =
-    let s = c .before .before .before .before .before .before in
+    let s = c .before .before .before .before .before .before .before .before in
     (room-now knowsVote addVotes adding-votes vote-codec _ _ _ (s .pre .0), refl)
 
-loop-holds : tie.Need-loop-holds Inv-loop μ-loop
-loop-holds c =
-    let x = c .before in
-    let h = x .before .before .before .before in
-    let s = h .before .before .before in (
-      header-votes _ (h .header-of .ensures),
-      refl,
-      add-begin knowsVote addVotes adding-votes vote-codec _ _ (packetOf (now (s .args .bytes)) .votes)
-          (room-now knowsVote addVotes adding-votes vote-codec _ _ _ (s .pre .0)) (s .pre .1),
-      x .index-votes .ensures,
-      x .index-votes .kept .1 .1 .0 ∙ length-replicate {A = ℕ} 40960 0,
-    )
-
-abbrev start : tie.At-loop Inv-loop μ-loop → tie.Start Inv-loop μ-loop
-start l = l .before .before .before .before .before .before .before .before .before
-
-add-vote-requires : tie.Need-add-vote-requires Inv-loop μ-loop
-add-vote-requires c κs =
-    let v = c .before .before .before in
-    let l = v .before .before in
-    let s = start l in (
-      add-room knowsVote addVotes adding-votes vote-codec _ _ (packetOf (now (s .args .bytes)) .votes) (l .loop .i) (l .loop .inv .2) noVote
-          (omega (arith, l .loop .inv .0, v .before .loop-test .taken)) (v .vote-at .ensures) (s .pre .0) (l .loop .inv .1),
-      add-marks knowsVote addVotes adding-votes vote-codec _ _ (packetOf (now (s .args .bytes)) .votes) (l .loop .i) (l .loop .inv .2),
-      l .loop .inv .3,
-    )
-
-loop-again : tie.Need-loop-again Inv-loop μ-loop
-loop-again c =
-    let a = c .before .before .before in
-    let v = a .before .before .before .before in
-    let l = v .before .before in
-    let s = start l in (
-      l .loop .inv .0,
-      a .add-vote .kept .0 ∙ l .loop .inv .1,
-      add-turn knowsVote addVotes adding-votes vote-codec _ _ (packetOf (now (s .args .bytes)) .votes) (l .loop .i) (l .loop .inv .2) noVote
-          (omega (arith, l .loop .inv .0, v .before .loop-test .taken)) (v .vote-at .ensures) (a .add-vote .ensures .0),
-      a .add-vote .ensures .1,
-      a .add-vote .kept .1 .1 .0 ∙ l .loop .inv .4,
-    )
-
-returns : tie.Need-returns Inv-loop μ-loop
-returns c =
-    let l = c .before in
-    add-end knowsVote addVotes adding-votes vote-codec _ _ (packetOf (now (start l .args .bytes)) .votes) (l .loop .i) (l .loop .inv .2)
-    (omega (arith, l .loop .inv .0, c .loop-test .left))
+store-votes-requires-2 : tie.Need-store-votes-requires-2
+store-votes-requires-2 c κs =
+    let x = c .before .before .before .before in
+    let s = x .before .before .before .before .before .before .before .before .before in
+    (s .pre .0, s .pre .1, omega arith, x .index-votes .ensures)
 
 pub add-votes-spec : {M : Type 1} → statement M
 add-votes-spec =
     tie.close
     (tie.spec
-    Inv-loop
-    μ-loop
     (λ c κs. search needs)
+    (λ c. search needs)
+    store-votes-requires
+    (λ c. search needs)
+    (λ c. c .before .before .before .store-votes .ensures)
     (λ c. search needs)
     index-votes-requires
-    loop-holds
-    (λ c κs. search needs)
     (λ c. search needs)
-    add-vote-requires
+    store-votes-requires-2
     (λ c. search needs)
-    (λ c. search needs)
-    loop-again
-    (λ c. search needs)
-    returns)
+    (λ c. c .before .before .before .store-votes2 .ensures))

@@ -9,7 +9,7 @@ use Rattle.storing.proofs.index_known_votes.Tie as tie
 build-requires : tie.Need-build-requires
 build-requires c κs =
     let s = c .before .before .before .before .before in
-    (s .pre .0, omega arith, c .before .if1 .taken, s .pre .1)
+    (s .pre .0, omega arith, omega (arith, c .before .if1 .taken), s .pre .1)
 
 returns : tie.Need-returns
 returns c =

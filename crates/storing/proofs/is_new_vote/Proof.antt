@@ -1,6 +1,6 @@
 -- `is_new_vote` meets its contract. Assumes nothing.
 use borrow.Author.Needs.{needs}
-use borrow.Author.Tests.{leb-true, leb-false, not-true, not-false}
+use borrow.Author.Tests.{ltb-true, ltb-false, not-true, not-false}
 use native.Mathlib.Omega.{arith}
 use Prim.Native.Nat.{_+_, _≤_, _<_}
 use mathlib.Core.Path.{_≡_, sym, _∙_}
@@ -8,22 +8,22 @@ use Rattle.storing.proofs.Joined.{vote-new}
 use Rattle.storing.proofs.is_new_vote.Statement.{statement}
 use Rattle.storing.proofs.is_new_vote.Tie as tie
 
-abbrev start : tie.After-fits2 → tie.Start
+abbrev start : tie.After-has-room → tie.Start
 start f = f .before .before .before .before
 
 returns : tie.Need-returns
 returns c =
     let f = c .before .before in
     let a = start f .args in
-    let l : 16383 < a .used + a .i = leb-false (a .used + a .i) 16383 (sym (f .fits2 .ensures) ∙ not-true (f .fits2 .result) (c .before .if1 .taken)) in
+    let l : a .most ≤ a .used + a .i = ltb-false (a .used + a .i) (a .most) (sym (f .has-room .ensures) ∙ not-true (f .has-room .result) (c .before .if1 .taken)) in
     (c .search-new-vote .ensures, λ h. absurd (omega arith))
 
 -- there is room for one more
-room : (c : tie.Else1) → let a = start (c .before) .args in a .used + a .i ≤ 16383
+room : (c : tie.Else1) → let a = start (c .before) .args in a .used + a .i < a .most
 room c =
     let f = c .before in
     let a = start f .args in
-    leb-true (a .used + a .i) 16383 (sym (f .fits2 .ensures) ∙ not-false (f .fits2 .result) (c .if1 .left))
+    ltb-true (a .used + a .i) (a .most) (sym (f .has-room .ensures) ∙ not-false (f .has-room .result) (c .if1 .left))
 
 add-add : tie.Need-add-add
 add-add c = let l = room c in search needs
@@ -32,7 +32,7 @@ add-requires : tie.Need-add-requires
 add-requires c κs =
     let l = room (c .before) in
     let s = start (c .before .before) in
-    (s .pre .0, omega (arith, s .pre .1), omega arith, s .pre .2 (omega arith))
+    (s .pre .0, omega (arith, s .pre .1), omega (arith, s .pre .2), s .pre .3 l)
 
 returns-2 : tie.Need-returns-2
 returns-2 c =

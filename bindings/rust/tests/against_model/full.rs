@@ -65,3 +65,42 @@ fn largest_tables() {
         );
     }
 }
+
+/// Packets that no honest node sends, longer than the places of any index: what is past these is found all the same.
+#[test]
+fn longer_than_honest() {
+    let random = &mut Random::new(6);
+    let mut run = Run::new(6);
+    let settings = Settings { nodes: 64, own: 3, expiry: 200, depth: 40 };
+    let mut node = Both::new(settings, zeroed(2048, 8192));
+    let beat = 3 * 1300 + 1;
+    let mut make = |call: Call| run.make(&mut node, &call, &mut []);
+    assert_eq!(make(Call::Open), Ok(Answer::Done));
+    let mut receive = |blocks, votes| make(Call::Receive { beat, packet: gossip(blocks, votes).encode() });
+    // the tables half full
+    let known = (blocks(random, 1250), votes(random, 64, 4000, 250));
+    let answer = receive(known.0.clone(), known.1.clone());
+    assert_eq!(answer, Ok(Answer::Received { new_blocks: 1250, new_votes: 4000, brought: false }));
+    // more blocks than there are places, and one that is bad far behind
+    let many = blocks(random, 5000);
+    let mut other = known.0.clone();
+    other.extend(many[1250..].iter().map(|block| PacketBlock { number: block.number + 10_000, parent: 0, ..*block }));
+    assert_eq!(receive(other.clone(), Vec::new()), Err((10, None)));
+    other[4990].parent = 99_999;
+    assert_eq!(receive(other.clone(), Vec::new()), Err((9, Some(4990))));
+    // a block that stands twice, with another slot the second time, far behind
+    other[4990] = PacketBlock { slot: other[4980].slot + 1, ..other[4980] };
+    assert_eq!(receive(other, Vec::new()), Err((9, Some(4990))));
+    // every known entry many times over is nothing new, and one new vote at the end is one
+    let mut all: Vec<PacketVote> = known.1.iter().cycle().take(20_000).copied().collect();
+    let blocks: Vec<PacketBlock> = known.0.iter().cycle().take(6000).copied().collect();
+    let answer = receive(blocks.clone(), all.clone());
+    assert_eq!(answer, Ok(Answer::Received { new_blocks: 0, new_votes: 0, brought: false }));
+    all.push(PacketVote { voter: 63, slot: 1300, number: 1000 });
+    all.push(PacketVote { voter: 63, slot: 1300, number: 1000 });
+    let answer = receive(blocks.clone(), all.clone());
+    assert_eq!(answer, Ok(Answer::Received { new_blocks: 0, new_votes: 1, brought: false }));
+    // a bad vote behind all these
+    all.push(PacketVote { voter: 64, slot: 1300, number: 1000 });
+    assert_eq!(receive(blocks, all), Err((20, Some(20_002))));
+}

@@ -1,7 +1,9 @@
 //! Filters and walks over a view: head, base, deep block, fast block.
+//! Words of request 2 are marked so.
 
 use crate::tables::{Block, Node, Settings, Vote};
 use std::collections::{HashMap, HashSet};
+use std::ops::Range;
 
 /// The entries that a filter or a walk looks at, in table order. The tables must be sound.
 pub(crate) struct View {
@@ -33,13 +35,19 @@ impl View {
         View { settings, blocks, votes, parents, places }
     }
 
-    /// The voters of filter (1): those with "two votes of one slot for different blocks anywhere in the view".
-    fn double_voters(&self) -> HashSet<u64> {
-        let mut first = HashMap::new();
+    /// "slots t-E to t-1, none below 1"
+    fn window(&self, t: u64) -> Range<u64> {
+        t.saturating_sub(self.settings.expiry).max(1)..t
+    }
+
+    /// The voters that are dropped. Request 2: those with "two different votes of one slot among" these slots.
+    fn double_voters(&self, slots: Range<u64>) -> HashSet<u64> {
+        // The block that each voter's first vote of each slot is for.
+        let mut first: HashMap<(u64, u64), u64> = HashMap::new();
         let mut double = HashSet::new();
-        for vote in &self.votes {
+        for vote in self.votes.iter().filter(|vote| slots.contains(&vote.slot)) {
             let number = *first.entry((vote.voter, vote.slot)).or_insert(vote.number);
-            if number != vote.number {
+            if vote.number != number {
                 double.insert(vote.voter);
             }
         }
@@ -50,11 +58,11 @@ impl View {
     fn kept_votes(&self, t: u64) -> Vec<Vote> {
         let mut votes = self.votes.clone();
         // "(1) drop every vote of a voter that has two votes of one slot for different blocks"
-        let double = self.double_voters();
+        // Request 2: "only for two different votes of one slot among t-E to t-1"
+        let double = self.double_voters(self.window(t));
         votes.retain(|vote| !double.contains(&vote.voter));
         // "(2) keep votes of slots t-E to t-1, none below 1"
-        let first = t.saturating_sub(self.settings.expiry).max(1);
-        votes.retain(|vote| first <= vote.slot && vote.slot < t);
+        votes.retain(|vote| self.window(t).contains(&vote.slot));
         // "(3) of each voter keep the latest"
         let mut latest: HashMap<u64, Vote> = HashMap::new();
         for vote in votes {
@@ -127,7 +135,8 @@ impl View {
     /// The fast block for slot t.
     pub(crate) fn fast(&self, t: u64) -> Option<u64> {
         // "of the votes of slot t in view, without the voters dropped in (1)"
-        let double = self.double_voters();
+        // Request 2: "for the fast block, only for two in slot t"
+        let double = self.double_voters(t..t + 1);
         let of_slot = |vote: &&Vote| vote.slot == t && !double.contains(&vote.voter);
         let votes: Vec<Vote> = self.votes.iter().filter(of_slot).copied().collect();
         let weights = self.weights(&votes);

@@ -20,6 +20,9 @@ enum Kind {
     /// The same blocks with numbers that differ in their highest bits alone, and few voters, each with a vote for every block in the
     /// last slot: the numbers that were found to make the indices slowest.
     Chosen,
+    /// The same blocks, and one voter with votes for block 0, in slots that differ in their highest bits alone: the slots that make the
+    /// index by voter and slot slowest.
+    ChosenSlots,
 }
 
 /// A node whose tables hold so many blocks and votes. The last slot was merged, and the next is the node's own.
@@ -36,7 +39,9 @@ impl Case {
         let honest = kind == Kind::Honest;
         let last_block = used.0 as u64 - 1;
         let voted = if honest { (used.1 as u64).div_ceil(nodes) } else { 1 };
-        let last = last_block.max(voted);
+        let chosen_slot = |i: u64| (i + 1) << 16;
+        let last_vote = if kind == Kind::ChosenSlots { chosen_slot(used.1 as u64 - 1) } else { voted };
+        let last = last_block.max(last_vote);
         let shown = if honest { last - voted / 8 } else { last };
         let mark = |slot: u64| u64::from(slot <= shown);
         let number = |slot: u64| if honest { slot } else { slot << 53 };
@@ -53,6 +58,7 @@ impl Case {
                     [i % nodes, slot, slot.min(last_block)]
                 }
                 Kind::Chosen => [i / used.0 as u64, last, i % used.0 as u64],
+                Kind::ChosenSlots => [0, chosen_slot(i), 0],
             };
             votes.extend([voter, slot, number(block), mark(slot)]);
         }
@@ -236,7 +242,11 @@ fn measure(kind: Kind, nodes: u64, (blocks, votes): (usize, usize)) {
     let half = Case::new(kind, nodes, (blocks, votes), (blocks / 2, votes / 2));
     let (full_packets, half_packets) = (full.packets(), half.packets());
     let (full_pass, half_pass) = (pass(&full), pass(&half));
-    let chosen = if kind == Kind::Chosen { ", chosen numbers" } else { "" };
+    let chosen = match kind {
+        Kind::Honest => "",
+        Kind::Chosen => ", chosen numbers",
+        Kind::ChosenSlots => ", chosen slots",
+    };
     println!("### {blocks} blocks, {votes} votes, {nodes} nodes{chosen}\n");
     println!("One pass over the full tables takes {} µs, over half-full ones {} µs.\n", micros(full_pass), micros(half_pass));
     println!("| Call | Proved, half | Proved, full | Grows | To the pass | Model, half | Model, full | Grows | To the pass |");
@@ -265,5 +275,6 @@ fn main() {
             measure(Kind::Honest, nodes, size);
         }
         measure(Kind::Chosen, nodes, SIZES[2]);
+        measure(Kind::ChosenSlots, nodes, SIZES[2]);
     }
 }

@@ -2,17 +2,17 @@
 use Prim.Native.Nat.{ℕ, _+_, _≤_, _<_}
 use mathlib.Core.Bool.{Bool, true, false, _&&_, cond, and-false}
 use mathlib.Core.List.{List, [], _∷_, List·Memᴰ·head, List·Memᴰ·tail}
-use mathlib.Core.Path.{_≡_, refl, ap, _∙_}
+use mathlib.Core.Path.{_≡_, refl, ap, sym, _∙_}
 use native.Mathlib.Omega.{arith}
 use lib.Dec.{eqb, ltb}
 use lib.ListN.{length, set}
 use lib.Seq.{getD-set-same, getD-set-other}
 use borrow.Author.Tests.{eqb-true, eqb-false, eq-eqb, lt-ltb, le-ltb}
 use Rattle.protocol.specs.declared.Vote.{Vote}
-use Rattle.protocol.specs.Filters.{equivocates, always, counted, window, Last, last, none, later, latest, Choice, chosen, nothing, choiceOf, kept}
+use Rattle.protocol.specs.Filters.{equivocates, counted, window, Last, last, none, later, latest, chosen, nothing, choiceOf, kept}
 use Rattle.protocol.specs.Confirm.{voteIn, validVote}
 use Rattle.protocol.proofs.Basics.Tests.{same-test}
-use Rattle.protocol.proofs.Filters.Kept.{LastIs, latest-is, window-true, window-holds}
+use Rattle.protocol.proofs.Filters.Kept.{LastIs, latest-is, window-true, window-holds, equivocates-true, equivocates-holds, equivocation-in}
 use Rattle.protocol.proofs.Filters.Relations.{Cast}
 use Rattle.masks.specs.Masks.{bitOf}
 use Rattle.masks.proofs.Masks.{bit-mask, below-more}
@@ -55,8 +55,8 @@ dropped-more vs E t mask k {slots} {numbers} {next} D e h = record { each = λ v
         let p : v ≡ k → ⊥ = eqb-false v k q in
         D .each v l ∙ rw (below-more v k p)
 
-pub dropped-all : (vs : List Vote) (E t mask k : ℕ) {slots numbers : List ℕ} → Dropped vs E t mask k slots numbers → 64 ≤ k → mask ≡ equivocatorsOf vs → Kept vs E t slots numbers
-unfolding equivocatorsOf kept counted choiceOf
+pub dropped-all : (vs : List Vote) (E t mask k : ℕ) {slots numbers : List ℕ} → Dropped vs E t mask k slots numbers → 64 ≤ k → mask ≡ equivocatorsOf vs E t → Kept vs E t slots numbers
+unfolding equivocatorsOf kept choiceOf
 dropped-all vs E t mask k {slots} {numbers} D h e = record { each = λ v l. go v l }
   where
     pick : (b : Bool) (f : Last) → choiceOf (cond b none f) ≡ cond b nothing (choiceOf f)
@@ -65,9 +65,9 @@ dropped-all vs E t mask k {slots} {numbers} D h e = record { each = λ v l. go v
 
     go : (v : ℕ) → v < 64 → choiceOf (lastAt slots numbers v) ≡ kept vs E t v
     go v l =
-        let d : lastAt slots numbers v ≡ cond (equivocates always vs v) none (latest vs E t v)
-        = D .each v l ∙ rw (lt-ltb v k (omega arith), e, bit-mask 64 (λ u. equivocates always vs u) v l) in
-        ap choiceOf d ∙ pick (equivocates always vs v) (latest vs E t v)
+        let d : lastAt slots numbers v ≡ cond (equivocates (counted E t) vs v) none (latest vs E t v)
+        = D .each v l ∙ rw (lt-ltb v k (omega arith), e, bit-mask 64 (λ u. equivocates (counted E t) vs u) v l) in
+        ap choiceOf d ∙ pick (equivocates (counted E t) vs v) (latest vs E t v)
 
 -- ---- the votes of slot t: those of the window of slot t + 1 with expiry period 1
 
@@ -94,6 +94,17 @@ vote-latest (a ∷ rest) t v f =
     go true false e o i q = q
     go false y e o i q = q
 
+-- two votes of slot t are two of that window
+equivocates-one : (vs : List Vote) (t v : ℕ) → ((a : Vote) → Cast a vs → 0 < a .slot) → equivocates (λ s. eqb s t) vs v ≡ equivocates (counted 1 (t + 1)) vs v
+unfolding counted
+equivocates-one vs t v f =
+    same-test (equivocates (λ s. eqb s t) vs v) (equivocates (window 1 (t + 1)) vs v)
+    (λ h. let d = equivocates-true (λ s. eqb s t) vs v h in equivocates-holds (window 1 (t + 1)) vs v (equivocation-in d (d .has-one) (d .has-other) (sym (one (d .one) (d .has-one)) ∙ d .counts)))
+    (λ h. let d = equivocates-true (window 1 (t + 1)) vs v h in equivocates-holds (λ s. eqb s t) vs v (equivocation-in d (d .has-one) (d .has-other) (one (d .one) (d .has-one) ∙ d .counts)))
+  where
+    one : (a : Vote) → Cast a vs → eqb (a .slot) t ≡ window 1 (t + 1) (a .slot)
+    one a m = window-one t (a .slot) (f a m)
+
 pub valid-kept : (vs : List Vote) (t v : ℕ) → ((a : Vote) → Cast a vs → 0 < a .slot) → validVote vs t v ≡ kept vs 1 (t + 1) v
-unfolding validVote kept counted
-valid-kept vs t v f = ap (λ (o : Choice). cond (equivocates always vs v) nothing o) (vote-latest vs t v f)
+unfolding validVote kept
+valid-kept vs t v f = rw (equivocates-one vs t v f, vote-latest vs t v f)

@@ -1,6 +1,6 @@
--- The store or the view of a table's first rows: one row more, and a search as a search of the rows. Assumes nothing.
-use Prim.Native.Nat.{ℕ, zero, suc, _+_, _≤_, _<_}
-use mathlib.Core.Bool.{Bool, true, false, _||_, _&&_, cond, true≢false}
+-- The store or the view of a table's first rows: one row more, and the rows of its entries. Assumes nothing.
+use Prim.Native.Nat.{ℕ, zero, suc, _+_, _<_}
+use mathlib.Core.Bool.{Bool, true, false, _||_, cond, true≢false}
 use mathlib.Core.List.{List, [], _∷_, _++_, append-nil, List·Memᴰ, List·Memᴰ·head, List·Memᴰ·not-nil, List·Memᴰ·append-cases, List·Memᴰ·eq-of-singleton, Memᴰ·append-left, Memᴰ·append-right}
 use mathlib.Core.Logic.{_⊎_, inl, inr}
 use mathlib.Core.Path.{_≡_, refl, ap, sym, _∙_}
@@ -8,13 +8,11 @@ use native.Mathlib.Numerals.{add-one}
 use native.Mathlib.Omega.{arith}
 use lib.Dec.{eqb}
 use borrow.Author.Tests.{eqb-true, eqb-false}
-use Rattle.protocol.specs.Lists.{any}
 use Rattle.protocol.specs.Store.{Marked, entries, inView}
 use Rattle.protocol.specs.Lent.{Make, rowsOf}
 use Rattle.protocol.proofs.Store.Views.{entries-append, view-append}
 use Rattle.rows.specs.Rows.{rowAt}
-use Rattle.rows.proofs.Rows.{take-rowsOf, rows-front}
-use Rattle.rows.proofs.Views.{any-entries, any-view}
+use Rattle.rows.proofs.Rows.{rows-more}
 use Rattle.ballots.specs.Latest.{selected}
 
 module _ {A : Type 0} where
@@ -28,19 +26,6 @@ module _ {A : Type 0} where
       go : (b : Bool) → inView ms ++ cond b (m .entry ∷ []) [] ≡ cond b (inView ms ++ (m .entry ∷ [])) (inView ms)
       go true = refl
       go false = append-nil (inView ms)
-
-  rows-more : (make : Make A) (ws : List ℕ) (i : ℕ) → rowsOf make ws (i + 1) ≡ rowsOf make ws i ++ (rowAt make ws i ∷ [])
-  rows-more make ws i =
-      let a : i + 1 ≤ i + 1 = omega arith in
-      let b : i < i + 1 = omega arith in
-      let c : i ≤ i + 1 = omega arith in
-      sym (rows-front make ws (i + 1) (i + 1) a) ∙ take-rowsOf make ws (i + 1) i b ∙ ap (λ (l : List A). l ++ (rowAt make ws i ∷ [])) (rows-front make ws (i + 1) i c)
-
-  -- a search of the selected entries is a search of the rows
-  pub any-selected : (w : Bool) (p : A → Bool) (ms : List (Marked A)) → any p (selected w ms) ≡ any (λ m. (w || m .shown) && p (m .entry)) ms
-  unfolding selected
-  any-selected true p ms = any-entries p ms
-  any-selected false p ms = any-view p ms
 
 module _ {A : Type 0} (make : Make (Marked A)) (w : Bool) (ws : List ℕ) (i : ℕ) (m : Marked A) (read : m ≡ rowAt make ws i) where
   selected-more : selected w (rowsOf make ws (i + 1)) ≡ cond (w || m .shown) (selected w (rowsOf make ws i) ++ (m .entry ∷ [])) (selected w (rowsOf make ws i))

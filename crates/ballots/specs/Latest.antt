@@ -6,7 +6,7 @@ use mathlib.Core.Path.{_≡_}
 use lib.Dec.{eqb}
 use lib.ListN.{getD}
 use Rattle.protocol.specs.declared.Vote.{Vote}
-use Rattle.protocol.specs.Filters.{equivocates, always, Last, last, none, latest, choiceOf, kept}
+use Rattle.protocol.specs.Filters.{equivocates, counted, Last, last, none, latest, choiceOf, kept}
 use Rattle.protocol.specs.Store.{Marked, entries, inView}
 use Rattle.protocol.specs.Lent.{rowsOf, makeVote}
 use Rattle.rows.specs.Rows.{rowAt}
@@ -24,8 +24,9 @@ votesIn whole ws n = selected whole (rowsOf makeVote ws n)
 abbrev pub VotersFit : List ℕ → ℕ → Type 0
 VotersFit ws n = (i : ℕ) → i < n → rowAt makeVote ws i .entry .voter < 64
 
-unfoldable pub equivocatorsOf : List Vote → ℕ
-equivocatorsOf vs = maskOf 64 (λ v. equivocates always vs v)
+-- the voters whom filter 1 drops for slot t
+unfoldable pub equivocatorsOf : List Vote → ℕ → ℕ → ℕ
+equivocatorsOf vs E t = maskOf 64 (λ v. equivocates (counted E t) vs v)
 
 -- the vote that two arrays hold for voter v: its slot and its block's number; no vote has slot 0
 unfoldable pub lastAt : List ℕ → List ℕ → ℕ → Last

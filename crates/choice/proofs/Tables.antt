@@ -59,6 +59,13 @@ module _ {s : Settings} {bw : List ℕ} {bu : ℕ} {vw : List ℕ} {vu : ℕ} (T
 
   -- ---- votes
 
+  pub few-votes : vu ≤ 8192
+  few-votes =
+      let p = places-few (T .places) (good .places) in
+      let l = good .fit-votes in
+      let e = length-rowsOf makeVote vw vu in
+      omega (arith, p .1)
+
   vote-sound : (w : Bool) (a : Vote) → Cast a (votesIn w vw vu) → VoteSound (s .nodes) (T .clock .seen / 3) (entries (rowsOf makeBlock bw bu)) a
   unfolding selected
   vote-sound true a m = good .votes a m

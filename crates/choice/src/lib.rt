@@ -56,7 +56,7 @@ pub fn better_place(
     ensures { λ r. ⌜ r ≡ betterPlace (now (blocks .entry)) (now (masks .entry)) whole lim a i best ⌝ }
 {
     let row = rows::block_at(blocks, i);
-    if ballots::selects(whole, row.shown) {
+    if rows::selects(whole, row.shown) {
         if is_child(lim, a, row.block) {
             if best != 0 {
                 if beats(blocks, masks, best, i) {
@@ -111,7 +111,8 @@ pub fn leaf(blocks: &[u64], used: usize, masks: &[u64], whole: bool, lim: u64) -
 }
 
 // The voters of each subtree, by the votes kept for slot t: the word at a block's place weighs as the block does.
-// The kept votes cost votes × votes / 2, the words at most blocks × blocks / 2. Stack: 1 KB for the kept votes of 64 voters.
+// The kept votes cost a descent for each vote, the words at most blocks × blocks / 2. Stack: 1 KB for the kept votes of 64 voters, and while they
+// are gathered 80 KiB.
 pub fn weigh(
     settings: Settings,
     blocks: &[u64],
@@ -141,7 +142,7 @@ pub fn weigh(
 }
 
 // The place of the heaviest leaf: by the weights of slot t, with children of slots below the limit.
-// Stack: 16 KB for the words of 2048 blocks; with the kept votes 17 KB, the most that any call here takes.
+// Stack: 16 KB for the words of 2048 blocks; with what gathers the kept votes 97 KB, the most that any call here takes.
 pub fn heaviest_leaf(
     settings: Settings,
     blocks: &[u64],

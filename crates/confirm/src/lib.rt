@@ -100,7 +100,7 @@ pub fn top(blocks: &[u64], used: usize, masks: &[u64], n: u64) -> Answer
 }
 
 // The fast block of slot t, over the view: the weights are those of the votes of slot t.
-// The cost of the weights, and one turn for each row. Stack: 16 KB for the words of 2048 blocks; with the kept votes 17 KB.
+// The cost of the weights, and one turn for each row. Stack: 16 KB for the words of 2048 blocks; with what gathers the kept votes 97 KB.
 pub fn fast(
     settings: Settings,
     blocks: &[u64],

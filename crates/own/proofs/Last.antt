@@ -3,8 +3,6 @@ use Prim.Native.Nat.{ℕ, _+_}
 use mathlib.Core.Path.{_≡_, sym, ap, _∙_}
 use mathlib.Core.Bool.{Bool, true, false, cond}
 use mathlib.Core.List.{List, [], _∷_, _++_, append-nil}
-use native.Mathlib.Nat.{le-refl}
-use native.Mathlib.Omega.{arith}
 use Rattle.protocol.specs.declared.Block.{Block}
 use Rattle.protocol.specs.Store.{Marked, inView}
 use Rattle.protocol.specs.Lent.{rowsOf, makeBlock}
@@ -12,7 +10,7 @@ use Rattle.protocol.specs.Calls.Write.{lastBlock}
 use Rattle.protocol.proofs.Store.Views.{view-append}
 use Rattle.protocol.proofs.Calls.Write.{last-end}
 use Rattle.rows.specs.Rows.{rowAt}
-use Rattle.rows.proofs.Rows.{take-rowsOf, rows-front}
+use Rattle.rows.proofs.Rows.{rows-more}
 
 last-more : (xs : List Block) (b : Block) (shown : Bool) → lastBlock (xs ++ cond shown (b ∷ []) []) ≡ cond shown b (lastBlock xs)
 last-more xs b true = last-end xs b
@@ -23,10 +21,6 @@ pub last-turn : (ws : List ℕ) (i : ℕ) {m : Marked Block} → m ≡ rowAt mak
     → lastBlock (inView (rowsOf makeBlock ws (i + 1))) ≡ cond (m .shown) (m .entry) (lastBlock (inView (rowsOf makeBlock ws i)))
 unfolding inView
 last-turn ws i {m} e =
-    let r : rowsOf makeBlock ws (i + 1) ≡ rowsOf makeBlock ws i ++ (m ∷ []) =
-    sym (rows-front makeBlock ws (i + 1) (i + 1) (le-refl (i + 1)))
-    ∙ take-rowsOf makeBlock ws (i + 1) i (omega arith)
-    ∙ rw (rows-front makeBlock ws (i + 1) i (omega arith), e)
-    in
+    let r : rowsOf makeBlock ws (i + 1) ≡ rowsOf makeBlock ws i ++ (m ∷ []) = rows-more makeBlock ws i ∙ ap (λ (a : Marked Block). rowsOf makeBlock ws i ++ (a ∷ [])) (sym e) in
     ap (λ ms. lastBlock (inView ms)) r ∙ ap lastBlock (view-append (rowsOf makeBlock ws i) (m ∷ []))
     ∙ last-more (inView (rowsOf makeBlock ws i)) (m .entry) (m .shown)

@@ -58,9 +58,9 @@ module _ (bs : List ℕ) where
   unfolding headerOf packetOf packetAt
   header-fields = simp entries-count
 
-  pub header-made : (kind slot number blocks n votes : ℕ) → kind ≡ field bs 0 1 → slot ≡ field bs 1 4 → number ≡ field bs 5 8 → blocks ≡ field bs 13 2
-      → n ≡ 2 + 20 * blocks → votes ≡ field bs (13 + n) 2
-      → _≡_ {A = Header} (record { kind = kind; slot = slot; number = number; blocks = blocks; votes = votes }) (headerOf bs)
-  header-made kind slot number blocks n votes a b c d e f =
+  pub header-made : (t : Three) (blocks n votes : ℕ) → t ≡ threeOf bs 0 1 4 8 → blocks ≡ field bs 13 2 → n ≡ 2 + 20 * blocks → votes ≡ field bs (13 + n) 2
+      → _≡_ {A = Header} (record { kind = t .first; slot = t .second; number = t .third; blocks = blocks; votes = votes }) (headerOf bs)
+  unfolding threeOf
+  header-made t blocks n votes a d e f =
       let sum : 13 + n ≡ 15 + 20 * field bs 13 2 = omega (arith, rw d at e) in
-      rw (header-fields, a, b, c, d, f, sum) refl
+      rw (header-fields, a, d, f, sum) refl

@@ -122,26 +122,28 @@ fn three_at(bytes: &[u8], at: usize, u: usize, v: usize, w: usize) -> Three
     }
 }
 
+// The count of a section, which stands at a place.
+fn count_at(bytes: &[u8], at: usize) -> u64
+    ensures { λ r. ⌜ (r ≡ field (now (bytes .entry)) at 2) × (r < 256 ^ 2) ⌝ }
+{
+    let r = new(bytes);
+    let r1 = skip(r, at);
+    take(r1, 2)
+}
+
 // ---- packets
 
 pub fn header_of(bytes: &[u8]) -> Header
     ensures { λ r. ⌜ r ≡ headerOf (now (bytes .entry)) ⌝ }
 {
-    let r = new(bytes);
-    let kind = take(r, 1);
-    let r1 = skip(r, 1);
-    let slot = take(r1, 4);
-    let r2 = skip(r1, 4);
-    let number = take(r2, 8);
-    let r3 = skip(r2, 8);
-    let blocks = take(r3, 2);
+    let t = three_at(bytes, 0, 1, 4, 8);
+    let blocks = count_at(bytes, 13);
     let n = section_bytes(blocks);
-    let r4 = skip(r3, n);
-    let votes = take(r4, 2);
+    let votes = count_at(bytes, 13 + n);
     Header {
-        kind,
-        slot,
-        number,
+        kind: t.first,
+        slot: t.second,
+        number: t.third,
         blocks,
         votes,
     }

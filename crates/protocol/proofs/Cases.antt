@@ -1,8 +1,8 @@
--- Document 01's starred cases, as one table over the definitions, and rows of our own that tell its five shortcuts from the rule.
--- Assumes nothing.
+-- Document 01's starred cases, as one table over the definitions, and rows of our own: those that tell its shortcuts from
+-- the rule (the first is none since request 2), and those of the requests. Assumes nothing.
 use Prim.Native.Nat.{ℕ}
 use mathlib.Core.Path.{_≡_, refl}
-use mathlib.Core.List.{List, [], _∷_}
+use mathlib.Core.List.{List, [], _∷_, _++_}
 use Rattle.protocol.specs.declared.Block.{Block}
 use Rattle.protocol.specs.declared.Vote.{Vote}
 use Rattle.protocol.specs.Lists.{any, all}
@@ -75,10 +75,6 @@ starred =
 
 -- ---- document 01's shortcuts, each told from the rule by a row
 
--- "Expiring before (1), which forgets double votes": voter 2 has two votes of slot 1, which is too old for slot 4
-abbrev pub doubled : List Vote
-doubled = vote 2 1 11 ∷ vote 2 1 0 ∷ votes
-
 -- "Taking the latest vote before expiry, so a vote of slot t hides an older one": 0 and 4 vote in slot 3 too
 abbrev pub hiding : List Vote
 hiding = vote 0 3 21 ∷ vote 4 3 21 ∷ votes
@@ -94,7 +90,6 @@ heard =
     (packetBytes (record { kind = 0; slot = 0; number = 0; blocks = block 11 0 1 ∷ []; votes = vote 1 1 11 ∷ [] }))
 
 pub record Told : Type 0 where
-  pub double-votes-last : headFor doubled 4 ≡ 21
   pub slot-t-hides-nothing : headFor hiding 3 ≡ 31
   pub slot-t-does-not-count : headFor (vote 4 3 21 ∷ votes) 3 ≡ 31
   pub gossip-waits : heard .node .blocks ≡ visible genesis ∷ waiting (block 11 0 1) ∷ []
@@ -105,7 +100,6 @@ pub told : Told
 unfolding any find slotIn upGo upStep aboveIn above conflict equivocates counted window later latest choiceOf kept count supports weight isChild beats better bestChild walkStep walkIn walk weightAt head base deepGo deepStep deepIn deepFrom deep voteIn validVote quorum heightGo heightStep heightIn height higher highest numberIn fast foundWith receive receiveTests receivedOf receiveInto firstBadBlock firstBadVote blockAllowed knownAs headerAllowed voteAllowed blocksAfter votesAfter addBlocks addBlock addVotes addVote brings stoodOn first unless sound settingsSound placesSound clockSound blocksSound restSound votesSound between all sameBlock sameVote entries inView show allWaiting packetBytes packetAs headBytes blockBytes voteBytes section flat bytesOf packetOf packetAt entriesAt blockAt voteAt field numberOf wellFormed headerFormed
 told =
     record {
-      double-votes-last = refl;
       slot-t-hides-nothing = refl;
       slot-t-does-not-count = refl;
       gossip-waits = refl;
@@ -133,6 +127,43 @@ pub record Named : Type 0 where
 pub named : Named
 unfolding any find foundWith receive receiveTests receivedOf receiveInto firstBadBlock firstBadVote blockAllowed knownAs headerAllowed voteAllowed blocksAfter votesAfter addBlocks addBlock addVotes addVote brings stoodOn first unless sound settingsSound placesSound clockSound blocksSound restSound votesSound between all sameBlock sameVote entries inView show allWaiting packetBytes packetAs headBytes blockBytes voteBytes section flat bytesOf packetOf packetAt entriesAt blockAt voteAt field numberOf wellFormed headerFormed
 named = record { first-block = refl; first-vote = refl; wrong-header = refl; other-slot = refl; no-place = refl }
+
+-- ---- request 2: a voter is dropped for two votes of one slot of the window, and for the fast block for two of slot t
+
+-- voter 2, who votes in slot 3 for 31, has two votes of slot s
+abbrev pub doubledIn : ℕ → List Vote
+doubledIn s = vote 2 s 11 ∷ vote 2 s 0 ∷ votes
+
+-- four who vote in slot 3 for 11 or above it, and more votes of one of them, voter 0
+abbrev pub fourWith : List Vote → List Vote
+fourWith more = vote 4 3 11 ∷ more ++ three
+
+-- The window of slot 4 is the slots 2 and 3. Without voter 2's vote for 31 the head is 21.
+pub record Doubled : Type 0 where
+  pub too-old : headFor (doubledIn 1) 4 ≡ 31
+  pub oldest : headFor (doubledIn 2) 4 ≡ 21
+  pub newest : headFor (doubledIn 3) 4 ≡ 21
+  pub too-new : headFor (doubledIn 4) 4 ≡ 31
+  pub base-too-old : base blocks (doubledIn 1) 5 2 4 ≡ 31
+  pub base-inside : base blocks (doubledIn 2) 5 2 4 ≡ 21
+  pub fast-before : fast blocks (fourWith (vote 0 2 11 ∷ vote 0 2 0 ∷ [])) 5 3 ≡ chosen 11
+  pub fast-inside : fast blocks (fourWith (vote 0 3 11 ∷ [])) 5 3 ≡ nothing
+  pub fast-after : fast blocks (fourWith (vote 0 4 11 ∷ vote 0 4 0 ∷ [])) 5 3 ≡ chosen 11
+
+pub doubled : Doubled
+unfolding any find slotIn upGo upStep aboveIn above conflict equivocates counted window later latest choiceOf kept count supports weight isChild beats better bestChild walkStep walkIn walk weightAt head base voteIn validVote quorum heightGo heightStep heightIn height higher highest numberIn fast
+doubled =
+    record {
+      too-old = refl;
+      oldest = refl;
+      newest = refl;
+      too-new = refl;
+      base-too-old = refl;
+      base-inside = refl;
+      fast-before = refl;
+      fast-inside = refl;
+      fast-after = refl;
+    }
 
 -- ---- the same at the last slots that there are
 

@@ -6,7 +6,7 @@ use lib.Dec.{leb, ltb, eqb}
 use Rattle.protocol.specs.declared.Block.{Block}
 use Rattle.protocol.specs.declared.Vote.{Vote}
 use Rattle.protocol.specs.Chain.{Found, found, missing, find, slotIn}
-use Rattle.protocol.specs.Filters.{equivocates, always, Choice, chosen, nothing}
+use Rattle.protocol.specs.Filters.{equivocates, Choice, chosen, nothing}
 use Rattle.protocol.specs.Walk.{weight, head}
 
 -- ---- deep: from x by the parents to the first slot of at most m
@@ -36,9 +36,9 @@ unfoldable pub voteIn : List Vote → ℕ → ℕ → Choice
 voteIn [] t v = nothing
 voteIn (a ∷ rest) t v = cond (eqb (a .voter) v && eqb (a .slot) t) (chosen (a .number)) (voteIn rest t v)
 
--- without equivocators
+-- without those who have two different votes in slot t
 unfoldable pub validVote : List Vote → ℕ → ℕ → Choice
-validVote vs t v = cond (equivocates always vs v) nothing (voteIn vs t v)
+validVote vs t v = cond (equivocates (λ s. eqb s t) vs v) nothing (voteIn vs t v)
 
 unfoldable pub quorum : List Block → List Vote → ℕ → ℕ → ℕ → Bool
 quorum bs vs n t x = leb (3 * n) (4 * weight bs (λ v. validVote vs t v) n x)

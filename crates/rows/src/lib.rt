@@ -2,6 +2,7 @@
 // A search takes as many steps as rows are used. No function keeps an array: the largest call takes less than 1 KB of stack.
 use protocol::Block;
 use protocol::Vote;
+ghost use mathlib.Core.Bool.{_||_};
 ghost use mathlib.Core.Path.{_≡_};
 ghost use Prim.Native.Nat.{_+_, _*_, _<_, _≤_};
 ghost use lib.ListN.{length, getD, drop};
@@ -21,6 +22,13 @@ pub struct BlockRow {
 pub struct VoteRow {
     pub vote: Vote,
     pub shown: bool,
+}
+
+// Whether a row is selected: of the whole store each row is, of the view those in view.
+pub fn selects(whole: bool, shown: bool) -> bool
+    ensures { λ r. ⌜ r ≡ (whole || shown) ⌝ }
+{
+    whole || shown
 }
 
 // Row i of the blocks.

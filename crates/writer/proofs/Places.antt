@@ -66,3 +66,10 @@ lent-rest xs zs ys us vs n l e f =
     let g : vs ≡ over zs (drop n us) = rw (take-all (length us - n) (drop n us) whole) at f in
     let h : vs ≡ over zs (drop n (over xs ys)) = rw e at g in
     rw (drop-of-length-le (drop n us) whole, append-nil, e) (over-behind xs zs ys vs n l h)
+
+-- what fits behind a place fits into the lent rest
+pub part-room : (n : ℕ) (us : List ℕ) (k : ℕ) → n + k ≤ length us → k ≤ length (take (length us - n) (drop n us))
+part-room n us k h =
+    let l = length-drop n us in
+    let whole : take (length us - n) (drop n us) ≡ drop n us = take-all (length us - n) (drop n us) (omega (arith, l)) in
+    rw whole (omega (arith, h, l))

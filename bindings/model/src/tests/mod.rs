@@ -1,5 +1,6 @@
-//! Tests. Expected values are words of document 01 or computed by hand.
+//! Tests. Expected values are words of document 01 and its requests or computed by hand.
 
+mod doubles;
 mod extremes;
 mod packets;
 mod places;

@@ -31,6 +31,14 @@ fn a_fast_block_and_a_waiting_proposal() {
 }
 
 #[test]
+fn a_double_vote() {
+    // One node with E = 2, twice in slot 1 and for 21 in slot 3. It is dropped for slot 3 and counts again for slot 4.
+    let bytes = gossip(&[(11, 0, 1), (21, 0, 1)], &[(0, 1, 11), (0, 1, 21), (0, 3, 21)]);
+    assert_eq!(chainask(&input(1, 2, 1, 3, &bytes)), "head 11\ndeep 11\nfast 21\n");
+    assert_eq!(chainask(&input(1, 2, 1, 4, &bytes)), "head 21\ndeep 21\nfast none\n");
+}
+
+#[test]
 fn refusals() {
     let shed = written(&shed(), false);
     assert_eq!(chainask(&[]), "refused 8\n");

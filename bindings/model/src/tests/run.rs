@@ -85,7 +85,7 @@ fn two_proposals_of_one_slot() {
     assert!(!run.nodes[2].receive(3, &one).unwrap().brought);
     assert_eq!(run.nodes[0].vote(4), Ok(111));
     assert_eq!(run.nodes[2].vote(4), Ok(112));
-    let votes = gossip(&[(111, 0, 1), (112, 0, 1)], &[(0, 1, 111), (2, 1, 112), (1, 1, 111), (1, 1, 112)]);
+    let votes = gossip(&[(111, 0, 1), (112, 0, 1)], &[(0, 1, 111), (2, 1, 112), (1, 1, 112), (1, 1, 111)]);
     for node in [0, 2] {
         run.nodes[node].receive(4, &votes).unwrap();
         run.nodes[node].merge(5).unwrap();
@@ -94,4 +94,31 @@ fn two_proposals_of_one_slot() {
     assert_eq!(run.nodes[2].propose(6, 120), Ok(111));
     assert_eq!(run.nodes[0].vote(7), Ok(111));
     assert_eq!(run.nodes[2].vote(7), Ok(120));
+}
+
+#[test]
+fn a_replaced_board_counts_again() {
+    // Node 0 is honest. Node 1 votes twice in slot 1, then for 21 with another board; node 2 votes for 21 always.
+    let mut node = fresh(3, 0, 2, 1);
+    let both = packet(1, 1, 11, &[(11, 0, 1), (21, 0, 1)], &[]);
+    assert!(node.receive(3, &both).unwrap().brought);
+    assert_eq!(node.vote(4), Ok(11));
+    node.receive(4, &gossip(&[], &[(1, 1, 11), (1, 1, 21), (2, 1, 21)])).unwrap();
+    node.merge(5).unwrap();
+    // Slots 2 and 3 look back on slot 1, node 1 is dropped: one against one, the smaller number.
+    assert_eq!(node.vote(7), Ok(11));
+    node.receive(7, &gossip(&[], &[(1, 2, 21), (2, 2, 21)])).unwrap();
+    node.merge(8).unwrap();
+    assert_eq!(node.propose(9, 31), Ok(11));
+    assert_eq!(node.vote(10), Ok(31));
+    node.receive(10, &gossip(&[], &[(1, 3, 21), (2, 3, 21)])).unwrap();
+    node.merge(11).unwrap();
+    // Slot 4 looks back on slots 2 and 3: two against one.
+    assert_eq!(node.vote(13), Ok(21));
+    node.receive(13, &gossip(&[], &[(1, 4, 21), (2, 4, 21)])).unwrap();
+    node.merge(14).unwrap();
+    assert_eq!((node.head(4), node.deep(4)), (Ok(21), Ok(21)));
+    // All three are needed. In slot 1 node 1 is dropped; in slots 2 and 3 it counts, and only block 0 has all three.
+    let fast: Vec<Option<u64>> = (1..=4).map(|slot| node.fast(slot).unwrap()).collect();
+    assert_eq!(fast, [None, Some(0), Some(0), Some(21)]);
 }

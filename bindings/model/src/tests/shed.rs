@@ -62,9 +62,12 @@ fn fast_blocks() {
     // The fifth vote for 31 makes four for it.
     add_vote(&mut node, vote(3, 3, 31));
     assert_eq!(node.fast(3), Ok(Some(31)));
-    // A double vote of an older slot drops voter 3 here too.
+    // A double vote of an older slot does not drop voter 3.
     add_vote(&mut node, vote(3, 2, 11));
     add_vote(&mut node, vote(3, 2, 21));
+    assert_eq!(node.fast(3), Ok(Some(31)));
+    // A double vote of slot 3 does: three are left for 31, four for 11.
+    add_vote(&mut node, vote(3, 3, 21));
     assert_eq!(node.fast(3), Ok(Some(11)));
     // Waiting votes do not count.
     node.votes[0].in_view = false;

@@ -1,4 +1,5 @@
 //! "Shortcuts that split a shed": the tables are made as each shortcut would see them, and the answer differs.
+//! For the first one it is the same: by request 2 it "is no longer one".
 
 use super::*;
 
@@ -12,17 +13,19 @@ fn fork() -> Node {
 }
 
 #[test]
-fn expiring_before_1() {
-    let mut node = fork();
-    add_vote(&mut node, vote(0, 1, 11));
-    add_vote(&mut node, vote(0, 1, 21));
-    add_vote(&mut node, vote(0, 4, 21));
-    // Voter 0 is dropped for its double vote of slot 1, though that slot is expired: nobody votes, 11 is smaller.
-    assert_eq!(node.head(5), Ok(11));
-    // The shortcut sees slots 3 and 4 only.
-    node.votes[0] = node.votes[2];
-    node.votes_used = 1;
-    assert_eq!(node.head(5), Ok(21));
+fn expiring_before_1_is_no_longer_one() {
+    // Voter 0 votes for 21 in slot 4, and twice in another slot. What stands in slots 3 and 4 is the first so many.
+    for (double, head, in_3_and_4) in [(1, 21, 1), (2, 21, 1), (3, 11, 3), (5, 21, 1), (6, 21, 1)] {
+        let mut node = fork();
+        add_vote(&mut node, vote(0, 4, 21));
+        add_vote(&mut node, vote(0, double, 11));
+        add_vote(&mut node, vote(0, double, 21));
+        // If voter 0 is dropped, nobody votes and 11 is smaller.
+        assert_eq!(node.head(5), Ok(head), "twice in slot {double}");
+        // What was the shortcut sees slots 3 and 4 only.
+        node.votes_used = in_3_and_4;
+        assert_eq!(node.head(5), Ok(head), "twice in slot {double}, expired first");
+    }
 }
 
 #[test]

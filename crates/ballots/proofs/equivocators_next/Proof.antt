@@ -1,48 +1,81 @@
+-- `equivocators_next` meets its contract. Assumes nothing.
 use borrow.Author.Needs.{needs}
 use native.Mathlib.Omega.{arith}
-use mathlib.Core.Path.{ap, sym, _∙_}
-use Rattle.ballots.proofs.Turns.{add-turn, keep-turn, pass-turn}
+use mathlib.Core.Path.{refl, ap, sym, _∙_}
+use Rattle.search_tree.proofs.Descent.{placed-below}
+use Rattle.ballots.proofs.Equivocators.{alone-turn, out-turn, again-turn, double-turn}
 use Rattle.ballots.proofs.equivocators_next.Statement.{statement}
 use Rattle.ballots.proofs.equivocators_next.Tie as tie
 
-vote-at-requires : tie.Need-vote-at-requires
-vote-at-requires c κs = search needs
-
-selects-requires : tie.Need-selects-requires
-selects-requires c κs = search needs
-
-conflicted-requires : tie.Need-conflicted-requires
-conflicted-requires c κs = search needs
+-- the row of the first vote of the voter and slot is there
+vote-at-requires-2 : tie.Need-vote-at-requires-2
+vote-at-requires-2 c κs =
+    let f = c .before .before .before in
+    let a = f .before .before .before in
+    omega (arith, placed-below (a .add .ensures .0) (f .if1 .taken), a .before .before .before .before .pre .0)
 
 with-requires : tie.Need-with-requires
 with-requires c κs =
-    let v = c .before .before .before .before in
-    let s = v .before .before in
-    omega (arith, s .pre .1 (s .args .i) (omega arith), ap (λ o. o .entry .voter) (v .vote-at .ensures))
+    let v = c .before .before .before .before .before .before in
+    let s = v .before .before .before .before .before .before .before .before in
+    omega (arith, s .pre .2 (s .args .i) (omega arith), ap (λ o. o .entry .voter) (v .vote-at .ensures))
 
 returns : tie.Need-returns
 returns c =
-    let i = c .before in
-    let d = i .before in
-    let f = d .before in
-    let v = f .before .before in
-    add-turn _ _ _ _ (v .vote-at .ensures) (c .with .ensures) (v .before .before .pre .2) (sym (f .before .selects .ensures) ∙ f .if1 .taken)
-    (sym (d .conflicted .ensures) ∙ i .if2 .taken)
+    let d = c .before in
+    let m = d .before .before .before in
+    let k = m .before .before in
+    let v = k .before in
+    let f = v .before in
+    let a = f .before .before .before in
+    let s = a .before .before .before .before in (
+      double-turn _ _ _ _ (v .vote-at .ensures) _ _ (s .pre .4) (a .add .ensures .0) _ (m .vote-at2 .ensures) (f .if1 .taken) (sym (k .counts .ensures) ∙ m .before .if2 .taken)
+          (c .with .ensures) (d .if3 .taken),
+      a .add .ensures .1,
+    )
 
 returns-2 : tie.Need-returns-2
 returns-2 c =
-    let d = c .before in
-    let f = d .before in
-    let v = f .before .before in
-    keep-turn _ _ _ _ (v .vote-at .ensures) (v .before .before .pre .2) (sym (f .before .selects .ensures) ∙ f .if1 .taken)
-    (sym (d .conflicted .ensures) ∙ c .if2 .left)
+    let m = c .before .before .before in
+    let k = m .before .before in
+    let v = k .before in
+    let f = v .before in
+    let a = f .before .before .before in
+    let s = a .before .before .before .before in (
+      again-turn _ _ _ _ (v .vote-at .ensures) _ _ (s .pre .4) (a .add .ensures .0) _ (m .vote-at2 .ensures) (f .if1 .taken) (sym (k .counts .ensures) ∙ m .before .if2 .taken)
+          (c .if3 .left),
+      a .add .ensures .1,
+    )
 
 returns-3 : tie.Need-returns-3
 returns-3 c =
-    let v = c .before .before in
-    pass-turn _ _ _ _ (v .vote-at .ensures) (v .before .before .pre .2) (sym (c .before .selects .ensures) ∙ c .if1 .left)
+    let k = c .before in
+    let v = k .before in
+    let a = v .before .before .before .before in
+    let s = a .before .before .before .before in
+    (out-turn _ _ _ _ (v .vote-at .ensures) _ _ (s .pre .4) (sym (k .counts .ensures) ∙ c .if2 .left), a .add .ensures .1)
+
+returns-4 : tie.Need-returns-4
+returns-4 c =
+    let a = c .before .before .before in
+    let s = a .before .before .before .before in
+    (alone-turn _ _ _ _ refl _ _ (s .pre .4) (a .add .ensures .0) (c .if1 .left), a .add .ensures .1)
 
 pub equivocators-next-spec : {M : Type 1} → statement M
 equivocators-next-spec =
     tie.close
-    (tie.spec vote-at-requires selects-requires conflicted-requires with-requires returns returns-2 returns-3)
+    (tie.spec
+    (λ c κs. search needs)
+    (λ c κs. search needs)
+    (λ c κs. search needs)
+    (λ c. search needs)
+    vote-at-requires-2
+    with-requires
+    (λ c. search needs)
+    returns
+    (λ c. search needs)
+    returns-2
+    (λ c. search needs)
+    returns-3
+    (λ c. search needs)
+    returns-4)

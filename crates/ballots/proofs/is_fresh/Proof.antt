@@ -1,5 +1,5 @@
 use borrow.Author.Needs.{needs}
-use Rattle.ballots.proofs.Filters.{window-span}
+use Rattle.ballots.proofs.Latest.{window-span}
 use Rattle.ballots.proofs.is_fresh.Statement.{statement}
 use Rattle.ballots.proofs.is_fresh.Tie as tie
 

@@ -6,7 +6,7 @@ use lib.ListN.{length, length-replicate}
 use denote.Ref.{now}
 use Rattle.ballots.specs.Latest.{votesIn}
 use Rattle.ballots.proofs.Kept.{Dropped, dropped-none, dropped-more, dropped-all}
-use Rattle.ballots.proofs.Turns.{latest-zero}
+use Rattle.ballots.proofs.Latest.{latest-zero}
 use Rattle.ballots.proofs.kept_votes.Statement.{statement}
 use Rattle.ballots.proofs.kept_votes.Tie as tie
 
@@ -19,23 +19,18 @@ abbrev μ-loop : tie.MeasureT-loop
 
 -- the slots lent are 64
 lent : (s : tie.Start Inv-loop μ-loop) → length (now (s .args .slots)) ≡ 64
-lent s = ap length (s .pre .2) ∙ length-replicate {A = ℕ} 64 0
+lent s = ap length (s .pre .3) ∙ length-replicate {A = ℕ} 64 0
 
-latest-votes-requires : tie.Need-latest-votes-requires Inv-loop μ-loop
-latest-votes-requires c κs =
+gather-requires : tie.Need-gather-requires Inv-loop μ-loop
+gather-requires c κs =
     let s = c .before .before .before .before .before in
-    (s .pre .0, s .pre .1, lent s, s .pre .3, latest-zero _ _ _ _ _ _ (s .pre .2))
-
-equivocators-requires : tie.Need-equivocators-requires Inv-loop μ-loop
-equivocators-requires c κs =
-    let s = c .before .before .before .before .before .before .before .before .before .before in
-    (s .pre .0, s .pre .1)
+    (s .pre .0, s .pre .1, s .pre .2, lent s, s .pre .4, latest-zero _ _ _ _ _ _ (s .pre .3))
 
 loop-holds : tie.Need-loop-holds Inv-loop μ-loop
 loop-holds c =
-    let k = c .before .before .before .before .before in
+    let k = c .before .before .before .before in
     let s = k .before .before .before .before .before .before in
-    (omega arith, k .latest-votes .kept .1 .1 .1 .1 .1 .0 ∙ lent s, dropped-none _ _ _ _ (k .latest-votes .ensures))
+    (omega arith, k .gather .kept .1 .1 .1 .1 .1 .0 ∙ lent s, dropped-none _ _ _ _ (k .gather .ensures .1))
 
 drop-voter-requires : tie.Need-drop-voter-requires Inv-loop μ-loop
 drop-voter-requires c κs = search needs
@@ -56,14 +51,16 @@ loop-again c =
 same-length : tie.Need-same-length Inv-loop μ-loop
 same-length c =
     let l = c .before .loop in
-    let s = c .before .before .before .before .before .before .before .before .before .before .before .before .before in
+    let s = c .before .before .before .before .before .before .before .before .before .before .before .before in
     l .inv .1 ∙ sym (lent s)
 
 same-length-2 : tie.Need-same-length-2 Inv-loop μ-loop
-same-length-2 c = c .before .before .before .before .before .before .before .latest-votes .kept .1 .1 .1 .1 .1 .1 .0
+same-length-2 c = c .before .before .before .before .before .before .gather .kept .1 .1 .1 .1 .1 .1 .0
 
 returns : tie.Need-returns Inv-loop μ-loop
-returns c = let l = c .before .loop in dropped-all _ _ _ _ _ (l .inv .2) (c .loop-test .left) (c .before .before .equivocators .ensures)
+returns c =
+    let l = c .before in
+    dropped-all _ _ _ _ _ (l .loop .inv .2) (c .loop-test .left) (l .before .before .before .before .before .gather .ensures .0)
 
 pub kept-votes-spec : {M : Type 1} → statement M
 kept-votes-spec =
@@ -71,8 +68,7 @@ kept-votes-spec =
     (tie.spec
     Inv-loop
     μ-loop
-    latest-votes-requires
-    equivocators-requires
+    gather-requires
     loop-holds
     drop-voter-requires
     add-v

@@ -3,7 +3,7 @@ use borrow.Author.Tests.{ltb-true, ltb-false}
 use native.Mathlib.Omega.{arith}
 use Prim.Native.Nat.{_<_}
 use mathlib.Core.Path.{ap, sym, _∙_}
-use Rattle.ballots.proofs.Turns.{out-turn, old-turn, new-turn}
+use Rattle.ballots.proofs.Latest.{out-turn, old-turn, new-turn}
 use Rattle.ballots.proofs.latest_next.Statement.{statement}
 use Rattle.ballots.proofs.latest_next.Tie as tie
 

@@ -2,7 +2,7 @@ use borrow.Author.Needs.{needs}
 use Prim.Native.Nat.{ℕ}
 use mathlib.Core.Path.{refl, _∙_}
 use lib.ListN.{length-replicate}
-use Rattle.choice.proofs.Tables.{voters-fit, blocks-held, few, words-weigh}
+use Rattle.choice.proofs.Tables.{voters-fit, blocks-held, few, few-votes, words-weigh}
 use Rattle.choice.proofs.weigh.Statement.{statement}
 use Rattle.choice.proofs.weigh.Tie as tie
 
@@ -15,7 +15,7 @@ slice-aggregate-kept-votes-2 c = search needs
 kept-votes-requires : tie.Need-kept-votes-requires
 kept-votes-requires c κs =
     let T = c .before .before .before .before .before .pre .0 in
-    (T .votes-fit, voters-fit T, refl, length-replicate {A = ℕ} 64 0)
+    (T .votes-fit, few-votes T, voters-fit T, refl, length-replicate {A = ℕ} 64 0)
 
 slice-aggregate-supporters : tie.Need-slice-aggregate-supporters
 slice-aggregate-supporters c = search needs

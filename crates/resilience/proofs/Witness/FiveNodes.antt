@@ -7,6 +7,8 @@ use mathlib.Core.List.{List, [], _∷_, _++_, List·Memᴰ, List·Memᴰ·head}
 use native.Mathlib.Omega.{arith}
 use lib.Dec.{eqb}
 use Rattle.protocol.specs.Lists.{all}
+use Rattle.protocol.specs.Filters.{chosen, nothing, kept}
+use Rattle.protocol.specs.Store.{inView}
 use Rattle.protocol.specs.Packet.{Packet, packetBytes, packetOf}
 use Rattle.resilience.specs.Run.{Network, World, start, Event, voted, built, given}
 use Rattle.resilience.specs.Resilience.{AtOrAbove, Stays}
@@ -39,6 +41,10 @@ vote-12 = gossipWith [] (voteBy 1 2 12 ∷ [])
 
 abbrev pub vote-21 : Packet
 vote-21 = gossipWith [] (voteBy 1 2 21 ∷ [])
+
+-- one vote of slot 4
+abbrev pub again-12 : Packet
+again-12 = gossipWith [] (voteBy 1 4 12 ∷ [])
 
 -- a block whose parent nobody knows
 abbrev pub orphan : Packet
@@ -79,17 +85,26 @@ slot-3 =
     ∷ begin ∷ awake 3 ∷ awake 4 ∷ awake 2 ∷ awake 0 ∷ exchange (4 ∷ 3 ∷ 2 ∷ 0 ∷ [])
     ∷ []
 
--- Node 4 proposes block 41, all four vote for it, and the vote beat is over.
+-- Node 4 proposes block 41, and all four vote for it and merge. Node 1 votes once, for 12.
 slot-4 : List Act
 slot-4 =
     begin ∷ proposes 4 41 ∷ gossip 4 0 ∷ proposal 4 0 ∷ proposal 4 2 ∷ gossip 4 2 ∷ gossip 4 3 ∷ proposal 4 3
+    ∷ begin ∷ awake 0 ∷ awake 2 ∷ awake 3 ∷ awake 4 ∷ packet again-12 4 ∷ exchange (0 ∷ 2 ∷ 3 ∷ 4 ∷ [])
+    ∷ begin ∷ awake 0 ∷ awake 2 ∷ awake 3 ∷ awake 4 ∷ exchange (0 ∷ 2 ∷ 3 ∷ 4 ∷ [])
+    ∷ []
+
+-- Its two votes of slot 2 are out of the window of slot 5, so that it counts again. Node 0 proposes block 51, all four vote for it, and the vote
+-- beat is over.
+slot-5 : List Act
+slot-5 =
+    begin ∷ proposes 0 51 ∷ gossip 0 2 ∷ proposal 0 2 ∷ proposal 0 3 ∷ gossip 0 3 ∷ gossip 0 4 ∷ proposal 0 4
     ∷ begin ∷ awake 0 ∷ awake 2 ∷ awake 3 ∷ awake 4
     ∷ begin
     ∷ []
 
 pub acts : List Act
-unfolding slot-1 slot-2 slot-3 slot-4
-acts = slot-1 ++ (slot-2 ++ (slot-3 ++ slot-4))
+unfolding slot-1 slot-2 slot-3 slot-4 slot-5
+acts = slot-1 ++ (slot-2 ++ (slot-3 ++ (slot-4 ++ slot-5)))
 
 abbrev pub end : World
 end = runs five (start five) (together acts)
@@ -107,23 +122,25 @@ arrivals b j (e ∷ log) =
 -- In each list the latest comes first.
 pub record Happened : Type 0 where
   pub votes : only 1 (end .log)
-      ≡ voted 13 4 41 ∷ voted 13 3 41 ∷ voted 13 2 41 ∷ voted 13 0 41
+      ≡ voted 16 4 51 ∷ voted 16 3 51 ∷ voted 16 2 51 ∷ voted 16 0 51
+      ∷ voted 13 4 41 ∷ voted 13 3 41 ∷ voted 13 2 41 ∷ voted 13 0 41
       ∷ voted 10 3 31 ∷ voted 10 2 31 ∷ voted 10 0 31
       ∷ voted 7 4 21 ∷ voted 7 3 21 ∷ voted 7 2 21
       ∷ voted 4 4 11 ∷ voted 4 3 11 ∷ voted 4 2 12 ∷ []
-  pub blocks : only 2 (end .log) ≡ built 12 4 41 31 ∷ built 9 3 31 21 ∷ built 6 2 21 11 ∷ []
+  pub blocks : only 2 (end .log) ≡ built 15 0 51 41 ∷ built 12 4 41 31 ∷ built 9 3 31 21 ∷ built 6 2 21 11 ∷ []
   pub lies : all (λ e. occurs e (end .log))
       (given 2 0 (packetBytes empty) true
       ∷ given 3 2 (packetBytes proposal-12) true ∷ given 3 3 (packetBytes proposal-11) true
       ∷ given 7 2 (packetBytes vote-12) true ∷ given 7 3 (packetBytes vote-21) true
-      ∷ given 9 3 (packetBytes orphan) false ∷ []) ≡ true
+      ∷ given 9 3 (packetBytes orphan) false ∷ given 13 4 (packetBytes again-12) true ∷ []) ≡ true
+  pub counts-again : (kept (inView (end .node 3 .votes)) 2 4 1 ≡ nothing) × (kept (inView (end .node 3 .votes)) 2 5 1 ≡ chosen 12)
   pub counts-3 : (others five end 3 ≡ 2) × (voters five end 3 ≡ 3)
   pub at-node-3 : arrivals 6 3 (end .log) ≡ 0 ∷ 1 ∷ []
   pub at-node-4 : arrivals 6 4 (end .log) ≡ 1 ∷ 0 ∷ []
 
 pub happened : Happened
 unfolding meetsTest acts arrivals
-happened = record { votes = refl; blocks = refl; lies = refl; counts-3 = (refl, refl); at-node-3 = refl; at-node-4 = refl }
+happened = record { votes = refl; blocks = refl; lies = refl; counts-again = (refl, refl); counts-3 = (refl, refl); at-node-3 = refl; at-node-4 = refl }
 
 -- ---- what the theorem says of it: block 21 stays
 
@@ -131,8 +148,10 @@ pub record Conclusion : Type 0 where
   pub votes-2 : (i x : ℕ) → List·Memᴰ (voted 7 i x) (end .log) → x ≡ 21
   pub votes-3 : (i x : ℕ) → List·Memᴰ (voted 10 i x) (end .log) → AtOrAbove (end .log) 21 x
   pub votes-4 : (i x : ℕ) → List·Memᴰ (voted 13 i x) (end .log) → AtOrAbove (end .log) 21 x
+  pub votes-5 : (i x : ℕ) → List·Memᴰ (voted 16 i x) (end .log) → AtOrAbove (end .log) 21 x
   pub base-3 : (i x y : ℕ) → List·Memᴰ (built 9 i x y) (end .log) → AtOrAbove (end .log) 21 y
   pub base-4 : (i x y : ℕ) → List·Memᴰ (built 12 i x y) (end .log) → AtOrAbove (end .log) 21 y
+  pub base-5 : (i x y : ℕ) → List·Memᴰ (built 15 i x y) (end .log) → AtOrAbove (end .log) 21 y
 
 pub met : meetsTest five acts 6 2 21 11 ≡ true
 unfolding meetsTest acts
@@ -145,11 +164,13 @@ witness-holds =
       votes-2 = λ i x m. s .0 7 i x m refl;
       votes-3 = λ i x m. s .1 .0 10 i x m (omega arith);
       votes-4 = λ i x m. s .1 .0 13 i x m (omega arith);
+      votes-5 = λ i x m. s .1 .0 16 i x m (omega arith);
       base-3 = λ i x y m. s .1 .1 9 i x y m (omega arith);
       base-4 = λ i x y m. s .1 .1 12 i x y m (omega arith);
+      base-5 = λ i x y m. s .1 .1 15 i x y m (omega arith);
     }
 
 -- the last vote is one of those
-pub last-vote : AtOrAbove (end .log) 21 41
+pub last-vote : AtOrAbove (end .log) 21 51
 last-vote =
-    witness-holds .votes-4 4 41 (only-in 1 (end .log) (voted 13 4 41) (rw (happened .votes) (List·Memᴰ·head refl)))
+    witness-holds .votes-5 4 51 (only-in 1 (end .log) (voted 16 4 51) (rw (happened .votes) (List·Memᴰ·head refl)))

@@ -11,7 +11,7 @@ use borrow.Rule.Slice.PartMut.{putMid}
 use Rattle.protocol.specs.Packet.{section}
 use Rattle.protocol.specs.Calls.Write.{over}
 use Rattle.writer.specs.Rows.{makeRow, sentFrom, rowBytes}
-use Rattle.writer.proofs.Places.{sets-over, lent-rest}
+use Rattle.writer.proofs.Places.{sets-over, lent-rest, part-room}
 use Rattle.writer.proofs.Rows.{row-length}
 use Rattle.writer.proofs.Sent.{blockWidths, voteWidths, sent-sections, sent-room}
 use Rattle.writer.proofs.write_packet.Statement.{statement}
@@ -37,10 +37,11 @@ part-put-section-end c = let h = room (c .before .before .before .before .before
 
 put-section-requires : tie.Need-put-section-requires
 put-section-requires c κs =
-    let s = c .before .before .before .before .before .before .before .before .before in
-    let h = room s in
-    let rows = s .pre .0 .blockRows in
-    search needs
+    let t = c .before .before .before in
+    let s = t .before .before .before .before .before .before in
+    let a = s .args in
+    let size = length (section (rowBytes blockWidths) (sentFrom (a .proposal) (a .blocks .now) 1 (a .blocks-used))) in
+    (s .pre .0 .blockRows, part-room 13 (t .put-three .last .0) size (omega (arith, room s, t .put-three .kept .0)))
 
 add-at : tie.Need-add-at
 add-at c = omega (arith, room (c .before .before .before .before .before .before .before .before .before .before .before .before), c .before .before .put-section .ensures .0)

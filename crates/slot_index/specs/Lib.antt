@@ -1,0 +1,2 @@
+-- The index of votes by voter and slot. Assumes nothing.
+pub mod Index

@@ -1,0 +1,61 @@
+/* A board that voted twice in a slot counts again once that slot is out of the window. Node 0 of three hears boards 1 and 2: board 1 votes
+ * for blocks 11 and 12 in slot 1, and for 11 in slots 2 and 3, when it is replaced; board 2 votes for 12 in all of them. With E = 2 board 1
+ * is dropped for slots 2 and 3, and head 12 has board 2's vote alone; for slot 4 both count, and the smaller number is the head. */
+#include <stdio.h>
+#include <stdlib.h>
+#include "likvost.h"
+
+enum { BLOCKS = 16, VOTES = 32, BUFFER = 1024 };
+
+static const likvost_settings settings = {.nodes = 3, .own = 0, .expiry = 2, .depth = 1};
+static likvost_clock now;
+static uint64_t blocks[4 * BLOCKS], votes[4 * VOTES];
+static size_t blocks_used, votes_used;
+
+/* Keeps the clock; ends the program if the call was refused. */
+static void keep(likvost_answer a)
+{
+    if (a.refusal != LIKVOST_OK) {
+        fprintf(stderr, "refused: %s\n", likvost_refusal_message(a.refusal));
+        exit(1);
+    }
+    now = a.clock;
+}
+
+static uint8_t *put(uint8_t *at, uint64_t number, int bytes)
+{
+    for (int i = 0; i < bytes; i++)
+        *at++ = (uint8_t)(number >> (8 * i));
+    return at;
+}
+
+/* What the two boards say: blocks 11 and 12 of slot 1, and their votes. */
+static size_t gossip(uint8_t *packet)
+{
+    static const uint8_t cast[][3] = {{1, 1, 11}, {1, 1, 12}, {1, 2, 11}, {1, 3, 11}, {2, 1, 12}, {2, 2, 12}, {2, 3, 12}};
+    enum { CAST = sizeof cast / sizeof cast[0] };
+    uint8_t *p = put(put(packet, 0, 13), 2, 2);
+    for (uint64_t number = 11; number <= 12; number++)
+        p = put(put(put(p, number, 8), 0, 8), 1, 4);
+    p = put(p, CAST, 2);
+    for (int i = 0; i < CAST; i++)
+        p = put(put(put(p, cast[i][0], 1), cast[i][1], 4), cast[i][2], 8);
+    return (size_t)(p - packet);
+}
+
+int main(void)
+{
+    uint8_t packet[BUFFER];
+    size_t length = gossip(packet);
+    keep(likvost_open(settings, now, blocks, 4 * BLOCKS, &blocks_used, votes, 4 * VOTES, &votes_used));
+    keep(likvost_receive(settings, now, blocks, 4 * BLOCKS, &blocks_used, votes, 4 * VOTES, &votes_used, 3 * 3, packet, length));
+    for (uint64_t slot = 3; slot <= 4; slot++)
+        keep(likvost_merge(settings, now, blocks, 4 * BLOCKS, &blocks_used, votes, 4 * VOTES, &votes_used, 3 * slot + 2));
+    for (uint64_t slot = 2; slot <= 4; slot++) {
+        likvost_found head = likvost_head(settings, now, blocks, 4 * BLOCKS, blocks_used, votes, 4 * VOTES, votes_used, slot);
+        if (head.refusal != LIKVOST_OK)
+            return 1;
+        printf("slot %d: head %d\n", (int)slot, (int)head.value);
+    }
+    return 0;
+}

@@ -3,6 +3,7 @@ pub mod Views
 pub mod Follow
 pub mod Tables
 pub mod New
+pub mod Added
 pub mod FirstBad
 pub mod Growth
 pub mod Sound

@@ -1,37 +1,23 @@
--- Entries added to a list and to a table, once for blocks and votes: `has` says whether an entry is there already.
--- Assumes nothing.
-use Prim.Native.Nat.{ℕ, _+_, _≤_}
-use mathlib.Core.Bool.{Bool, true, false, not, cond}
+-- Entries added to a table, once for blocks and votes: `has` says whether an entry is there already. Assumes nothing.
+use Prim.Native.Nat.{_+_}
+use mathlib.Core.Bool.{Bool, true, false, cond}
 use mathlib.Core.List.{List, [], _∷_, _++_, append-assoc, append-nil}
 use mathlib.Core.Path.{_≡_, refl, ap, sym, _∙_}
-use native.Mathlib.Omega.{arith}
-use lib.ListN.{length, take, drop, length-append, take-append-drop}
+use lib.ListN.{length, drop}
 use lib.Seq.{drop-at}
 use Rattle.protocol.specs.Store.{Marked, waiting, allWaiting, entries}
-use Rattle.protocol.specs.Lent.{markOf}
 use Rattle.protocol.proofs.Store.New.{newOf, Adding, adds-new}
+use Rattle.protocol.proofs.Store.Added.{addOne}
 use Rattle.protocol.proofs.Store.Views.{length-entries, entries-append}
 use Rattle.storing.specs.Grown.{grown}
 
 module _ {A : Type 0} (has : List A → A → Bool) where
   -- ---- one entry
 
-  unfoldable pub addOne : List A → A → List A
-  addOne xs a = cond (has xs a) xs (xs ++ (a ∷ []))
-
-  -- one more, or none
-  pub length-one : (xs : List A) (a : A) → length (addOne xs a) ≡ length xs + markOf (not (has xs a))
-  unfolding addOne
-  length-one xs a = go (has xs a)
-    where
-      go : (t : Bool) → length (cond t xs (xs ++ (a ∷ []))) ≡ length xs + markOf (not t)
-      go true = omega arith
-      go false = length-append xs (a ∷ [])
-
   unfoldable pub enter : List (Marked A) → A → List (Marked A)
   enter ms a = cond (has (entries ms) a) ms (ms ++ (waiting a ∷ []))
 
-  entries-enter : (ms : List (Marked A)) (a : A) → entries (enter ms a) ≡ addOne (entries ms) a
+  entries-enter : (ms : List (Marked A)) (a : A) → entries (enter ms a) ≡ addOne has (entries ms) a
   unfolding enter addOne entries
   entries-enter ms a = go (has (entries ms) a)
     where
@@ -39,7 +25,7 @@ module _ {A : Type 0} (has : List A → A → Bool) where
       go true = refl
       go false = entries-append ms (waiting a ∷ [])
 
-  pub length-enter : (ms : List (Marked A)) (a : A) → length (enter ms a) ≡ length (addOne (entries ms) a)
+  pub length-enter : (ms : List (Marked A)) (a : A) → length (enter ms a) ≡ length (addOne has (entries ms) a)
   length-enter ms a = sym (length-entries (enter ms a)) ∙ ap length (entries-enter ms a)
 
   -- ---- one after the other
@@ -67,28 +53,6 @@ module _ {A : Type 0} (has : List A → A → Bool) where
           ∙ append-assoc ms (waiting x ∷ []) (allWaiting (newOf has (entries ms ++ (x ∷ [])) xs))
 
   module _ (add : List A → List A → List A) (is : Adding has add) where
-    -- to a list
-    pub added-one : (xs : List A) (a : A) → add xs (a ∷ []) ≡ addOne xs a
-    unfolding addOne
-    added-one xs a = is .one xs a [] ∙ is .none (addOne xs a)
-
-    added-append : (xs ys zs : List A) → add xs (ys ++ zs) ≡ add (add xs ys) zs
-    unfolding addOne
-    added-append xs [] zs = ap (λ (l : List A). add l zs) (sym (is .none xs))
-    added-append xs (y ∷ ys) zs = is .one xs y (ys ++ zs) ∙ added-append (addOne xs y) ys zs ∙ ap (λ (l : List A). add l zs) (sym (is .one xs y ys))
-
-    pub added-end : (xs ys : List A) (a : A) → add xs (ys ++ (a ∷ [])) ≡ addOne (add xs ys) a
-    added-end xs ys a = added-append xs ys (a ∷ []) ∙ added-one (add xs ys) a
-
-    pub length-grows : (xs ys : List A) → length xs ≤ length (add xs ys)
-    length-grows xs ys = rw (adds-new has add is xs ys, length-append xs (newOf has xs ys)) (omega arith)
-
-    -- a front of the entries adds no more
-    pub length-front : (xs ys : List A) (i : ℕ) → length (add xs (take i ys)) ≤ length (add xs ys)
-    length-front xs ys i =
-        let e : add xs ys ≡ add (add xs (take i ys)) (drop i ys) = ap (add xs) (sym (take-append-drop i ys)) ∙ added-append xs (take i ys) (drop i ys) in
-        rw e (length-grows (add xs (take i ys)) (drop i ys))
-
     -- to a table, as the contracts say it
     pub grown-new : (ms : List (Marked A)) (xs : List A) → grown add ms xs ≡ ms ++ allWaiting (newOf has (entries ms) xs)
     unfolding grown

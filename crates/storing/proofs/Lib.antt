@@ -2,4 +2,3 @@
 pub mod Adding
 pub mod Turns
 pub mod Indexed
-pub mod Joined

@@ -1,53 +1,25 @@
--- One turn of a loop that counts a packet's new entries, and of one that adds them to a table; once for blocks and votes.
+-- One turn of a loop that adds a packet's new entries to a table; once for blocks and votes.
 -- Assumes nothing.
 use Prim.Native.Nat.{ℕ, _+_, _*_, _≤_, _<_}
 use mathlib.Core.Bool.{Bool, true, false, not}
 use mathlib.Core.List.{List, [], _∷_, _++_}
-use mathlib.Core.Path.{_≡_, refl, ap, sym, _∙_}
+use mathlib.Core.Path.{_≡_, ap, sym, _∙_}
 use native.Mathlib.Omega.{arith}
 use lib.ListN.{length, getD, take, length-append}
 use lib.Seq.{take-all}
-use mir.Val.{boolByte}
 use Rattle.protocol.specs.Store.{Marked, waiting, entries}
 use Rattle.protocol.specs.Lent.{Make, rowsOf, stored, markOf, marksSound}
 use Rattle.protocol.proofs.Store.New.{Adding}
 use Rattle.protocol.proofs.Store.Views.{length-entries}
 use Rattle.protocol.proofs.Lent.Rows.{Codec, rows-stored, marks-stored, stored-same, length-rowsOf}
-use Rattle.rows.proofs.Words.{mark-word}
 use Rattle.rows.proofs.Stored.{stored-longer}
 use Rattle.admission.proofs.Entries.{front-entry}
 use Rattle.storing.specs.Grown.{grown, Holds}
-use Rattle.storing.proofs.Adding.{addOne, added-one, added-end, length-one, length-grows, length-front, enter, enterAll, entered-end, length-entered, length-enter, grown-entered}
-
--- a flag counts at most one
-pub flag-one : (b : Bool) → boolByte b ≤ 1
-flag-one true = omega arith
-flag-one false = omega arith
+use Rattle.protocol.proofs.Store.Added.{addOne, added-one, length-one, length-grows, length-front}
+use Rattle.storing.proofs.Adding.{enter, enterAll, entered-end, length-entered, length-enter, grown-entered}
 
 -- `add` adds entries to a store that `has` does not find there
 module _ {A : Type 0} (has : List A → A → Bool) (add : List A → List A → List A) (is : Adding has add) where
-  -- ---- counting: k entries stood there, n more were new among the first i
-
-  module _ (old xs : List A) (k : ℕ) where
-    pub count-begin : length old ≡ k → k + 0 ≡ length (add old (take 0 xs))
-    count-begin e = omega (arith, e, ap length (is .none old))
-
-    pub count-turn : (d : A) (n i : ℕ) {t : Bool} → i < length xs → k + n ≡ length (add old (take i xs))
-        → t ≡ not (has (add old (take i xs)) (getD xs i d)) → k + (n + boolByte t) ≡ length (add old (take (i + 1) xs))
-    count-turn d n i {t} h e q =
-        rw (
-          mark-word t,
-          front-entry xs d i h refl,
-          added-end has add is old (take i xs) (getD xs i d),
-          length-one has (add old (take i xs)) (getD xs i d),
-          ← q,
-        ) (omega (arith, e))
-
-    pub count-end : (n i : ℕ) → length xs ≤ i → k + n ≡ length (add old (take i xs)) → k + n ≡ length (add old xs)
-    count-end n i h e = rw (take-all i xs h) at e
-
-  -- ---- adding to a table
-
   module _ {make : Make (Marked A)} {row : Marked A → List ℕ} (codec : Codec (Marked A) make row) where
     abbrev Table : List (Marked A) → List ℕ → List ℕ → ℕ → Type 0
     Table rs ws ws′ u = Holds (Marked A) row rs ws ws′ u

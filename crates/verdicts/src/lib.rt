@@ -242,10 +242,10 @@ pub fn receive_verdict(
     if !admission::header_allowed(bytes) {
         return Verdict::Refuse(Refusal::Header);
     }
-    if ranges::places_in(blocks) - blocks_used < storing::new_blocks(blocks, blocks_used, bytes) {
+    if ranges::places_in(blocks) - blocks_used < counting::new_blocks(blocks, blocks_used, bytes) {
         return Verdict::Refuse(Refusal::Places);
     }
-    if ranges::places_in(votes) - votes_used < storing::new_votes(votes, votes_used, bytes) {
+    if ranges::places_in(votes) - votes_used < counting::new_votes(votes, votes_used, bytes) {
         return Verdict::Refuse(Refusal::Places);
     }
     Verdict::Pass

@@ -1,8 +1,8 @@
 -- `search_new_vote` meets its contract. Assumes nothing.
 use borrow.Author.Needs.{needs}
 use Rattle.admission.proofs.Known.{any-added}
-use Rattle.storing.proofs.search_new_vote.Statement.{statement}
-use Rattle.storing.proofs.search_new_vote.Tie as tie
+use Rattle.counting.proofs.search_new_vote.Statement.{statement}
+use Rattle.counting.proofs.search_new_vote.Tie as tie
 
 returns : tie.Need-returns
 returns c =

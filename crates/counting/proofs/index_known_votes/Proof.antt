@@ -3,8 +3,8 @@ use borrow.Author.Needs.{needs}
 use native.Mathlib.Omega.{arith}
 use Prim.Native.Nat.{_+_}
 use mathlib.Core.Path.{_≡_}
-use Rattle.storing.proofs.index_known_votes.Statement.{statement}
-use Rattle.storing.proofs.index_known_votes.Tie as tie
+use Rattle.counting.proofs.index_known_votes.Statement.{statement}
+use Rattle.counting.proofs.index_known_votes.Tie as tie
 
 build-requires : tie.Need-build-requires
 build-requires c κs =

@@ -1,8 +1,8 @@
 -- `search_new_block` meets its contract. Assumes nothing.
 use borrow.Author.Needs.{needs}
 use Rattle.protocol.specs.Chain.{foundWith}
-use Rattle.storing.proofs.search_new_block.Statement.{statement}
-use Rattle.storing.proofs.search_new_block.Tie as tie
+use Rattle.counting.proofs.search_new_block.Statement.{statement}
+use Rattle.counting.proofs.search_new_block.Tie as tie
 
 returns : tie.Need-returns
 unfolding foundWith

@@ -8,8 +8,8 @@ use Rattle.protocol.specs.Store.{sameVote}
 use Rattle.protocol.specs.Packet.{packetOf}
 use Rattle.packets.specs.Header.{noVote}
 use Rattle.admission.proofs.Entries.{any-hit, any-miss, any-end}
-use Rattle.storing.proofs.vote_in_packet.Statement.{statement}
-use Rattle.storing.proofs.vote_in_packet.Tie as tie
+use Rattle.counting.proofs.vote_in_packet.Statement.{statement}
+use Rattle.counting.proofs.vote_in_packet.Tie as tie
 
 abbrev Inv-loop : tie.InvT-loop
 Inv-loop bytes count vote i₀ i =

@@ -14,10 +14,10 @@ use Rattle.protocol.proofs.Store.Views.{length-entries}
 use Rattle.protocol.proofs.Lent.Rows.{length-rowsOf}
 use Rattle.protocol.proofs.Store.New.{knowsBlock, adding-blocks}
 use Rattle.admission.proofs.Header.{header-blocks}
-use Rattle.storing.specs.Indexed.{BlocksKnown}
-use Rattle.storing.proofs.Turns.{flag-one, count-begin, count-turn, count-end}
-use Rattle.storing.proofs.count_blocks.Statement.{statement}
-use Rattle.storing.proofs.count_blocks.Tie as tie
+use Rattle.counting.specs.Known.{BlocksKnown}
+use Rattle.counting.proofs.Turns.{flag-one, count-begin, count-turn, count-end}
+use Rattle.counting.proofs.count_blocks.Statement.{statement}
+use Rattle.counting.proofs.count_blocks.Tie as tie
 
 abbrev Inv-loop : tie.InvT-loop
 Inv-loop blocks used bytes most links₀ count n₀ i₀ links n i =

@@ -2,8 +2,8 @@
 use borrow.Author.Needs.{needs}
 use native.Mathlib.Omega.{arith}
 use mathlib.Core.Path.{refl}
-use Rattle.storing.proofs.new_votes.Statement.{statement}
-use Rattle.storing.proofs.new_votes.Tie as tie
+use Rattle.counting.proofs.new_votes.Statement.{statement}
+use Rattle.counting.proofs.new_votes.Tie as tie
 
 count-votes-requires : tie.Need-count-votes-requires
 count-votes-requires c κs = (c .before .before .before .before .before .before .pre, omega arith, λ h. absurd (omega arith))

@@ -2,8 +2,8 @@
 use borrow.Author.Needs.{needs}
 use native.Mathlib.Omega.{arith}
 use mathlib.Core.Path.{refl}
-use Rattle.storing.proofs.new_blocks.Statement.{statement}
-use Rattle.storing.proofs.new_blocks.Tie as tie
+use Rattle.counting.proofs.new_blocks.Statement.{statement}
+use Rattle.counting.proofs.new_blocks.Tie as tie
 
 count-blocks-requires : tie.Need-count-blocks-requires
 count-blocks-requires c κs = (c .before .before .before .before .before .before .pre, omega arith, λ h. absurd (omega arith))

@@ -1,12 +1,12 @@
--- `is_new_vote` meets its contract. Assumes nothing.
+-- `is_new_block` meets its contract. Assumes nothing.
 use borrow.Author.Needs.{needs}
 use borrow.Author.Tests.{ltb-true, ltb-false, not-true, not-false}
 use native.Mathlib.Omega.{arith}
 use Prim.Native.Nat.{_+_, _≤_, _<_}
 use mathlib.Core.Path.{_≡_, sym, _∙_}
-use Rattle.storing.proofs.Joined.{vote-new}
-use Rattle.storing.proofs.is_new_vote.Statement.{statement}
-use Rattle.storing.proofs.is_new_vote.Tie as tie
+use Rattle.counting.proofs.Joined.{number-new}
+use Rattle.counting.proofs.is_new_block.Statement.{statement}
+use Rattle.counting.proofs.is_new_block.Tie as tie
 
 abbrev start : tie.After-has-room → tie.Start
 start f = f .before .before .before .before
@@ -16,7 +16,7 @@ returns c =
     let f = c .before .before in
     let a = start f .args in
     let l : a .most ≤ a .used + a .i = ltb-false (a .used + a .i) (a .most) (sym (f .has-room .ensures) ∙ not-true (f .has-room .result) (c .before .if1 .taken)) in
-    (c .search-new-vote .ensures, λ h. absurd (omega arith))
+    (c .search-new-block .ensures, λ h. absurd (omega arith))
 
 -- there is room for one more
 room : (c : tie.Else1) → let a = start (c .before) .args in a .used + a .i < a .most
@@ -39,10 +39,10 @@ returns-2 c =
     let d = c .before .before in
     let a = start (d .before .before .before) .args in
     let z : a .used + (a .i + 1) ≡ a .used + a .i + 1 = omega arith in
-    (vote-new _ _ _ _ (d .add .ensures .0), λ h. rw z (d .add .ensures .1))
+    (number-new _ _ _ _ (d .add .ensures .0), λ h. rw z (d .add .ensures .1))
 
-pub is-new-vote-spec : {M : Type 1} → statement M
-is-new-vote-spec =
+pub is-new-block-spec : {M : Type 1} → statement M
+is-new-block-spec =
     tie.close
     (tie.spec
     (λ c κs. search needs)

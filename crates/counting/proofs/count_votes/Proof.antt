@@ -14,10 +14,10 @@ use Rattle.protocol.proofs.Store.Views.{length-entries}
 use Rattle.protocol.proofs.Lent.Rows.{length-rowsOf}
 use Rattle.protocol.proofs.Store.New.{knowsVote, adding-votes}
 use Rattle.admission.proofs.Header.{header-votes}
-use Rattle.storing.specs.Indexed.{VotesKnown}
-use Rattle.storing.proofs.Turns.{flag-one, count-begin, count-turn, count-end}
-use Rattle.storing.proofs.count_votes.Statement.{statement}
-use Rattle.storing.proofs.count_votes.Tie as tie
+use Rattle.counting.specs.Known.{VotesKnown}
+use Rattle.counting.proofs.Turns.{flag-one, count-begin, count-turn, count-end}
+use Rattle.counting.proofs.count_votes.Statement.{statement}
+use Rattle.counting.proofs.count_votes.Tie as tie
 
 abbrev Inv-loop : tie.InvT-loop
 Inv-loop votes used bytes most links₀ count n₀ i₀ links n i =

@@ -33,6 +33,10 @@ pub record Other (vs : List Vote) (a b : Vote) : Type 0 where
   pub slots : b .slot ≡ a .slot
   pub differ : b .number ≡ a .number → ⊥
 
+-- v is a's voter, and has another vote of its slot, which counts
+abbrev Newly : (ℕ → Bool) → List Vote → Vote → ℕ → Type 0
+Newly p vs a v = (a .voter ≡ v) × (p (a .slot) ≡ true) × ((b : Vote) × Other vs a b)
+
 module _ (p : ℕ → Bool) (vs : List Vote) (a : Vote) where
   A : Adds Vote a vs (vs ++ (a ∷ []))
   A = adds-end Vote a vs
@@ -42,13 +46,12 @@ module _ (p : ℕ → Bool) (vs : List Vote) (a : Vote) where
       let d = equivocates-true p vs v h in
       equivocates-holds p (vs ++ (a ∷ [])) v (equivocation-in d (A .old (d .one) (d .has-one)) (A .old (d .other) (d .has-other)) (d .counts))
 
-  -- whoever equivocates now did before, or has another vote of a's slot
-  newer : (v : ℕ) → equivocates p (vs ++ (a ∷ [])) v ≡ true
-      → (equivocates p vs v ≡ true) ⊎ ((a .voter ≡ v) × (p (a .slot) ≡ true) × ((b : Vote) × Other vs a b))
+  -- whoever equivocates now did before, or does newly
+  newer : (v : ℕ) → equivocates p (vs ++ (a ∷ [])) v ≡ true → (equivocates p vs v ≡ true) ⊎ Newly p vs a v
   newer v h = let d = equivocates-true p (vs ++ (a ∷ [])) v h in go d (A .only (d .one) (d .has-one)) (A .only (d .other) (d .has-other))
     where
       go : (d : Equivocation p (vs ++ (a ∷ [])) v) → Cast (d .one) vs ⊎ (d .one ≡ a) → Cast (d .other) vs ⊎ (d .other ≡ a)
-          → (equivocates p vs v ≡ true) ⊎ ((a .voter ≡ v) × (p (a .slot) ≡ true) × ((b : Vote) × Other vs a b))
+          → (equivocates p vs v ≡ true) ⊎ Newly p vs a v
       go d (inl m) (inl n) = inl (equivocates-holds p vs v (equivocation-in d m n (d .counts)))
       go d (inl m) (inr e) =
           let x : a .voter ≡ v = ap (λ o. o .voter) (sym e) ∙ d .by-other in
@@ -60,31 +63,31 @@ module _ (p : ℕ → Bool) (vs : List Vote) (a : Vote) where
           inr (x, ap p (sym y) ∙ d .counts, (d .other, record { cast = n; voters = d .by-other ∙ sym x; slots = sym (d .slots) ∙ y; differ = λ q. d .differ (ap (λ o. o .number) e ∙ sym q) }))
       go d (inr e) (inr f) = absurd (d .differ (ap (λ o. o .number) (e ∙ sym f)))
 
-  -- two votes before a
-  pub doubled : {b c : Vote} → p (a .slot) ≡ true → Other vs a b → Cast c vs → c ≡ a → equivocates p vs (a .voter) ≡ true
-  doubled {b} {c} k o m e =
+  -- a stood there already
+  pub doubled : {b : Vote} → p (a .slot) ≡ true → Other vs a b → Cast a vs → equivocates p vs (a .voter) ≡ true
+  doubled {b} k o m =
       equivocates-holds p vs (a .voter) (record {
         one = b;
-        other = c;
+        other = a;
         has-one = o .cast;
         has-other = m;
         by-one = o .voters;
-        by-other = ap (λ z. z .voter) e;
-        slots = o .slots ∙ ap (λ z. z .slot) (sym e);
+        by-other = refl;
+        slots = o .slots;
         counts = ap p (o .slots) ∙ k;
-        differ = λ q. o .differ (q ∙ ap (λ z. z .number) e);
+        differ = o .differ;
       })
 
-  -- no other vote makes its voter an equivocator
+  -- if its voter equivocated before, or has no other vote of its slot that counts, nothing changes
   pub equivocates-keep : ((b : Vote) → Other vs a b → p (a .slot) ≡ true → equivocates p vs (a .voter) ≡ true) → (v : ℕ)
       → equivocates p vs v ≡ equivocates p (vs ++ (a ∷ [])) v
   equivocates-keep f v = same-test (equivocates p vs v) (equivocates p (vs ++ (a ∷ [])) v) (older v) (λ h. go (newer v h))
     where
-      go : (equivocates p vs v ≡ true) ⊎ ((a .voter ≡ v) × (p (a .slot) ≡ true) × ((b : Vote) × Other vs a b)) → equivocates p vs v ≡ true
+      go : (equivocates p vs v ≡ true) ⊎ Newly p vs a v → equivocates p vs v ≡ true
       go (inl h) = h
       go (inr (x, k, o)) = rw x at (f (o .0) (o .1) k)
 
-  -- one does
+  -- another vote of its slot makes its voter an equivocator
   pub equivocates-add : (b : Vote) → Other vs a b → p (a .slot) ≡ true → (v : ℕ)
       → (equivocates p vs v || eqb v (a .voter)) ≡ equivocates p (vs ++ (a ∷ [])) v
   equivocates-add b o k v =
@@ -106,7 +109,7 @@ module _ (p : ℕ → Bool) (vs : List Vote) (a : Vote) where
             differ = λ q. o .differ (sym q);
           })
 
-      from : (equivocates p vs v ≡ true) ⊎ ((a .voter ≡ v) × (p (a .slot) ≡ true) × ((b : Vote) × Other vs a b)) → (equivocates p vs v || eqb v (a .voter)) ≡ true
+      from : (equivocates p vs v ≡ true) ⊎ Newly p vs a v → (equivocates p vs v || eqb v (a .voter)) ≡ true
       from (inl h) = or-left (equivocates p vs v) (eqb v (a .voter)) h
       from (inr h) = or-right (equivocates p vs v) (eqb v (a .voter)) (eq-eqb v (a .voter) (sym (h .0)))
 
@@ -170,7 +173,8 @@ module _ (w : Bool) (ws : List ℕ) (i : ℕ) (m : Marked Vote) (read : m ≡ ro
       -- the first one is for the same block
       pub again-turn : f .entry .number ≡ m .entry .number → mask ≡ equivocatorsOf (votesIn w ws (i + 1)) E t
       again-turn n =
-          kept-turn (λ s b o k. doubled (counted E t) votes (m .entry) k o cast (λ j. record { voter = voters j; slot = slots j; number = n j }))
+          let same : f .entry ≡ m .entry = λ j. record { voter = voters j; slot = slots j; number = n j } in
+          kept-turn (λ s b o k. doubled (counted E t) votes (m .entry) k o (rw same at cast))
 
       -- for another
       pub double-turn : {r : ℕ} → r ≡ maskOf 64 (added (bitOf mask) (m .entry .voter)) → (f .entry .number ≡ m .entry .number → ⊥)
@@ -183,7 +187,7 @@ module _ (w : Bool) (ws : List ℕ) (i : ℕ) (m : Marked Vote) (read : m ≡ ro
               (λ v l. rw (bit-mask 64 (λ u. equivocates (counted E t) votes u) v l)
               (equivocates-add (counted E t) votes (m .entry) (f .entry) (record { cast = cast; voters = voters; slots = slots; differ = n }) counts v)))
 
--- ---- the begin and the end
+-- ---- the begin
 
 pub equivocators-none : (w : Bool) (ws : List ℕ) (E t : ℕ) → equivocatorsOf (votesIn w ws 0) E t ≡ 0
 unfolding equivocatorsOf rowsOf selected entries inView equivocates any

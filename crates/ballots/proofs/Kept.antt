@@ -10,7 +10,7 @@ use lib.Seq.{getD-set-same, getD-set-other}
 use borrow.Author.Tests.{eqb-true, eqb-false, eq-eqb, lt-ltb, le-ltb}
 use Rattle.protocol.specs.declared.Vote.{Vote}
 use Rattle.protocol.specs.Filters.{equivocates, counted, window, Last, last, none, later, latest, chosen, nothing, choiceOf, kept}
-use Rattle.protocol.specs.Confirm.{voteIn, validVote}
+use Rattle.protocol.specs.Confirm.{voteIn, inSlot, validVote}
 use Rattle.protocol.proofs.Basics.Tests.{same-test}
 use Rattle.protocol.proofs.Filters.Kept.{LastIs, latest-is, window-true, window-holds, equivocates-true, equivocates-holds, equivocation-in}
 use Rattle.protocol.proofs.Filters.Relations.{Cast}
@@ -95,12 +95,12 @@ vote-latest (a ∷ rest) t v f =
     go false y e o i q = q
 
 -- two votes of slot t are two of that window
-equivocates-one : (vs : List Vote) (t v : ℕ) → ((a : Vote) → Cast a vs → 0 < a .slot) → equivocates (λ s. eqb s t) vs v ≡ equivocates (counted 1 (t + 1)) vs v
+equivocates-one : (vs : List Vote) (t v : ℕ) → ((a : Vote) → Cast a vs → 0 < a .slot) → equivocates (inSlot t) vs v ≡ equivocates (counted 1 (t + 1)) vs v
 unfolding counted
 equivocates-one vs t v f =
-    same-test (equivocates (λ s. eqb s t) vs v) (equivocates (window 1 (t + 1)) vs v)
-    (λ h. let d = equivocates-true (λ s. eqb s t) vs v h in equivocates-holds (window 1 (t + 1)) vs v (equivocation-in d (d .has-one) (d .has-other) (sym (one (d .one) (d .has-one)) ∙ d .counts)))
-    (λ h. let d = equivocates-true (window 1 (t + 1)) vs v h in equivocates-holds (λ s. eqb s t) vs v (equivocation-in d (d .has-one) (d .has-other) (one (d .one) (d .has-one) ∙ d .counts)))
+    same-test (equivocates (inSlot t) vs v) (equivocates (window 1 (t + 1)) vs v)
+    (λ h. let d = equivocates-true (inSlot t) vs v h in equivocates-holds (window 1 (t + 1)) vs v (equivocation-in d (d .has-one) (d .has-other) (sym (one (d .one) (d .has-one)) ∙ d .counts)))
+    (λ h. let d = equivocates-true (window 1 (t + 1)) vs v h in equivocates-holds (inSlot t) vs v (equivocation-in d (d .has-one) (d .has-other) (one (d .one) (d .has-one) ∙ d .counts)))
   where
     one : (a : Vote) → Cast a vs → eqb (a .slot) t ≡ window 1 (t + 1) (a .slot)
     one a m = window-one t (a .slot) (f a m)

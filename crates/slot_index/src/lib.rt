@@ -1,5 +1,5 @@
 // An index of a table's votes by voter and slot, in links that a caller lends: up to 8,192 votes, 40,960 links, 80 KiB. Waiting votes are
-// kept apart from those in view, unless the whole store is asked for. It finds the first vote of a voter in a slot, for which block it may be.
+// kept apart from those in view, unless the whole store is asked for. It finds the first vote of a voter in a slot, whichever block that is for.
 // Where voters are below 64 and slots below 2^30, a descent meets at most 14 votes: one at the root, one for each two bits of the slot above its
 // lowest 7, and one of the other kind. Honest votes meet one or two, and votes for chosen blocks no more: numbers are in no digit.
 // No function keeps an array: the largest call takes less than 1 KB of stack.
@@ -20,7 +20,7 @@ pub struct Key {
 }
 
 // The key of a row.
-pub fn key_of(whole: bool, row: VoteRow) -> Key
+fn key_of(whole: bool, row: VoteRow) -> Key
     ensures { λ r. ⌜ r ≡ keyOf whole (markedVote row) ⌝ }
 {
     let selected = rows::selects(whole, row.shown);
@@ -31,7 +31,7 @@ pub fn key_of(whole: bool, row: VoteRow) -> Key
     }
 }
 
-pub fn same_key(a: Key, b: Key) -> bool
+fn same_key(a: Key, b: Key) -> bool
     ensures { λ r. ⌜ r ≡ sameKey a b ⌝ }
 {
     if a.voter == b.voter {
@@ -46,14 +46,14 @@ pub fn same_key(a: Key, b: Key) -> bool
 }
 
 // The root at which the descent for a key begins.
-pub fn root(key: Key) -> usize
+fn root(key: Key) -> usize
     ensures { λ r. ⌜ r ≡ rootOf key ⌝ }
 {
     (key.slot % 128 * 64 + key.voter % 64) as usize
 }
 
 // The descent for a key, among the first n. The cost is one step for each vote that it meets.
-pub fn descend(votes: &[u64], n: usize, whole: bool, links: &[u16], key: Key) -> Spot
+fn descend(votes: &[u64], n: usize, whole: bool, links: &[u16], key: Key) -> Spot
     requires { ⌜ (4 * n ≤ length (now votes)) × SlotIndex whole (now votes) n (now links) ⌝ }
     ensures { λ r. ⌜ Sought slotShape (keyAt whole (now (votes .entry))) n (now (links .entry)) key (r .at) (r .place) ⌝ }
 {

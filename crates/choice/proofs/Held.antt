@@ -1,6 +1,6 @@
 -- A sound table's blocks by their places. Assumes nothing.
 use Prim.Native.Nat.{ℕ, zero, suc, _+_, _≤_, _<_}
-use mathlib.Core.Bool.{Bool, true, false, _||_, or-true, cond}
+use mathlib.Core.Bool.{Bool, true, false, _||_, or-true}
 use mathlib.Core.List.{List, [], _∷_, _++_, List·Memᴰ·not-nil, append-nil, append-assoc, head-eq-of-cons-eq, tail-eq-of-cons-eq}
 use mathlib.Core.Logic.{_⊎_, inl, inr}
 use mathlib.Core.Path.{_≡_, refl, ap, sym, _∙_}
@@ -8,22 +8,25 @@ use native.Mathlib.Decide.{decLt}
 use native.Mathlib.Nat.{eq-zero-or-pos}
 use native.Mathlib.Omega.{arith}
 use lib.Dec.{eqb}
-use lib.ListN.{take, drop, take-append-drop}
-use borrow.Author.Tests.{eqb-true, eqb-false}
+use lib.ListN.{getD, take, drop, take-append-drop}
+use borrow.Author.Tests.{eq-eqb, ne-eqb}
 use Rattle.protocol.specs.declared.Block.{Block}
 use Rattle.protocol.specs.Chain.{genesis}
-use Rattle.protocol.specs.Store.{entries, inView}
+use Rattle.protocol.specs.Store.{Marked, entries, inView, visible}
 use Rattle.protocol.specs.Lent.{rowsOf, makeBlock}
 use Rattle.protocol.proofs.Basics.Tests.{and-left, and-right}
 use Rattle.protocol.proofs.Chain.Relations.{In, Sound}
 use Rattle.protocol.proofs.Store.Follow.{allFollow, blockFollows, Follows, follows-true}
 use Rattle.protocol.proofs.Store.Tables.{Table, table-true, table-sound, closed-sound, table-front, Closed}
 use Rattle.protocol.proofs.Store.Views.{entries-append}
+use Rattle.protocol.proofs.Lent.Rows.{length-rowsOf}
 use Rattle.rows.specs.Rows.{rowAt}
-use Rattle.rows.proofs.Rows.{drop-rowsOf, rows-front}
+use Rattle.rows.proofs.Rows.{getD-rowsOf, drop-rowsOf, rows-front}
+use Rattle.search_tree.proofs.Lists.{place-hit}
+use Rattle.block_index.specs.Index.{placeOfNumber}
 use Rattle.ballots.specs.Latest.{selected}
 use Rattle.ballots.proofs.Selected.{row-of, entry-in}
-use Rattle.subtrees.specs.Places.{blockAt, blocksIn, lastPlace, parentPlace, BlocksSound}
+use Rattle.subtrees.specs.Places.{blockAt, blocksIn, placeIn, parentPlace, BlocksSound}
 
 -- row i is selected
 abbrev pub isIn : Bool → List ℕ → ℕ → Bool
@@ -124,27 +127,36 @@ held w ws n (slot, e) = let t = table-true slot (rowsOf makeBlock ws n) e in hel
 -- ---- places of numbers and of parents
 
 module _ {w : Bool} {ws : List ℕ} {n : ℕ} (H : Held w ws n) where
-  place-in : (k j : ℕ) → j < k → k ≤ n → lastPlace ws k (blockAt ws j .number) ≡ j
-  unfolding lastPlace
-  place-in zero j l h = absurd (omega arith)
-  place-in (suc k) j l h = go (eqb (blockAt ws k .number) (blockAt ws j .number)) refl (λ q. place-in k j q (omega arith))
+  place-in : (k j : ℕ) → j < k → k ≤ n → placeIn ws k (blockAt ws j .number) ≡ j
+  unfolding placeOfNumber
+  place-in k j l h =
+      let e = place-hit (visible genesis) has R 0 j (omega (arith, length-rowsOf makeBlock ws k)) here before in
+      omega arith
     where
-      go : (b : Bool) → eqb (blockAt ws k .number) (blockAt ws j .number) ≡ b → (j < k → lastPlace ws k (blockAt ws j .number) ≡ j)
-          → cond b k (lastPlace ws k (blockAt ws j .number)) ≡ j
-      go true e rec = H .differ k j (omega arith) (omega arith) (eqb-true (blockAt ws k .number) (blockAt ws j .number) e)
-      go false e rec =
-          let ne : j ≡ k → ⊥ = λ q. eqb-false (blockAt ws k .number) (blockAt ws j .number) e (ap (λ (x : ℕ). blockAt ws x .number) (sym q)) in
-          rec (omega arith)
+      R : List (Marked Block)
+      R = rowsOf makeBlock ws k
+
+      has : Marked Block → Bool
+      has m = eqb (m .entry .number) (blockAt ws j .number)
+
+      at : (i : ℕ) → i < k → has (getD R i (visible genesis)) ≡ eqb (blockAt ws i .number) (blockAt ws j .number)
+      at i q = ap has (getD-rowsOf makeBlock ws k i (visible genesis) q)
+
+      here : has (getD R j (visible genesis)) ≡ true
+      here = at j l ∙ eq-eqb (blockAt ws j .number) (blockAt ws j .number) refl
+
+      before : (i : ℕ) → i < j → has (getD R i (visible genesis)) ≡ false
+      before i q = at i (omega arith) ∙ ne-eqb (blockAt ws i .number) (blockAt ws j .number) (λ e. absurd (omega (arith, H .differ i j (omega arith) (omega arith) e)))
 
   -- the place of a block's number is its place
-  pub place-is : (j : ℕ) → j < n → lastPlace ws n (blockAt ws j .number) ≡ j
+  pub place-is : (j : ℕ) → j < n → placeIn ws n (blockAt ws j .number) ≡ j
   place-is j l = place-in n j l (omega arith)
 
   -- at a parent's place stands the parent
   pub parent-is : (i : ℕ) → 0 < i → i < n → (parentPlace ws i < i) × (blockAt ws (parentPlace ws i) .number ≡ blockAt ws i .parent)
   parent-is i z h =
       let p = H .parents i z h in
-      let e : parentPlace ws i ≡ p .0 = ap (lastPlace ws i) (sym (p .2)) ∙ place-in i (p .0) (p .1) (omega arith) in
+      let e : parentPlace ws i ≡ p .0 = ap (λ (x : ℕ). placeIn ws i x) (sym (p .2)) ∙ place-in i (p .0) (p .1) (omega arith) in
       rw e (p .1, p .2)
 
   -- only block 0 has number 0

@@ -1,5 +1,7 @@
--- The laws of places, weights and walks, and the proofs of the functions. Assumes nothing.
+-- The laws of places, weights, children and walks, and the proofs of the functions. Assumes nothing.
 pub mod Held
 pub mod Weights
+pub mod Children
 pub mod Best
+pub mod Scan
 pub mod Tables

@@ -1,10 +1,11 @@
--- What a sound node's tables give: its blocks by places, voters that fit a word, votes for known blocks; and the weights of the words. Assumes nothing.
+-- What a sound node's tables give: its blocks by places, voters that fit a word, votes for known blocks; and what the words of the pass are and weigh. Assumes nothing.
 use Prim.Native.Nat.{ℕ, _+_, _/_, _≤_, _<_}
 use mathlib.Core.Bool.{Bool, true, false}
 use mathlib.Core.List.{List}
 use mathlib.Core.Path.{_≡_, refl, ap, sym, _∙_}
 use native.Mathlib.Numerals.{add-one}
 use native.Mathlib.Omega.{arith}
+use lib.ListN.{getD}
 use Rattle.protocol.specs.declared.Settings.{Settings}
 use Rattle.protocol.specs.declared.Block.{Block}
 use Rattle.protocol.specs.declared.Vote.{Vote}
@@ -28,11 +29,15 @@ use Rattle.rows.specs.Rows.{rowAt}
 use Rattle.ballots.specs.Latest.{selected, votesIn, VotersFit, Kept}
 use Rattle.subtrees.specs.Places.{blockAt, blocksIn, BlocksSound}
 use Rattle.subtrees.specs.Subtrees.{Subtrees}
-use Rattle.choice.specs.Walks.{weightAtPlace, weightIn}
-use Rattle.choice.specs.Tables.{TablesSound, Weighed}
+use Rattle.choice.specs.Walks.{weightIn}
+use Rattle.choice.specs.Tables.{TablesSound, Supporters, weightAtPlace, Counted}
 use Rattle.ballots.proofs.Selected.{entry-in}
 use Rattle.choice.proofs.Held.{Held, held, isIn, Stands, listed, place-is, by-number}
-use Rattle.choice.proofs.Weights.{place-weight}
+use Rattle.choice.proofs.Weights.{place-voters, word-weight}
+
+-- the words weigh as the blocks do, by the votes of n voters kept for slot t with expiry period E
+pub record Weighed (whole : Bool) (bw : List ℕ) (bu : ℕ) (vw : List ℕ) (vu n E t : ℕ) (masks : List ℕ) : Type 0 where
+  pub each : (j : ℕ) → j < bu → weightAtPlace masks j ≡ weightAt (blocksIn whole bw bu) (votesIn whole vw vu) n E t (blockAt bw j .number)
 
 module _ {s : Settings} {bw : List ℕ} {bu : ℕ} {vw : List ℕ} {vu : ℕ} (T : TablesSound s bw bu vw vu) where
   abbrev node : Node
@@ -90,29 +95,34 @@ module _ {s : Settings} {bw : List ℕ} {bu : ℕ} {vw : List ℕ} {vu : ℕ} (T
       let n = vote-known w (a .0) (a .1 .mem) in
       ((n .0, n .1, n .2 ∙ a .2), omega (arith, vote-sound w (a .0) (a .1 .mem) .voter, a .1 .by))
 
-  -- ---- weights
+  -- ---- the words, and their weights
 
-  pub words-weigh : (w : Bool) (E t : ℕ) {slots numbers masks : List ℕ} → Kept (votesIn w vw vu) E t slots numbers → Subtrees bw bu slots numbers 1 masks
-      → Weighed w bw bu vw vu (s .nodes) E t masks
-  unfolding weightAt
-  words-weigh w E t K S = record {
-    each = λ j l. place-weight (blocks-held w) (λ v. kept (votesIn w vw vu) E t v) (s .nodes) S (λ v h. K .each v h) (few .1) (λ v x e. kept-known w E t v x e) j l;
+  pub words-are : (w : Bool) (E t : ℕ) {slots numbers masks : List ℕ} → Kept (votesIn w vw vu) E t slots numbers → Subtrees bw bu slots numbers 1 masks
+      → Supporters w bw bu vw vu E t masks
+  words-are w E t K S = record {
+    each = λ j l. place-voters (blocks-held w) (λ v. kept (votesIn w vw vu) E t v) S (λ v h. K .each v h) (λ v x e. kept-known w E t v x e .0) j l;
   }
 
-  -- the walk by the words is the walk by the weights
-  pub walk-weighed : (w : Bool) (n E t lim : ℕ) {masks : List ℕ} → Weighed w bw bu vw vu n E t masks
-      → walk (weightIn bw bu masks) (blocksIn w bw bu) lim ≡ walk (weightAt (blocksIn w bw bu) (votesIn w vw vu) n E t) (blocksIn w bw bu) lim
-  walk-weighed w n E t lim {masks} W =
-      walk-one (weightAt (blocksIn w bw bu) (votesIn w vw vu) n E t) S lim
-      (walk-to (same-refl Block (blocksIn w bw bu)) (λ c m. one c (listed w bw bu c m)) (walk-is (weightIn bw bu masks) S lim))
-      (walk-is (weightAt (blocksIn w bw bu) (votesIn w vw vu) n E t) S lim)
+  pub words-weigh : (w : Bool) (E t : ℕ) {masks : List ℕ} → Supporters w bw bu vw vu E t masks → Weighed w bw bu vw vu (s .nodes) E t masks
+  unfolding weightAt
+  words-weigh w E t W = record {
+    each = λ j l. word-weight (blocksIn w bw bu) (λ v. kept (votesIn w vw vu) E t v) (s .nodes) (blockAt bw j .number) (W .each j l) (few .1) (λ v x e. kept-known w E t v x e .1);
+  }
+
+  -- the walk by the weights of the words is the walk by the weights of the blocks
+  pub walk-weighed : (w : Bool) (E t lim : ℕ) {masks weights : List ℕ} → Supporters w bw bu vw vu E t masks → Counted masks bu weights
+      → walk (weightIn bw bu weights) (blocksIn w bw bu) lim ≡ walk (weightAt (blocksIn w bw bu) (votesIn w vw vu) (s .nodes) E t) (blocksIn w bw bu) lim
+  walk-weighed w E t lim {masks} {weights} W C =
+      walk-one (weightAt (blocksIn w bw bu) (votesIn w vw vu) (s .nodes) E t) S lim
+      (walk-to (same-refl Block (blocksIn w bw bu)) (λ c m. one c (listed w bw bu c m)) (walk-is (weightIn bw bu weights) S lim))
+      (walk-is (weightAt (blocksIn w bw bu) (votesIn w vw vu) (s .nodes) E t) S lim)
     where
       S : Sound (blocksIn w bw bu)
       S = blocks-held w .sound
 
-      one : (c : Block) → Stands w bw bu c → weightIn bw bu masks (c .number) ≡ weightAt (blocksIn w bw bu) (votesIn w vw vu) n E t (c .number)
+      one : (c : Block) → Stands w bw bu c → weightIn bw bu weights (c .number) ≡ weightAt (blocksIn w bw bu) (votesIn w vw vu) (s .nodes) E t (c .number)
       one c (i, l, q, e) =
-          rw e (ap (weightAtPlace masks) (place-is (blocks-held w) i l) ∙ W .each i l)
+          rw e (ap (λ (j : ℕ). getD weights j 0) (place-is (blocks-held w) i l) ∙ C .each i l ∙ words-weigh w E t W .each i l)
 
 -- the leaf of a walk is selected
 pub leaf-in : {w : Bool} {ws : List ℕ} {n : ℕ} → Held w ws n → (W : ℕ → ℕ) (lim a : ℕ) → a < n → blockAt ws a .number ≡ walk W (blocksIn w ws n) lim → isIn w ws a ≡ true

@@ -8,6 +8,7 @@ use native.Mathlib.Omega.{arith}
 use lib.Dec.{eqb, leb, ltb}
 use lib.ListN.{getD}
 use borrow.Author.Tests.{eqb-true, eq-eqb, leb-true, le-leb, ltb-true, ltb-false}
+use Rattle.protocol.specs.declared.Block.{Block}
 use Rattle.protocol.specs.Chain.{above}
 use Rattle.protocol.specs.Filters.{last, none, Choice, chosen, nothing, choiceOf}
 use Rattle.protocol.specs.Walk.{count, supports, weight}
@@ -15,12 +16,11 @@ use Rattle.protocol.proofs.Basics.Counting.{count-ext}
 use Rattle.protocol.proofs.Basics.Tests.{and-left, and-right, either, both, or-left, or-right, same-test}
 use Rattle.protocol.proofs.Chain.Above.{above-cast, above-true, above-holds}
 use Rattle.protocol.proofs.Chain.Relations.{Known, Above, here, up}
-use Rattle.masks.specs.Masks.{bitOf}
-use Rattle.masks.proofs.Masks.{bit-mask}
+use Rattle.masks.specs.Masks.{bitOf, maskOf}
+use Rattle.masks.proofs.Masks.{bit-mask, mask-ext}
 use Rattle.ballots.specs.Latest.{lastAt}
-use Rattle.subtrees.specs.Places.{blockAt, blocksIn, lastPlace, parentPlace}
+use Rattle.subtrees.specs.Places.{blockAt, blocksIn, placeIn, parentPlace}
 use Rattle.subtrees.specs.Subtrees.{upTo, reaches, Subtrees}
-use Rattle.choice.specs.Walks.{weightAtPlace}
 use Rattle.choice.proofs.Held.{Held, isIn, Stands, listed, lists, place-is, parent-is, number-pos, place-pos, parent-in, by-number}
 
 module _ {w : Bool} {ws : List ℕ} {n : ℕ} (H : Held w ws n) where
@@ -57,13 +57,13 @@ module _ {w : Bool} {ws : List ℕ} {n : ℕ} (H : Held w ws n) where
       (above-up r f (parentPlace ws x) j (p .1 ∙ ap (λ o. o .parent) (sym (o .0))) g (omega (arith, p .0)) m (omega (arith, p .0))))
 
   -- the places that lead to j are those of the blocks at or above the block there
-  up-is : (x j : ℕ) → Known (blocksIn w ws n) x → j < n → upTo (λ y. parentPlace ws y) n 1 j (lastPlace ws n x) ≡ above (blocksIn w ws n) x (blockAt ws j .number)
+  up-is : (x j : ℕ) → Known (blocksIn w ws n) x → j < n → upTo (λ y. parentPlace ws y) n 1 j (placeIn ws n x) ≡ above (blocksIn w ws n) x (blockAt ws j .number)
   up-is x j k l = go (listed w ws n (k .0) (k .1))
     where
-      go : Stands w ws n (k .0) → upTo (λ y. parentPlace ws y) n 1 j (lastPlace ws n x) ≡ above (blocksIn w ws n) x (blockAt ws j .number)
+      go : Stands w ws n (k .0) → upTo (λ y. parentPlace ws y) n 1 j (placeIn ws n x) ≡ above (blocksIn w ws n) x (blockAt ws j .number)
       go (i, h, s, e) =
           let a : blockAt ws i .number ≡ x = ap (λ o. o .number) (sym e) ∙ k .2 in
-          let p : lastPlace ws n x ≡ i = ap (lastPlace ws n) (sym a) ∙ place-is H i h in
+          let p : placeIn ws n x ≡ i = ap (λ (y : ℕ). placeIn ws n y) (sym a) ∙ place-is H i h in
           rw p (same-test (upTo (λ y. parentPlace ws y) n 1 j i) (above (blocksIn w ws n) x (blockAt ws j .number))
           (λ t. above-holds (H .sound) (above-cast a (up-above n i j h s t)))
           (λ t. above-up (above-true (H .sound) x (blockAt ws j .number) t) n i j a refl h l (omega arith)))
@@ -77,7 +77,7 @@ module _ {w : Bool} {ws : List ℕ} {n : ℕ} (H : Held w ws n) where
   reaches-supports slots numbers j v l K = go (eqb (getD slots v 0) 0) refl
     where
       go : (b : Bool) → eqb (getD slots v 0) 0 ≡ b
-          → (not b && upTo (λ y. parentPlace ws y) n 1 j (lastPlace ws n (getD numbers v 0)))
+          → (not b && upTo (λ y. parentPlace ws y) n 1 j (placeIn ws n (getD numbers v 0)))
           ≡ supports (blocksIn w ws n) (choiceOf (cond b none (last (record { voter = v; slot = getD slots v 0; number = getD numbers v 0 })))) (blockAt ws j .number)
       go true e = refl
       go false e = up-is (getD numbers v 0) j (K (getD numbers v 0) (rw e)) l
@@ -94,25 +94,28 @@ count-wide p n (suc m) h f = go (ltb m n) refl (λ q. count-wide p n m q (λ v a
     go true e rec = let l = ltb-true m n e in let q : n ≡ suc m = omega arith in rw q
     go false e rec = let l = ltb-false m n e in rw (f m l (omega arith)) (rec l)
 
-module _ {w : Bool} {ws : List ℕ} {n : ℕ} (H : Held w ws n) (k : ℕ → Choice) (voters : ℕ) {slots numbers masks : List ℕ} where
-  -- the weight of a place's word
-  pub place-weight : Subtrees ws n slots numbers 1 masks → ((v : ℕ) → v < 64 → choiceOf (lastAt slots numbers v) ≡ k v) → voters ≤ 64
-      → ((v x : ℕ) → k v ≡ chosen x → Known (blocksIn w ws n) x × (v < voters))
-      → (j : ℕ) → j < n → weightAtPlace masks j ≡ weight (blocksIn w ws n) k voters (blockAt ws j .number)
-  unfolding weight
-  place-weight S K m kn j l =
-      count-ext (bitOf (getD masks j 0)) (λ v. supports (blocksIn w ws n) (k v) (blockAt ws j .number)) 64 (λ v h. one v h)
-      ∙ count-wide (λ v. supports (blocksIn w ws n) (k v) (blockAt ws j .number)) voters 64 m (λ v a b. none-from v a)
+-- k says each voter's choice, for a selected block
+module _ {w : Bool} {ws : List ℕ} {n : ℕ} (H : Held w ws n) (k : ℕ → Choice) {slots numbers masks : List ℕ} where
+  -- the word at a place is the set of those that support the block there
+  pub place-voters : Subtrees ws n slots numbers 1 masks → ((v : ℕ) → v < 64 → choiceOf (lastAt slots numbers v) ≡ k v)
+      → ((v x : ℕ) → k v ≡ chosen x → Known (blocksIn w ws n) x)
+      → (j : ℕ) → j < n → getD masks j 0 ≡ maskOf 64 (λ v. supports (blocksIn w ws n) (k v) (blockAt ws j .number))
+  place-voters S K kn j l =
+      S .each j l ∙ mask-ext 64 (λ v. reaches ws n slots numbers 1 j v) (λ v. supports (blocksIn w ws n) (k v) (blockAt ws j .number)) (λ v h. one v h)
     where
-      one : (v : ℕ) → v < 64 → bitOf (getD masks j 0) v ≡ supports (blocksIn w ws n) (k v) (blockAt ws j .number)
+      one : (v : ℕ) → v < 64 → reaches ws n slots numbers 1 j v ≡ supports (blocksIn w ws n) (k v) (blockAt ws j .number)
       one v h =
-          ap (λ (x : ℕ). bitOf x v) (S .each j l) ∙ bit-mask 64 (λ u. reaches ws n slots numbers 1 j u) v h
-          ∙ reaches-supports H slots numbers j v l (λ x e. kn v x (sym (K v h) ∙ e) .0)
+          reaches-supports H slots numbers j v l (λ x e. kn v x (sym (K v h) ∙ e))
           ∙ ap (λ (o : Choice). supports (blocksIn w ws n) o (blockAt ws j .number)) (K v h)
 
-      none-from : (v : ℕ) → voters ≤ v → supports (blocksIn w ws n) (k v) (blockAt ws j .number) ≡ false
-      none-from v a = go (k v) refl
-        where
-          go : (o : Choice) → k v ≡ o → supports (blocksIn w ws n) o (blockAt ws j .number) ≡ false
-          go nothing e = unfold supports in refl
-          go (chosen x) e = absurd (omega (arith, kn v x e .1))
+-- a word that is the set of those that support b weighs as b does, if only the first `voters` have a choice
+pub word-weight : (bs : List Block) (k : ℕ → Choice) (voters b : ℕ) {m : ℕ} → m ≡ maskOf 64 (λ v. supports bs (k v) b) → voters ≤ 64
+    → ((v x : ℕ) → k v ≡ chosen x → v < voters) → count (bitOf m) 64 ≡ weight bs k voters b
+unfolding weight
+word-weight bs k voters b {m} e h f =
+    count-ext (bitOf m) (λ v. supports bs (k v) b) 64 (λ v l. ap (λ (x : ℕ). bitOf x v) e ∙ bit-mask 64 (λ u. supports bs (k u) b) v l)
+    ∙ count-wide (λ v. supports bs (k v) b) voters 64 h (λ v a l. none-from v a (k v) refl)
+  where
+    none-from : (v : ℕ) → voters ≤ v → (o : Choice) → k v ≡ o → supports bs o b ≡ false
+    none-from v a nothing q = unfold supports in refl
+    none-from v a (chosen x) q = absurd (omega (arith, f v x q))

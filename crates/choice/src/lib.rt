@@ -1,19 +1,20 @@
-// The walk from block 0 to the heaviest leaf, and the two confirmations, over lent tables.
+// Heads and bases: the walk from block 0 to the heaviest leaf, over lent tables.
 use protocol::Block;
 use protocol::Settings;
 ghost use mathlib.Core.Path.{_≡_};
-ghost use Prim.Native.Nat.{_+_, _*_, _^_, _<_, _≤_};
-ghost use lib.ListN.{length, replicate};
+ghost use Prim.Native.Nat.{ℕ, _+_, _*_, _^_, _<_, _≤_};
+ghost use lib.ListN.{length, getD, set, replicate};
 ghost use Rattle.protocol.specs.Store.{entries, inView};
 ghost use Rattle.protocol.specs.Lent.{rowsOf, makeBlock, makeVote};
 ghost use Rattle.protocol.specs.Walk.{isChild, bestChild, walk, weightAt, head, base};
 ghost use Rattle.ballots.specs.Latest.{votesIn};
-ghost use Rattle.subtrees.specs.Places.{blockAt, blocksIn, BlocksSound};
+ghost use Rattle.subtrees.specs.Places.{blockAt, blocksIn, parentPlace, BlocksSound, Parents};
 ghost use Rattle.choice.specs.Walks.{weightIn, beatsAt, foundAt, betterPlace};
-ghost use Rattle.choice.specs.Tables.{TablesSound, Weighed};
+ghost use Rattle.choice.specs.Children.{Linked};
+ghost use Rattle.choice.specs.Tables.{TablesSound, Supporters, Counted};
 
 // Whether b is a child of block a, of a slot below the limit.
-pub fn is_child(lim: u64, a: u64, b: Block) -> bool
+fn is_child(lim: u64, a: u64, b: Block) -> bool
     ensures { λ r. ⌜ r ≡ isChild lim a b ⌝ }
 {
     if 0 < b.number {
@@ -25,12 +26,12 @@ pub fn is_child(lim: u64, a: u64, b: Block) -> bool
 }
 
 // Whether the block at place d goes before the one at place c: more voters, or as many and a smaller number.
-pub fn beats(blocks: &[u64], masks: &[u64], d: usize, c: usize) -> bool
-    requires { ⌜ (4 * d + 3 < length (now blocks)) × (4 * c + 3 < length (now blocks)) × (d < length (now masks)) × (c < length (now masks)) ⌝ }
-    ensures { λ r. ⌜ r ≡ beatsAt (now (blocks .entry)) (now (masks .entry)) d c ⌝ }
+fn beats(blocks: &[u64], weights: &[u32], d: usize, c: usize) -> bool
+    requires { ⌜ (4 * d + 3 < length (now blocks)) × (4 * c + 3 < length (now blocks)) × (d < length (now weights)) × (c < length (now weights)) ⌝ }
+    ensures { λ r. ⌜ r ≡ beatsAt (now (blocks .entry)) (now (weights .entry)) d c ⌝ }
 {
-    let x = masks::weight(masks[c]);
-    let y = masks::weight(masks[d]);
+    let x = weights[c];
+    let y = weights[d];
     if x < y {
         return true;
     }
@@ -43,23 +44,23 @@ pub fn beats(blocks: &[u64], masks: &[u64], d: usize, c: usize) -> bool
 }
 
 // The better of the child at place `best` and row i, if that is a child of block a; place 0 is no child's.
-pub fn better_place(
+fn better_place(
     blocks: &[u64],
-    masks: &[u64],
+    weights: &[u32],
     whole: bool,
     lim: u64,
     a: u64,
     i: usize,
     best: usize,
 ) -> usize
-    requires { ⌜ (4 * i + 3 < length (now blocks)) × (4 * best + 3 < length (now blocks)) × (i < length (now masks)) × (best < length (now masks)) ⌝ }
-    ensures { λ r. ⌜ r ≡ betterPlace (now (blocks .entry)) (now (masks .entry)) whole lim a i best ⌝ }
+    requires { ⌜ (4 * i + 3 < length (now blocks)) × (4 * best + 3 < length (now blocks)) × (i < length (now weights)) × (best < length (now weights)) ⌝ }
+    ensures { λ r. ⌜ r ≡ betterPlace (now (blocks .entry)) (now (weights .entry)) whole lim a i best ⌝ }
 {
     let row = rows::block_at(blocks, i);
     if rows::selects(whole, row.shown) {
         if is_child(lim, a, row.block) {
             if best != 0 {
-                if beats(blocks, masks, best, i) {
+                if beats(blocks, weights, best, i) {
                     return best;
                 }
             }
@@ -69,40 +70,77 @@ pub fn better_place(
     best
 }
 
-// The heaviest child of the block at place a; place 0 if it has none. Children stand after their parent.
-// At most one turn for each row after a.
-pub fn best_child(
+// Row i becomes the first child of its parent's row, and the one that was comes next to it.
+fn link_child(parents: &[u16], i: usize, firsts: &mut [u16], nexts: &mut [u16])
+    requires { ⌜ (i < length (now parents)) × (getD (now parents) i 0 < length (now firsts)) × (i < length (now nexts)) × (i < 2048) ⌝ }
+    ensures { λ r. ⌜ (now (nexts .exit) ≡ set (now (nexts .entry)) i (getD (now (firsts .entry)) (getD (now (parents .entry)) i 0) 0))
+        × (now (firsts .exit) ≡ set (now (firsts .entry)) (getD (now (parents .entry)) i 0) i) ⌝ }
+{
+    let p = search_tree::link_at(parents, i);
+    nexts[i] = firsts[p];
+    search_tree::put_link(firsts, p, i);
+}
+
+// The children of each row, linked in the order of their rows. One turn for each row.
+fn link_children(parents: &[u16], used: usize, firsts: &mut [u16], nexts: &mut [u16])
+    requires { ⌜ (0 < used) × (used ≤ 2048) × (length (now parents) ≡ 2048) × ((i : ℕ) → i < used → getD (now parents) i 0 < used)
+        × (now firsts ≡ replicate 2048 0) × (length (now nexts) ≡ 2048) ⌝ }
+    ensures { λ r. ⌜ Linked (λ i. getD (now (parents .entry)) i 0) used 1 (now (firsts .exit)) (now (nexts .exit)) ⌝ }
+{
+    let mut i: usize = used;
+    while 1 < i {
+        i -= 1;
+        link_child(parents, i, firsts, nexts);
+    }
+}
+
+// The heaviest child of the block at place a; place 0 if it has none. One turn for each of its children.
+fn best_child(
     blocks: &[u64],
     used: usize,
-    masks: &[u64],
+    firsts: &[u16],
+    nexts: &[u16],
+    weights: &[u32],
     whole: bool,
     lim: u64,
     a: usize,
 ) -> usize
-    requires { ⌜ (4 * used ≤ length (now blocks)) × (used ≤ length (now masks)) × (a < used) × BlocksSound (now blocks) used ⌝ }
-    ensures { λ r. ⌜ (r < used) × (bestChild (weightIn (now (blocks .entry)) used (now (masks .entry))) lim (blockAt (now (blocks .entry)) a .number)
+    requires { ⌜ (4 * used ≤ length (now blocks)) × (used ≤ length (now firsts)) × (used ≤ length (now nexts)) × (used ≤ length (now weights)) × (a < used)
+        × BlocksSound (now blocks) used × Linked (λ i. parentPlace (now blocks) i) used 1 (now firsts) (now nexts) ⌝ }
+    ensures { λ r. ⌜ (r < used) × (bestChild (weightIn (now (blocks .entry)) used (now (weights .entry))) lim (blockAt (now (blocks .entry)) a .number)
         (blocksIn whole (now (blocks .entry)) used) ≡ foundAt (now (blocks .entry)) r) ⌝ }
 {
     let parent = rows::block_at(blocks, a);
     let mut best: usize = 0;
-    let mut i: usize = a + 1;
-    while i < used {
-        best = better_place(blocks, masks, whole, lim, parent.block.number, i, best);
-        i += 1;
+    let mut c = search_tree::link_at(firsts, a);
+    while c != 0 {
+        best = better_place(blocks, weights, whole, lim, parent.block.number, c, best);
+        c = search_tree::link_at(nexts, c);
     }
     best
 }
 
-// The place of the leaf at which the walk from block 0 stops, level by level.
-// Each level looks at the rows after its block: at most blocks × blocks / 2 in all. Rows linked to their siblings would leave one turn for each row.
-pub fn leaf(blocks: &[u64], used: usize, masks: &[u64], whole: bool, lim: u64) -> usize
-    requires { ⌜ (4 * used ≤ length (now blocks)) × (used ≤ length (now masks)) × BlocksSound (now blocks) used ⌝ }
+// The place of the leaf at which the walk from block 0 stops, level by level: each level searches the children of its block alone.
+// So no row has two turns, however long the chain is. Stack: 8 KiB for the links of 2,048 rows.
+fn leaf(
+    blocks: &[u64],
+    used: usize,
+    parents: &[u16],
+    weights: &[u32],
+    whole: bool,
+    lim: u64,
+) -> usize
+    requires { ⌜ (4 * used ≤ length (now blocks)) × (used ≤ 2048) × (used ≤ length (now weights)) × (length (now parents) ≡ 2048)
+        × BlocksSound (now blocks) used × Parents (now blocks) used (now parents) ⌝ }
     ensures { λ r. ⌜ (r < used) × (blockAt (now (blocks .entry)) r .number
-        ≡ walk (weightIn (now (blocks .entry)) used (now (masks .entry))) (blocksIn whole (now (blocks .entry)) used) lim) ⌝ }
+        ≡ walk (weightIn (now (blocks .entry)) used (now (weights .entry))) (blocksIn whole (now (blocks .entry)) used) lim) ⌝ }
 {
+    let mut firsts = [0u16; 2048];
+    let mut nexts = [0u16; 2048];
+    link_children(parents, used, &mut firsts, &mut nexts);
     let mut a: usize = 0;
     loop {
-        let c = best_child(blocks, used, masks, whole, lim, a);
+        let c = best_child(blocks, used, &firsts, &nexts, weights, whole, lim, a);
         if c == 0 {
             break a;
         }
@@ -110,8 +148,9 @@ pub fn leaf(blocks: &[u64], used: usize, masks: &[u64], whole: bool, lim: u64) -
     }
 }
 
-// The voters of each subtree, by the votes kept for slot t: the word at a block's place weighs as the block does.
-// The kept votes cost a descent for each vote, the words at most blocks × blocks / 2. Stack: 1 KB for the kept votes of 64 voters, and while they
+// The voters of each subtree, by the votes kept for slot t: the word at a block's place is the set of the voters whose kept vote is for it or
+// for a block above it. Also the place of each block's parent.
+// The cost is a descent for each vote, two for each block and one for each voter. Stack: 1 KB for the kept votes of 64 voters, and while they
 // are gathered 80 KiB.
 pub fn weigh(
     settings: Settings,
@@ -122,10 +161,12 @@ pub fn weigh(
     whole: bool,
     expiry: u64,
     t: u64,
+    parents: &mut [u16],
     masks: &mut [u64],
 )
-    requires { ⌜ TablesSound settings (now blocks) «blocks_used» (now votes) «votes_used» × (now masks ≡ replicate 2048 0) ⌝ }
-    ensures { λ r. ⌜ Weighed whole (now (blocks .entry)) «blocks_used» (now (votes .entry)) «votes_used» (settings .nodes) expiry t (now (masks .exit)) ⌝ }
+    requires { ⌜ TablesSound settings (now blocks) «blocks_used» (now votes) «votes_used» × (length (now parents) ≡ 2048) × (now masks ≡ replicate 2048 0) ⌝ }
+    ensures { λ r. ⌜ Parents (now (blocks .entry)) «blocks_used» (now (parents .exit))
+        × Supporters whole (now (blocks .entry)) «blocks_used» (now (votes .entry)) «votes_used» expiry t (now (masks .exit)) ⌝ }
 {
     let mut slots = [0u64; 64];
     let mut numbers = [0u64; 64];
@@ -138,11 +179,23 @@ pub fn weigh(
         &mut slots,
         &mut numbers,
     );
-    subtrees::supporters(blocks, blocks_used, &slots, &numbers, masks);
+    subtrees::supporters(blocks, blocks_used, &slots, &numbers, parents, masks);
 }
 
-// The place of the heaviest leaf: by the weights of slot t, with children of slots below the limit.
-// Stack: 16 KB for the words of 2048 blocks; with what gathers the kept votes 97 KB, the most that any call here takes.
+// The weight of each block, by the word at its place: each word is counted once.
+fn count_voters(masks: &[u64], used: usize, weights: &mut [u32])
+    requires { ⌜ (used ≤ length (now masks)) × (used ≤ length (now weights)) ⌝ }
+    ensures { λ r. ⌜ Counted (now (masks .entry)) used (now (weights .exit)) ⌝ }
+{
+    let mut i: usize = 0;
+    while i < used {
+        weights[i] = masks::weight(masks[i]);
+        i += 1;
+    }
+}
+
+// The place of the heaviest leaf: by the weights of slot t, with children of slots below the limit. Also the place of each block's parent.
+// Stack: 24 KiB for the words and weights of 2,048 blocks; with what gathers the kept votes 105 KiB, the most that any call here takes.
 pub fn heaviest_leaf(
     settings: Settings,
     blocks: &[u64],
@@ -152,9 +205,10 @@ pub fn heaviest_leaf(
     whole: bool,
     t: u64,
     lim: u64,
+    parents: &mut [u16],
 ) -> usize
-    requires { ⌜ TablesSound settings (now blocks) «blocks_used» (now votes) «votes_used» ⌝ }
-    ensures { λ r. ⌜ (r < «blocks_used») × (blockAt (now (blocks .entry)) r .number
+    requires { ⌜ TablesSound settings (now blocks) «blocks_used» (now votes) «votes_used» × (length (now parents) ≡ 2048) ⌝ }
+    ensures { λ r. ⌜ Parents (now (blocks .entry)) «blocks_used» (now (parents .exit)) × (r < «blocks_used») × (blockAt (now (blocks .entry)) r .number
         ≡ walk (weightAt (blocksIn whole (now (blocks .entry)) «blocks_used») (votesIn whole (now (votes .entry)) «votes_used») (settings .nodes) (settings .expiry) t)
         (blocksIn whole (now (blocks .entry)) «blocks_used») lim) ⌝ }
 {
@@ -168,12 +222,46 @@ pub fn heaviest_leaf(
         whole,
         settings.expiry,
         t,
+        parents,
         &mut masks,
     );
-    leaf(blocks, blocks_used, &masks, whole, lim)
+    let mut weights = [0u32; 2048];
+    count_voters(&masks, blocks_used, &mut weights);
+    leaf(blocks, blocks_used, parents, &weights, whole, lim)
 }
 
-// The head of slot t, over the view: children of slots up to t.
+// The number of the heaviest leaf. Stack: 4 KiB more, for the parents' places.
+fn heaviest(
+    settings: Settings,
+    blocks: &[u64],
+    blocks_used: usize,
+    votes: &[u64],
+    votes_used: usize,
+    whole: bool,
+    t: u64,
+    lim: u64,
+) -> u64
+    requires { ⌜ TablesSound settings (now blocks) «blocks_used» (now votes) «votes_used» ⌝ }
+    ensures { λ r. ⌜ r ≡ walk (weightAt (blocksIn whole (now (blocks .entry)) «blocks_used») (votesIn whole (now (votes .entry)) «votes_used») (settings .nodes) (settings .expiry) t)
+        (blocksIn whole (now (blocks .entry)) «blocks_used») lim ⌝ }
+{
+    let mut parents = [0u16; 2048];
+    let a = heaviest_leaf(
+        settings,
+        blocks,
+        blocks_used,
+        votes,
+        votes_used,
+        whole,
+        t,
+        lim,
+        &mut parents,
+    );
+    let row = rows::block_at(blocks, a);
+    row.block.number
+}
+
+// The head of slot t, over the view: children of slots up to t. The cost is a few descents for each vote and block.
 pub fn head(
     settings: Settings,
     blocks: &[u64],
@@ -186,7 +274,7 @@ pub fn head(
     ensures { λ r. ⌜ r ≡ head (inView (rowsOf makeBlock (now (blocks .entry)) «blocks_used»)) (inView (rowsOf makeVote (now (votes .entry)) «votes_used»))
         (settings .nodes) (settings .expiry) t ⌝ }
 {
-    let a = heaviest_leaf(
+    heaviest(
         settings,
         blocks,
         blocks_used,
@@ -195,12 +283,10 @@ pub fn head(
         false,
         t,
         t + 1,
-    );
-    let row = rows::block_at(blocks, a);
-    row.block.number
+    )
 }
 
-// The base of a proposal of slot t, over the whole store: children of slots below t only.
+// The base of a proposal of slot t, over the whole store: children of slots below t only. The head's cost.
 pub fn base(
     settings: Settings,
     blocks: &[u64],
@@ -213,7 +299,5 @@ pub fn base(
     ensures { λ r. ⌜ r ≡ base (entries (rowsOf makeBlock (now (blocks .entry)) «blocks_used»)) (entries (rowsOf makeVote (now (votes .entry)) «votes_used»))
         (settings .nodes) (settings .expiry) t ⌝ }
 {
-    let a = heaviest_leaf(settings, blocks, blocks_used, votes, votes_used, true, t, t);
-    let row = rows::block_at(blocks, a);
-    row.block.number
+    heaviest(settings, blocks, blocks_used, votes, votes_used, true, t, t)
 }

@@ -13,7 +13,7 @@ use Rattle.protocol.specs.Walk.{walk, weightAt}
 use Rattle.protocol.proofs.Chain.Relations.{In, Sound, here}
 use Rattle.protocol.proofs.Confirm.Deep.{late-number, deep-next, deepFrom-is, deep-one}
 use Rattle.rows.specs.Rows.{rowAt}
-use Rattle.subtrees.specs.Places.{blockAt, blocksIn, lastPlace, parentPlace}
+use Rattle.subtrees.specs.Places.{blockAt, blocksIn, parentPlace}
 use Rattle.ballots.specs.Latest.{selected, votesIn}
 use Rattle.choice.proofs.Tables.{head-number}
 use Rattle.choice.proofs.Held.{Held, isIn, lists, parent-is, parent-in, place-pos}
@@ -52,12 +52,11 @@ module _ {ws : List ℕ} {n : ℕ} (H : Held false ws n) (m : ℕ) {x i : ℕ} (
   pub down-pos : (r : Marked Block) → r ≡ rowAt makeBlock ws i → m < r .entry .slot → 0 < i
   down-pos r e l = place-pos H i (late-number (H .sound) m (blockAt ws i) here-in (omega (arith, ap (λ o. o .entry .slot) e)))
 
-  pub down-on : (r : Marked Block) (p : ℕ) → r ≡ rowAt makeBlock ws i → m < r .entry .slot → p ≡ lastPlace ws i (r .entry .parent) → (p < i) × Down ws n m x p
-  down-on r p e l q =
+  pub down-on : (r : Marked Block) (p : ℕ) → r ≡ rowAt makeBlock ws i → m < r .entry .slot → p ≡ parentPlace ws i → (p < i) × Down ws n m x p
+  down-on r p e l a =
       let z = down-pos r e l in
       let k = parent-is H i z (D .inside) in
       let s = parent-in H i z (D .inside) (D .shown) in
-      let a : p ≡ parentPlace ws i = q ∙ ap (λ (y : ℕ). lastPlace ws i y) (ap (λ o. o .entry .parent) e) in
       let h : parentPlace ws i < n = omega (arith, k .0, D .inside) in
       rw a (
         k .0,

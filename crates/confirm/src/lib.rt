@@ -11,7 +11,7 @@ ghost use Rattle.protocol.specs.Walk.{count};
 ghost use Rattle.protocol.specs.Confirm.{deepFrom, deep, fast};
 ghost use Rattle.rows.specs.Rows.{rowAt};
 ghost use Rattle.masks.specs.Masks.{bitOf};
-ghost use Rattle.subtrees.specs.Places.{blockAt, blocksIn, BlocksSound};
+ghost use Rattle.subtrees.specs.Places.{blockAt, blocksIn, BlocksSound, Parents};
 ghost use Rattle.choice.specs.Tables.{TablesSound};
 ghost use Rattle.confirm.specs.Top.{choiceIn, topChoice};
 
@@ -21,10 +21,10 @@ pub enum Answer {
     Nothing,
 }
 
-// The number of the first block of a slot of at most m, from the block at a place down by the parents.
-// Each parent is looked up from its child down: at most one turn for each row in all.
-pub fn climb_down(blocks: &[u64], used: usize, from: usize, m: u64) -> u64
-    requires { ⌜ (4 * used ≤ length (now blocks)) × BlocksSound (now blocks) used × (from < used) × (rowAt makeBlock (now blocks) from .shown ≡ true) ⌝ }
+// The number of the first block of a slot of at most m, from the block at a place down by the parents' places. One turn for each block on the way.
+fn climb_down(blocks: &[u64], used: usize, parents: &[u16], from: usize, m: u64) -> u64
+    requires { ⌜ (4 * used ≤ length (now blocks)) × (used ≤ length (now parents)) × BlocksSound (now blocks) used × Parents (now blocks) used (now parents)
+        × (from < used) × (rowAt makeBlock (now blocks) from .shown ≡ true) ⌝ }
     ensures { λ r. ⌜ r ≡ deepFrom (blocksIn false (now (blocks .entry)) used) m (blockAt (now (blocks .entry)) from .number) ⌝ }
 {
     let mut i: usize = from;
@@ -33,7 +33,7 @@ pub fn climb_down(blocks: &[u64], used: usize, from: usize, m: u64) -> u64
         if row.block.slot <= m {
             break row.block.number;
         }
-        i = subtrees::last_place(blocks, i, row.block.parent);
+        i = search_tree::link_at(parents, i);
     }
 }
 
@@ -47,7 +47,7 @@ pub fn slot_before(t: u64, depth: u64) -> u64
     0
 }
 
-// The deep block of slot t, over the view. The head's cost, and at most one turn for each row.
+// The deep block of slot t, over the view. The head's cost, and one turn for each block on the way down.
 pub fn deep(
     settings: Settings,
     blocks: &[u64],
@@ -60,6 +60,7 @@ pub fn deep(
     ensures { λ r. ⌜ r ≡ deep (inView (rowsOf makeBlock (now (blocks .entry)) «blocks_used»)) (inView (rowsOf makeVote (now (votes .entry)) «votes_used»))
         (settings .nodes) (settings .expiry) (settings .depth) t ⌝ }
 {
+    let mut parents = [0u16; 2048];
     let a = choice::heaviest_leaf(
         settings,
         blocks,
@@ -69,8 +70,15 @@ pub fn deep(
         false,
         t,
         t + 1,
+        &mut parents,
     );
-    climb_down(blocks, blocks_used, a, slot_before(t, settings.depth))
+    climb_down(
+        blocks,
+        blocks_used,
+        &parents,
+        a,
+        slot_before(t, settings.depth),
+    )
 }
 
 // Whether a set has three quarters of n voters.
@@ -100,7 +108,7 @@ pub fn top(blocks: &[u64], used: usize, masks: &[u64], n: u64) -> Answer
 }
 
 // The fast block of slot t, over the view: the weights are those of the votes of slot t.
-// The cost of the weights, and one turn for each row. Stack: 16 KB for the words of 2048 blocks; with what gathers the kept votes 97 KB.
+// The cost of the weights, and one turn for each row. Stack: 16 KiB for the words of 2,048 blocks; with what gathers the kept votes 101 KiB.
 pub fn fast(
     settings: Settings,
     blocks: &[u64],
@@ -113,6 +121,7 @@ pub fn fast(
     ensures { λ r. ⌜ choiceIn r ≡ fast (inView (rowsOf makeBlock (now (blocks .entry)) «blocks_used»)) (inView (rowsOf makeVote (now (votes .entry)) «votes_used»))
         (settings .nodes) t ⌝ }
 {
+    let mut parents = [0u16; 2048];
     let mut masks = [0u64; 2048];
     choice::weigh(
         settings,
@@ -123,6 +132,7 @@ pub fn fast(
         false,
         1,
         t + 1,
+        &mut parents,
         &mut masks,
     );
     top(blocks, blocks_used, &masks, settings.nodes)

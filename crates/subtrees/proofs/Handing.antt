@@ -1,5 +1,5 @@
 -- Words of voters, as they are set at the rows of their votes' blocks and then handed on. Assumes nothing.
-use Prim.Native.Nat.{ℕ, zero, suc, _+_, _≤_, _<_}
+use Prim.Native.Nat.{ℕ, _+_, _≤_, _<_}
 use mathlib.Core.Bool.{Bool, true, false, _||_, _&&_, cond, and-true, and-false, or-false}
 use mathlib.Core.List.{List}
 use mathlib.Core.Path.{_≡_, refl, ap, ap₂, sym, _∙_}
@@ -8,52 +8,19 @@ use lib.Bits.{bitOr}
 use lib.Dec.{eqb, ltb}
 use lib.ListN.{length, getD, set, replicate, getD-replicate}
 use lib.Seq.{getD-set-same, getD-set-other}
-use borrow.Author.Tests.{eqb-true, eqb-false, eq-eqb, ne-eqb, lt-ltb, le-ltb}
-use Rattle.protocol.specs.declared.Block.{Block}
-use Rattle.protocol.specs.Store.{Marked}
-use Rattle.protocol.specs.Lent.{makeBlock}
-use Rattle.rows.specs.Rows.{rowAt}
+use borrow.Author.Tests.{eqb-true, eqb-false, lt-ltb, le-ltb}
 use Rattle.masks.specs.Masks.{bitOf, maskOf, added}
 use Rattle.masks.proofs.Masks.{mask-none, mask-ext, bit-mask, or-mask, below-more}
-use Rattle.subtrees.specs.Places.{blockAt, lastPlace, parentPlace}
+use Rattle.subtrees.specs.Places.{placeIn, parentPlace}
 use Rattle.subtrees.specs.Subtrees.{upTo, voted, reaches, Subtrees}
+use Rattle.subtrees.proofs.Places.{place-lt, parent-lt}
 use Rattle.subtrees.proofs.Up.{up-low, up-step}
-
--- ---- places
-
-pub place-lt : (ws : List ℕ) (n x : ℕ) → 0 < n → lastPlace ws n x < n
-unfolding lastPlace
-place-lt ws zero x h = absurd (omega arith)
-place-lt ws (suc k) x h = go (eqb (blockAt ws k .number) x) k (λ z. place-lt ws k x z)
-  where
-    go : (b : Bool) (m : ℕ) → (0 < m → lastPlace ws m x < m) → cond b m (lastPlace ws m x) < suc m
-    go true m rec = omega arith
-    go false zero rec = unfold lastPlace in (omega arith)
-    go false (suc m) rec = omega (arith, rec (omega arith))
-
--- a search from the last row down: row k was read as m
-pub place-hit : (ws : List ℕ) (i k x : ℕ) (m : Marked Block) → m ≡ rowAt makeBlock ws k → i ≡ suc k → m .entry .number ≡ x → lastPlace ws i x ≡ k
-unfolding lastPlace
-place-hit ws i k x m r h e = rw (h, eq-eqb (blockAt ws k .number) x (ap (λ o. o .entry .number) (sym r) ∙ e))
-
-pub place-miss : (ws : List ℕ) (i k x : ℕ) (m : Marked Block) → m ≡ rowAt makeBlock ws k → i ≡ suc k → (m .entry .number ≡ x → ⊥)
-    → lastPlace ws i x ≡ lastPlace ws k x
-unfolding lastPlace
-place-miss ws i k x m r h e = rw (h, ne-eqb (blockAt ws k .number) x (λ q. e (ap (λ o. o .entry .number) r ∙ q)))
-
-pub place-end : (ws : List ℕ) (i x : ℕ) → i ≤ 0 → lastPlace ws i x ≡ 0
-unfolding lastPlace
-place-end ws zero x h = refl
-place-end ws (suc k) x h = absurd (omega arith)
-
-lower : (ws : List ℕ) (x : ℕ) → 0 < x → parentPlace ws x < x
-lower ws x h = place-lt ws x (blockAt ws x .parent) h
 
 -- ---- voters at the rows of their votes' blocks
 
 -- voter v has a vote, for the block at row j
 abbrev votesAt : List ℕ → ℕ → List ℕ → List ℕ → ℕ → ℕ → Bool
-votesAt ws n slots numbers j v = voted slots v && eqb (lastPlace ws n (getD numbers v 0)) j
+votesAt ws n slots numbers j v = voted slots v && eqb (placeIn ws n (getD numbers v 0)) j
 
 -- a word set at the place found
 pub set-word : (masks : List ℕ) (p q r v : ℕ) → p ≡ q → r ≡ maskOf 64 (added (bitOf (getD masks p 0)) v)
@@ -96,20 +63,20 @@ module _ (ws : List ℕ) (n : ℕ) (slots numbers : List ℕ) where
       (λ v q. sym (more j k v ∙ rw (e, and-false (eqb v k), or-false (ltb v k && votesAt ws n slots numbers j v))))
 
   pub placed-more : (k : ℕ) {masks next : List ℕ} → Placed ws n slots numbers k masks
-      → next ≡ cond (voted slots k) (set masks (lastPlace ws n (getD numbers k 0)) (maskOf 64 (added (bitOf (getD masks (lastPlace ws n (getD numbers k 0)) 0)) k))) masks
+      → next ≡ cond (voted slots k) (set masks (placeIn ws n (getD numbers k 0)) (maskOf 64 (added (bitOf (getD masks (placeIn ws n (getD numbers k 0)) 0)) k))) masks
       → 0 < n → n ≤ length masks → Placed ws n slots numbers (k + 1) next
-  placed-more k {masks} {next} P e z m = record { each = λ j l. ap (λ (s : List ℕ). getD s j 0) e ∙ go j l (voted slots k) refl (eqb (lastPlace ws n (getD numbers k 0)) j) refl }
+  placed-more k {masks} {next} P e z m = record { each = λ j l. ap (λ (s : List ℕ). getD s j 0) e ∙ go j l (voted slots k) refl (eqb (placeIn ws n (getD numbers k 0)) j) refl }
     where
-      go : (j : ℕ) → j < n → (b : Bool) → voted slots k ≡ b → (c : Bool) → eqb (lastPlace ws n (getD numbers k 0)) j ≡ c
-          → getD (cond b (set masks (lastPlace ws n (getD numbers k 0)) (maskOf 64 (added (bitOf (getD masks (lastPlace ws n (getD numbers k 0)) 0)) k))) masks) j 0
+      go : (j : ℕ) → j < n → (b : Bool) → voted slots k ≡ b → (c : Bool) → eqb (placeIn ws n (getD numbers k 0)) j ≡ c
+          → getD (cond b (set masks (placeIn ws n (getD numbers k 0)) (maskOf 64 (added (bitOf (getD masks (placeIn ws n (getD numbers k 0)) 0)) k))) masks) j 0
           ≡ maskOf 64 (λ v. ltb v (k + 1) && votesAt ws n slots numbers j v)
-      go j l false p c q = kept j k masks (ap (λ (b : Bool). b && eqb (lastPlace ws n (getD numbers k 0)) j) p) (P .each j l)
+      go j l false p c q = kept j k masks (ap (λ (b : Bool). b && eqb (placeIn ws n (getD numbers k 0)) j) p) (P .each j l)
       go j l true p false q =
-          let ne : j ≡ lastPlace ws n (getD numbers k 0) → ⊥ = λ o. eqb-false (lastPlace ws n (getD numbers k 0)) j q (sym o) in
-          getD-set-other masks (lastPlace ws n (getD numbers k 0)) j _ 0 ne
+          let ne : j ≡ placeIn ws n (getD numbers k 0) → ⊥ = λ o. eqb-false (placeIn ws n (getD numbers k 0)) j q (sym o) in
+          getD-set-other masks (placeIn ws n (getD numbers k 0)) j _ 0 ne
           ∙ kept j k masks (ap₂ (λ (b c : Bool). b && c) p q) (P .each j l)
       go j l true p true q =
-          let o : lastPlace ws n (getD numbers k 0) ≡ j = eqb-true (lastPlace ws n (getD numbers k 0)) j q in
+          let o : placeIn ws n (getD numbers k 0) ≡ j = eqb-true (placeIn ws n (getD numbers k 0)) j q in
           rw o (getD-set-same masks j (maskOf 64 (added (bitOf (getD masks j 0)) k)) 0 (omega arith)
           ∙ mask-ext 64 (added (bitOf (getD masks j 0)) k) (λ v. ltb v (k + 1) && votesAt ws n slots numbers j v)
           (λ v r. ap (λ (b : Bool). b || eqb v k) (ap (λ (x : ℕ). bitOf x v) (P .each j l) ∙ bit-mask 64 (λ u. ltb u k && votesAt ws n slots numbers j u) v r)
@@ -123,7 +90,7 @@ module _ (ws : List ℕ) (n : ℕ) (slots numbers : List ℕ) where
           P .each j l
           ∙ mask-ext 64 (λ v. ltb v k && votesAt ws n slots numbers j v) (λ v. reaches ws n slots numbers n j v)
           (λ v q. rw (lt-ltb v k (omega arith))
-          (ap (λ (b : Bool). voted slots v && b) (sym (up-low (λ y. parentPlace ws y) (lower ws) n n j (lastPlace ws n (getD numbers v 0)) (place-lt ws n (getD numbers v 0) (omega arith))))))
+          (ap (λ (b : Bool). voted slots v && b) (sym (up-low (λ y. parentPlace ws y) (parent-lt ws) n n j (placeIn ws n (getD numbers v 0)) (place-lt ws n (getD numbers v 0) (omega arith))))))
 
   -- ---- handed on
 
@@ -135,9 +102,9 @@ module _ (ws : List ℕ) (n : ℕ) (slots numbers : List ℕ) where
   handed : (i j v : ℕ) → 0 < i → 0 < n
       → reaches ws n slots numbers i j v ≡ (reaches ws n slots numbers (i + 1) j v || (eqb (parentPlace ws i) j && reaches ws n slots numbers (i + 1) i v))
   handed i j v p z =
-      let x = lastPlace ws n (getD numbers v 0) in
+      let x = placeIn ws n (getD numbers v 0) in
       let l : x ≤ n = omega (arith, place-lt ws n (getD numbers v 0) z) in
-      ap (λ (b : Bool). voted slots v && b) (up-step (λ y. parentPlace ws y) (lower ws) n i j x p l)
+      ap (λ (b : Bool). voted slots v && b) (up-step (λ y. parentPlace ws y) (parent-lt ws) n i j x p l)
       ∙ spread (voted slots v) (upTo (λ y. parentPlace ws y) n (i + 1) j x) (eqb (parentPlace ws i) j) (upTo (λ y. parentPlace ws y) n (i + 1) i x)
 
   pub handed-on : (i : ℕ) {masks next : List ℕ} → Subtrees ws n slots numbers (i + 1) masks

@@ -1,3 +1,4 @@
 -- The laws of places and of handing on, and the proofs of the functions. Assumes nothing.
+pub mod Places
 pub mod Up
 pub mod Handing

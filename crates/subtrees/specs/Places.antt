@@ -1,15 +1,15 @@
 -- Blocks by their places in the table. Assumes nothing.
-use Prim.Native.Nat.{ℕ, zero, suc}
-use mathlib.Core.Bool.{Bool, cond}
+use Prim.Native.Nat.{ℕ, _-_, _<_}
+use mathlib.Core.Bool.{Bool, true}
 use mathlib.Core.List.{List}
 use mathlib.Core.Path.{_≡_}
-use mathlib.Core.Bool.{true}
-use lib.Dec.{eqb}
+use lib.ListN.{getD}
 use Rattle.protocol.specs.declared.Block.{Block}
 use Rattle.protocol.specs.Lent.{rowsOf, makeBlock}
 use Rattle.protocol.specs.Sound.{blocksSound}
 use Rattle.rows.specs.Rows.{rowAt}
 use Rattle.ballots.specs.Latest.{selected}
+use Rattle.block_index.specs.Index.{placeOfNumber}
 
 abbrev pub blockAt : List ℕ → ℕ → Block
 blockAt ws i = rowAt makeBlock ws i .entry
@@ -22,11 +22,18 @@ blocksIn whole ws n = selected whole (rowsOf makeBlock ws n)
 abbrev pub BlocksSound : List ℕ → ℕ → Type 0
 BlocksSound ws n = (slot : ℕ) × (blocksSound slot (rowsOf makeBlock ws n) ≡ true)
 
--- the last of the first n rows with number x; the first row, if none has it
-unfoldable pub lastPlace : List ℕ → ℕ → ℕ → ℕ
-lastPlace ws zero x = 0
-lastPlace ws (suc k) x = cond (eqb (blockAt ws k .number) x) k (lastPlace ws k x)
+-- the place of number x among the first n rows; place 0, if none has it
+abbrev pub placeIn : List ℕ → ℕ → ℕ → ℕ
+placeIn ws n x = placeOfNumber (rowsOf makeBlock ws n) x - 1
 
 -- a parent stands before its children
 abbrev pub parentPlace : List ℕ → ℕ → ℕ
-parentPlace ws i = lastPlace ws i (blockAt ws i .parent)
+parentPlace ws i = placeIn ws i (blockAt ws i .parent)
+
+-- the array has f j at each place j below n
+pub record Filled (f : ℕ → ℕ) (n : ℕ) (array : List ℕ) : Type 0 where
+  pub each : (j : ℕ) → j < n → getD array j 0 ≡ f j
+
+-- the array has the place of each row's parent
+abbrev pub Parents : List ℕ → ℕ → List ℕ → Type 0
+Parents ws n parents = Filled (λ i. parentPlace ws i) n parents

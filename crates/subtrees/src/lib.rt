@@ -1,75 +1,115 @@
-// The voters of each block and of all blocks above it, as words by places.
+// The voters of each block and of all blocks above it, as words by places; and the place of each block's parent.
 ghost use mathlib.Core.Bool.{cond};
 ghost use mathlib.Core.Path.{_≡_};
-ghost use Prim.Native.Nat.{_+_, _*_, _<_, _≤_};
+ghost use Prim.Native.Nat.{_*_, _<_, _≤_};
 ghost use lib.Bits.{bitOr};
 ghost use lib.ListN.{length, getD, set, replicate};
 ghost use Rattle.masks.specs.Masks.{maskOf, bitOf, added};
-ghost use Rattle.subtrees.specs.Places.{lastPlace, parentPlace};
+ghost use Rattle.block_index.specs.Index.{BlockIndex};
+ghost use Rattle.subtrees.specs.Places.{placeIn, Parents};
 ghost use Rattle.subtrees.specs.Subtrees.{voted, Subtrees};
 
-// The place of block x among the first rows, from the last of them down: a parent stands near its children.
-pub fn last_place(blocks: &[u64], count: usize, x: u64) -> usize
-    requires { ⌜ 4 * count ≤ length (now blocks) ⌝ }
-    ensures { λ r. ⌜ r ≡ lastPlace (now (blocks .entry)) count x ⌝ }
+// The place of block x among the first n rows; place 0 if none has that number. The cost is a descent.
+fn place_in(blocks: &[u64], n: usize, links: &[u16], x: u64) -> usize
+    requires { ⌜ (4 * n ≤ length (now blocks)) × BlockIndex (now blocks) n (now links) ⌝ }
+    ensures { λ r. ⌜ r ≡ placeIn (now (blocks .entry)) n x ⌝ }
 {
-    let mut i: usize = count;
-    while 0 < i {
-        i -= 1;
-        let row = rows::block_at(blocks, i);
-        if row.block.number == x {
-            return i;
-        }
+    let place = block_index::place(blocks, n, links, x);
+    if place == 0 {
+        return 0;
     }
-    0
+    place - 1
 }
 
-// Voter v is set at the row of its vote's block, if it has a vote.
-pub fn place_voter(
+// The place of each row's parent, each looked up once among the rows before it; and the index of all rows. The cost is two descents for each row.
+pub fn parent_places(blocks: &[u64], used: usize, links: &mut [u16], parents: &mut [u16])
+    requires { ⌜ (4 * used ≤ length (now blocks)) × (used ≤ 2048) × (now links ≡ replicate 10240 0) × (length (now parents) ≡ 2048) ⌝ }
+    ensures { λ r. ⌜ BlockIndex (now (blocks .entry)) used (now (links .exit)) × Parents (now (blocks .entry)) used (now (parents .exit)) ⌝ }
+{
+    let mut i: usize = 0;
+    while i < used {
+        let row = rows::block_at(blocks, i);
+        let p = place_in(blocks, i, links, row.block.parent);
+        search_tree::put_link(parents, i, p);
+        block_index::add(blocks, i, links);
+        i += 1;
+    }
+}
+
+// Voter v is set at the row of its vote's block, if it has a vote. The cost is a descent.
+fn place_voter(
     blocks: &[u64],
     used: usize,
+    links: &[u16],
     slots: &[u64],
     numbers: &[u64],
     v: usize,
     masks: &mut [u64],
 )
-    requires { ⌜ (4 * used ≤ length (now blocks)) × (0 < used) × (used ≤ length (now masks)) × (length (now slots) ≡ 64) × (length (now numbers) ≡ 64) × (v < 64) ⌝ }
+    requires { ⌜ (4 * used ≤ length (now blocks)) × BlockIndex (now blocks) used (now links) × (0 < used) × (used ≤ length (now masks))
+        × (length (now slots) ≡ 64) × (length (now numbers) ≡ 64) × (v < 64) ⌝ }
     ensures { λ r. ⌜ now (masks .exit) ≡ cond (voted (now (slots .entry)) v)
-        (set (now (masks .entry)) (lastPlace (now (blocks .entry)) used (getD (now (numbers .entry)) v 0))
-        (maskOf 64 (added (bitOf (getD (now (masks .entry)) (lastPlace (now (blocks .entry)) used (getD (now (numbers .entry)) v 0)) 0)) v)))
+        (set (now (masks .entry)) (placeIn (now (blocks .entry)) used (getD (now (numbers .entry)) v 0))
+        (maskOf 64 (added (bitOf (getD (now (masks .entry)) (placeIn (now (blocks .entry)) used (getD (now (numbers .entry)) v 0)) 0)) v)))
         (now (masks .entry)) ⌝ }
 {
     if slots[v] != 0 {
-        let p = last_place(blocks, used, numbers[v]);
+        let p = place_in(blocks, used, links, numbers[v]);
         masks[p] = masks::with(masks[p], v as u64);
     }
 }
 
-// Row i hands its voters to its parent's row.
-pub fn hand_on(blocks: &[u64], i: usize, masks: &mut [u64])
-    requires { ⌜ (4 * i + 3 < length (now blocks)) × (0 < i) × (i < length (now masks)) ⌝ }
-    ensures { λ r. ⌜ now (masks .exit) ≡ set (now (masks .entry)) (parentPlace (now (blocks .entry)) i)
-        (bitOr (getD (now (masks .entry)) (parentPlace (now (blocks .entry)) i) 0) (getD (now (masks .entry)) i 0)) ⌝ }
-{
-    let row = rows::block_at(blocks, i);
-    let p = last_place(blocks, i, row.block.parent);
-    masks[p] = masks[p] | masks[i];
-}
-
-// The voters of each subtree, in one pass from the last row to the first; each parent's place is looked up once.
-// At most 64 × blocks for the votes' places, and blocks × blocks / 2 for the parents' places, less where parents stand near.
-pub fn supporters(blocks: &[u64], used: usize, slots: &[u64], numbers: &[u64], masks: &mut [u64])
-    requires { ⌜ (4 * used ≤ length (now blocks)) × (0 < used) × (used ≤ 2048) × (length (now slots) ≡ 64) × (length (now numbers) ≡ 64) × (now masks ≡ replicate 2048 0) ⌝ }
-    ensures { λ r. ⌜ Subtrees (now (blocks .entry)) used (now (slots .entry)) (now (numbers .entry)) 1 (now (masks .exit)) ⌝ }
+// All voters are set at the rows of their votes' blocks.
+fn place_voters(
+    blocks: &[u64],
+    used: usize,
+    links: &[u16],
+    slots: &[u64],
+    numbers: &[u64],
+    masks: &mut [u64],
+)
+    requires { ⌜ (4 * used ≤ length (now blocks)) × BlockIndex (now blocks) used (now links) × (0 < used) × (used ≤ 2048)
+        × (length (now slots) ≡ 64) × (length (now numbers) ≡ 64) × (now masks ≡ replicate 2048 0) ⌝ }
+    ensures { λ r. ⌜ Subtrees (now (blocks .entry)) used (now (slots .entry)) (now (numbers .entry)) used (now (masks .exit)) ⌝ }
 {
     let mut v: usize = 0;
     while v < 64 {
-        place_voter(blocks, used, slots, numbers, v, masks);
+        place_voter(blocks, used, links, slots, numbers, v, masks);
         v += 1;
     }
+}
+
+// Row i hands its voters to its parent's row.
+fn hand_on(parents: &[u16], i: usize, masks: &mut [u64])
+    requires { ⌜ (i < length (now parents)) × (getD (now parents) i 0 < length (now masks)) × (i < length (now masks)) ⌝ }
+    ensures { λ r. ⌜ now (masks .exit) ≡ set (now (masks .entry)) (getD (now (parents .entry)) i 0)
+        (bitOr (getD (now (masks .entry)) (getD (now (parents .entry)) i 0) 0) (getD (now (masks .entry)) i 0)) ⌝ }
+{
+    let p = search_tree::link_at(parents, i);
+    masks[p] = masks[p] | masks[i];
+}
+
+// The voters of each subtree, in one pass from the last row to the first: a row has all its voters when it hands them to its parent's row.
+// The cost is two descents for each row, one for each voter with a vote, and one step for each row. Stack: 20 KiB for the links of 2,048 blocks.
+pub fn supporters(
+    blocks: &[u64],
+    used: usize,
+    slots: &[u64],
+    numbers: &[u64],
+    parents: &mut [u16],
+    masks: &mut [u64],
+)
+    requires { ⌜ (4 * used ≤ length (now blocks)) × (0 < used) × (used ≤ 2048) × (length (now slots) ≡ 64) × (length (now numbers) ≡ 64)
+        × (length (now parents) ≡ 2048) × (now masks ≡ replicate 2048 0) ⌝ }
+    ensures { λ r. ⌜ Parents (now (blocks .entry)) used (now (parents .exit))
+        × Subtrees (now (blocks .entry)) used (now (slots .entry)) (now (numbers .entry)) 1 (now (masks .exit)) ⌝ }
+{
+    let mut links = [0u16; 10240];
+    parent_places(blocks, used, &mut links, parents);
+    place_voters(blocks, used, &links, slots, numbers, masks);
     let mut i: usize = used;
     while 1 < i {
         i -= 1;
-        hand_on(blocks, i, masks);
+        hand_on(parents, i, masks);
     }
 }

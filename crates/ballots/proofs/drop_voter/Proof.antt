@@ -1,3 +1,4 @@
+-- `drop_voter` meets its contract. Assumes nothing.
 use borrow.Author.Needs.{needs}
 use mathlib.Core.Path.{sym, _∙_}
 use Rattle.ballots.proofs.drop_voter.Statement.{statement}

@@ -1,3 +1,4 @@
+-- `is_fresh` meets its contract. Assumes nothing.
 use borrow.Author.Needs.{needs}
 use Rattle.ballots.proofs.Latest.{window-span}
 use Rattle.ballots.proofs.is_fresh.Statement.{statement}

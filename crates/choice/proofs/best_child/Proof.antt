@@ -1,62 +1,56 @@
-use borrow.Author.Needs.{needs}
+-- `best_child` meets its contract. Assumes nothing.
 use native.Mathlib.Omega.{arith}
-use Prim.Native.Nat.{_-_, _<_, _≤_}
 use mathlib.Core.Path.{ap}
-use denote.Ref.{now}
-use Rattle.protocol.proofs.Walk.Best.{BestIs}
-use Rattle.subtrees.specs.Places.{blocksIn}
-use Rattle.choice.specs.Walks.{weightIn, foundAt}
+use borrow.Author.Needs.{needs}
 use Rattle.choice.proofs.Held.{held}
-use Rattle.choice.proofs.Best.{better-lt, best-start, best-turn, best-end}
+use Rattle.choice.proofs.Scan.{Scan, left, scan-start, scan-turn, scan-less, scan-end}
 use Rattle.choice.proofs.best_child.Statement.{statement}
 use Rattle.choice.proofs.best_child.Tie as tie
 
 abbrev Inv-loop : tie.InvT-loop
-Inv-loop blocks used masks whole lim a parent best₀ i₀ best i =
-    (i ≤ used) × (0 < i) × (best < used) × BestIs (weightIn blocks used masks) lim (parent .block .number) (blocksIn whole blocks i) (foundAt blocks best)
+Inv-loop blocks used firsts nexts weights whole lim a parent best₀ c₀ best c =
+    Scan whole blocks used weights lim a (parent .block .number) c best
 
 abbrev μ-loop : tie.MeasureT-loop
-μ-loop blocks used masks whole lim a parent best₀ i₀ best i = used - i
-
-block-at-requires : tie.Need-block-at-requires Inv-loop μ-loop
-block-at-requires c κs = search needs
-
-add-i : tie.Need-add-i Inv-loop μ-loop
-add-i c = search needs
+μ-loop blocks used firsts nexts weights whole lim a parent best₀ c₀ best c = left used c
 
 loop-holds : tie.Need-loop-holds Inv-loop μ-loop
 loop-holds c =
-    let s = c .before .before .before in
-    let H = held (s .args .whole) _ _ (s .pre .3) in
-    (omega arith, omega arith, H .some, best-start H (now (s .args .masks)) (s .args .lim) (s .args .a) _ (ap (λ o. o .entry .number) (c .block-at .ensures)) (s .pre .2))
+    let b = c .before in
+    let s = b .before .before .before .before .before in
+    scan-start (s .pre .6) (held (s .args .whole) _ _ (s .pre .5)) (ap (λ o. o .entry .number) (b .block-at .ensures)) (s .pre .4) (c .link-at .ensures)
 
 better-place-requires : tie.Need-better-place-requires Inv-loop μ-loop
-better-place-requires c κs = search needs
+better-place-requires c κs =
+    let i = c .before .loop .inv in
+    let h = i .next .hit (c .loop-test .taken) .1 in
+    (omega (arith, h), omega (arith, i .low), omega (arith, h), omega (arith, i .low))
 
-add-i-2 : tie.Need-add-i-2 Inv-loop μ-loop
-add-i-2 c = search needs
+link-at-requires-2 : tie.Need-link-at-requires-2 Inv-loop μ-loop
+link-at-requires-2 c κs =
+    let t = c .before in
+    omega (arith, t .before .loop .inv .next .hit (t .loop-test .taken) .1)
 
 loop-less : tie.Need-loop-less Inv-loop μ-loop
-loop-less c = search needs
+loop-less c =
+    let t = c .before .before in
+    let s = t .before .before .before .before .before .before .before .before in
+    scan-less (s .pre .6) (t .before .loop .inv) (t .loop-test .taken) (c .link-at2 .ensures)
 
 loop-again : tie.Need-loop-again Inv-loop μ-loop
 loop-again c =
-    let l = c .before .before .loop in
-    let s = c .before .before .before .before .before .before in
-    let t = c .before .loop-test .taken in
-    let H = held (s .args .whole) _ _ (s .pre .3) in (
-      omega arith,
-      omega arith,
-      rw (c .better-place .ensures) (better-lt _ _ _ _ _ (l .i) (l .best) _ t (l .inv .2)),
-      best-turn H (now (s .args .masks)) (s .args .lim) _ (l .i) (l .best) (l .inv .3) (c .better-place .ensures) (l .inv .1) t (l .inv .2),
-    )
+    let t = c .before .before in
+    let b = t .before .before .before in
+    let s = b .before .before .before .before .before in
+    scan-turn (s .pre .6) (held (s .args .whole) _ _ (s .pre .5)) (ap (λ o. o .entry .number) (b .block-at .ensures)) (s .pre .4)
+    (t .before .loop .inv) (t .loop-test .taken) (c .before .better-place .ensures) (c .link-at2 .ensures)
 
 returns : tie.Need-returns Inv-loop μ-loop
 returns c =
-    let l = c .before .loop in
-    let s = c .before .before .before .before .before in
-    let H = held (s .args .whole) _ _ (s .pre .3) in
-    (l .inv .2, best-end H (now (s .args .masks)) (s .args .lim) (s .args .a) _ (l .i) (l .best) (ap (λ o. o .entry .number) (c .before .before .block-at .ensures)) (l .inv .3) (l .inv .0) (c .loop-test .left))
+    let i = c .before .loop .inv in
+    let b = c .before .before .before in
+    let s = b .before .before .before .before .before in
+    (i .low, scan-end (s .pre .6) (held (s .args .whole) _ _ (s .pre .5)) (ap (λ o. o .entry .number) (b .block-at .ensures)) (s .pre .4) i (c .loop-test .left))
 
 pub best-child-spec : {M : Type 1} → statement M
 best-child-spec =
@@ -64,11 +58,11 @@ best-child-spec =
     (tie.spec
     Inv-loop
     μ-loop
-    block-at-requires
-    add-i
+    (λ c κs. search needs)
+    (λ c κs. search needs)
     loop-holds
     better-place-requires
-    add-i-2
+    link-at-requires-2
     loop-less
     loop-again
     returns)

@@ -1,3 +1,4 @@
+-- `better_place` meets its contract. Assumes nothing.
 use borrow.Author.Needs.{needs}
 use mathlib.Core.Path.{sym, _∙_}
 use Rattle.choice.proofs.Best.{better-hidden, better-other, better-first, better-stays, better-new}

@@ -1,3 +1,4 @@
+-- `heaviest_leaf` meets its contract. Assumes nothing.
 use borrow.Author.Needs.{needs}
 use native.Mathlib.Omega.{arith}
 use Prim.Native.Nat.{ℕ}
@@ -7,31 +8,46 @@ use Rattle.choice.proofs.Tables.{few, blocks-sound, walk-weighed}
 use Rattle.choice.proofs.heaviest_leaf.Statement.{statement}
 use Rattle.choice.proofs.heaviest_leaf.Tie as tie
 
-slice-aggregate-weigh : tie.Need-slice-aggregate-weigh
-slice-aggregate-weigh c = search needs
-
 weigh-requires : tie.Need-weigh-requires
 weigh-requires c κs =
-    (c .before .before .before .pre, refl)
+    let s = c .before .before .before .before .before in
+    (s .pre .0, s .pre .1, refl)
 
-slice-aggregate-leaf : tie.Need-slice-aggregate-leaf
-slice-aggregate-leaf c = search needs
+count-voters-requires : tie.Need-count-voters-requires
+count-voters-requires c κs =
+    let k = c .before .before .before .before .before in
+    let f = few (k .before .before .before .before .before .before .pre .0) in
+    let h = k .weigh .kept .1 .1 .1 .1 .1 .1 .1 .1 .1 .0 ∙ length-replicate {A = ℕ} 2048 0 in
+    (omega arith, omega (arith, length-replicate {A = ℕ} 2048 0))
 
 leaf-requires : tie.Need-leaf-requires
 leaf-requires c κs =
-    let T = c .before .before .before .before .before .before .pre in
+    let w = c .before .before .before in
+    let k = w .before .before .before .before .before .before in
+    let s = k .before .before .before .before .before .before in
+    let T = s .pre .0 in
+    let h = w .count-voters .kept .1 .1 .0 ∙ length-replicate {A = ℕ} 2048 0 in
     let f = few T in
-    let h = c .before .before .weigh .kept .1 .1 .1 .1 .1 .1 .1 .1 .0 ∙ length-replicate {A = ℕ} 2048 0 in
-    (T .blocks-fit, omega arith, blocks-sound T)
+    (T .blocks-fit, f .0, omega arith, k .weigh .kept .1 .1 .1 .1 .1 .1 .1 .1 .0 ∙ s .pre .1, blocks-sound T, k .weigh .ensures .0)
 
 returns : tie.Need-returns
 returns c =
-    let k = c .before .before .before in
-    let s = k .before .before .before .before in
+    let w = c .before .before .before .before in
+    let k = w .before .before .before .before .before .before in
+    let s = k .before .before .before .before .before .before in
     let e = c .leaf .ensures in
-    (e .0, e .1 ∙ walk-weighed (s .pre) _ _ _ _ _ (k .weigh .ensures))
+    (k .weigh .ensures .0, e .0, e .1 ∙ walk-weighed (s .pre .0) _ _ _ _ (k .weigh .ensures .1) (w .count-voters .ensures))
 
 pub heaviest-leaf-spec : {M : Type 1} → statement M
 heaviest-leaf-spec =
     tie.close
-    (tie.spec slice-aggregate-weigh weigh-requires slice-aggregate-leaf leaf-requires returns)
+    (tie.spec
+    (λ c. search needs)
+    weigh-requires
+    (λ c. search needs)
+    (λ c. search needs)
+    count-voters-requires
+    (λ c. search needs)
+    leaf-requires
+    (λ c. search needs)
+    returns)

@@ -1,3 +1,4 @@
+-- `is_child` meets its contract. Assumes nothing.
 use borrow.Author.Tests.{lt-ltb, le-ltb, eq-eqb, ne-eqb}
 use Rattle.protocol.specs.Walk.{isChild}
 use Rattle.choice.proofs.is_child.Statement.{statement}

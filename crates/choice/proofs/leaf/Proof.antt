@@ -1,48 +1,92 @@
+-- `leaf` meets its contract. Assumes nothing.
+use borrow.Author.Needs.{needs}
 use native.Mathlib.Omega.{arith}
-use Prim.Native.Nat.{_-_}
+use Prim.Native.Nat.{ℕ, _-_}
+use mathlib.Core.Path.{refl}
+use lib.ListN.{length-replicate}
 use denote.Ref.{now}
+use Rattle.subtrees.specs.Places.{blockAt}
+use Rattle.subtrees.proofs.Places.{place-low}
 use Rattle.choice.proofs.Held.{held}
+use Rattle.choice.proofs.Children.{linked-by}
 use Rattle.choice.proofs.Best.{Way, way-start, way-on, way-deeper, way-end}
 use Rattle.choice.proofs.leaf.Statement.{statement}
 use Rattle.choice.proofs.leaf.Tie as tie
 
 abbrev Inv-loop : tie.InvT-loop
-Inv-loop blocks used masks whole lim a₀ a = Way whole blocks used masks lim a
+Inv-loop blocks used parents weights whole lim firsts nexts a₀ a = Way whole blocks used weights lim a
 
 abbrev μ-loop : tie.MeasureT-loop
-μ-loop blocks used masks whole lim a₀ a = used - a
+μ-loop blocks used parents weights whole lim firsts nexts a₀ a = used - a
+
+link-children-requires : tie.Need-link-children-requires Inv-loop μ-loop
+link-children-requires c κs =
+    let s = c .before .before .before .before .before in
+    let a = s .args in
+    let w = now (a .blocks) in (
+      held (a .whole) _ _ (s .pre .4) .some,
+      s .pre .1,
+      s .pre .3,
+      λ i l. omega (arith, s .pre .5 .each i l, place-low w i (blockAt w i .parent)),
+      refl,
+      refl,
+    )
 
 loop-holds : tie.Need-loop-holds Inv-loop μ-loop
-loop-holds c = let s = c .before .before in way-start (held (s .args .whole) _ _ (s .pre .2)) (now (s .args .masks)) (s .args .lim)
+loop-holds c =
+    let s = c .before .before .before .before .before .before .before .before in
+    way-start (held (s .args .whole) _ _ (s .pre .4)) (now (s .args .weights)) (s .args .lim)
 
 best-child-requires : tie.Need-best-child-requires Inv-loop μ-loop
-best-child-requires c κs = let s = c .before .before .before in (s .pre .0, s .pre .1, c .loop .inv .inside, s .pre .2)
+best-child-requires c κs =
+    let k = c .before .before .before .before .before in
+    let s = k .before .before .before .before .before .before in (
+      s .pre .0,
+      omega (arith, s .pre .1, k .link-children .kept .1 .1 .0, length-replicate {A = ℕ} 2048 0),
+      omega (arith, s .pre .1, k .link-children .kept .1 .1 .1 .0, length-replicate {A = ℕ} 2048 0),
+      s .pre .2,
+      c .before .before .loop .inv .inside,
+      s .pre .4,
+      linked-by (s .pre .5 .each) (k .link-children .ensures),
+    )
 
 loop-less : tie.Need-loop-less Inv-loop μ-loop
 loop-less c =
     let b = c .before in
-    let l = b .before .loop in
-    let s = b .before .before .before .before in
+    let l = b .before .before .before in
+    let s = l .before .before .before .before .before .before .before .before .before in
     let e = b .best-child .ensures in
-    omega (arith, way-deeper (held (s .args .whole) _ _ (s .pre .2)) (now (s .args .masks)) (s .args .lim) _ _ (l .inv) (e .1) (e .0) (c .if1 .left), e .0)
+    omega (arith, way-deeper (held (s .args .whole) _ _ (s .pre .4)) (now (s .args .weights)) (s .args .lim) _ _ (l .loop .inv) (e .1) (e .0) (c .if1 .left), e .0)
 
 loop-again : tie.Need-loop-again Inv-loop μ-loop
 loop-again c =
     let b = c .before in
-    let l = b .before .loop in
-    let s = b .before .before .before .before in
+    let l = b .before .before .before in
+    let s = l .before .before .before .before .before .before .before .before .before in
     let e = b .best-child .ensures in
-    way-on (held (s .args .whole) _ _ (s .pre .2)) (now (s .args .masks)) (s .args .lim) _ _ (l .inv) (e .1) (e .0) (c .if1 .left)
+    way-on (held (s .args .whole) _ _ (s .pre .4)) (now (s .args .weights)) (s .args .lim) _ _ (l .loop .inv) (e .1) (e .0) (c .if1 .left)
 
 returns : tie.Need-returns Inv-loop μ-loop
 returns c =
     let b = c .before in
-    let l = b .before .loop in
-    let s = b .before .before .before .before in
+    let l = b .before .before .before in
+    let s = l .before .before .before .before .before .before .before .before .before in
     let e = b .best-child .ensures in
-    (l .inv .inside, way-end (held (s .args .whole) _ _ (s .pre .2)) (now (s .args .masks)) (s .args .lim) _ _ (l .inv) (e .1) (c .if1 .taken))
+    (l .loop .inv .inside, way-end (held (s .args .whole) _ _ (s .pre .4)) (now (s .args .weights)) (s .args .lim) _ _ (l .loop .inv) (e .1) (c .if1 .taken))
 
 pub leaf-spec : {M : Type 1} → statement M
 leaf-spec =
     tie.close
-    (tie.spec Inv-loop μ-loop loop-holds best-child-requires loop-less loop-again returns)
+    (tie.spec
+    Inv-loop
+    μ-loop
+    (λ c. search needs)
+    (λ c. search needs)
+    link-children-requires
+    loop-holds
+    (λ c. search needs)
+    (λ c. search needs)
+    best-child-requires
+    loop-less
+    loop-again
+    returns)

@@ -1,3 +1,4 @@
+-- `weight` meets its contract. Assumes nothing.
 use mathlib.Core.Path.{ap, sym, _∙_}
 use lib.Count.{ones}
 use Rattle.masks.specs.Masks.{bitOf}

@@ -1,3 +1,4 @@
+-- `with` meets its contract. Assumes nothing.
 use borrow.Author.Needs.{needs}
 use mathlib.Core.Path.{ap₂, sym, _∙_}
 use lib.Bits.{bitOr}

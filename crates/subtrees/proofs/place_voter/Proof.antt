@@ -1,18 +1,20 @@
+-- `place_voter` meets its contract. Assumes nothing.
 use borrow.Author.Needs.{needs}
 use native.Mathlib.Omega.{arith}
 use borrow.Author.Tests.{eq-eqb, ne-eqb}
 use Prim.Native.Nat.{_<_}
 use lib.ListN.{length, getD}
 use denote.Ref.{now}
-use Rattle.subtrees.proofs.Handing.{place-lt, set-word}
+use Rattle.subtrees.proofs.Places.{place-lt}
+use Rattle.subtrees.proofs.Handing.{set-word}
 use Rattle.subtrees.proofs.place_voter.Statement.{statement}
 use Rattle.subtrees.proofs.place_voter.Tie as tie
 
 -- the place found is in the table
-low : (p : tie.After-last-place) → p .last-place .result < length (now (p .before .before .before .before .before .before .before .before .args .masks))
+low : (p : tie.After-place-in) → p .place-in .result < length (now (p .before .before .before .before .before .before .before .before .before .args .masks))
 low p =
-    let s = p .before .before .before .before .before .before .before .before in
-    omega (arith, p .last-place .ensures, place-lt (now (s .args .blocks)) (s .args .used) (getD (now (s .args .numbers)) (s .args .v) 0) (s .pre .1))
+    let s = p .before .before .before .before .before .before .before .before .before in
+    omega (arith, p .place-in .ensures, place-lt (now (s .args .blocks)) (s .args .used) (getD (now (s .args .numbers)) (s .args .v) 0) (s .pre .2))
 
 mul-if1 : tie.Need-mul-if1
 mul-if1 c = search needs
@@ -20,14 +22,14 @@ mul-if1 c = search needs
 shared-slice-read-if1 : tie.Need-shared-slice-read-if1
 shared-slice-read-if1 c = search needs
 
-mul-last-place : tie.Need-mul-last-place
-mul-last-place c = search needs
+mul-place-in : tie.Need-mul-place-in
+mul-place-in c = search needs
 
-shared-slice-read-last-place : tie.Need-shared-slice-read-last-place
-shared-slice-read-last-place c = search needs
+shared-slice-read-place-in : tie.Need-shared-slice-read-place-in
+shared-slice-read-place-in c = search needs
 
-last-place-requires : tie.Need-last-place-requires
-last-place-requires c κs = search needs
+place-in-requires : tie.Need-place-in-requires
+place-in-requires c κs = search needs
 
 mul-with : tie.Need-mul-with
 mul-with c = omega (arith, low c)
@@ -51,8 +53,8 @@ returns : tie.Need-returns
 returns c =
     let p = c .before .before in
     let i = p .before .before in
-    let a = p .before .before .before .before .before .before .before .before .args in
-    simp (ne-eqb _ _ (i .if1 .taken)) (set-word (now (a .masks)) _ _ _ (a .v) (p .last-place .ensures) (c .with .ensures))
+    let a = p .before .before .before .before .before .before .before .before .before .args in
+    simp (ne-eqb _ _ (i .if1 .taken)) (set-word (now (a .masks)) _ _ _ (a .v) (p .place-in .ensures) (c .with .ensures))
 
 returns-2 : tie.Need-returns-2
 returns-2 c = simp (eq-eqb _ _ (c .if1 .left))
@@ -63,9 +65,9 @@ place-voter-spec =
     (tie.spec
     mul-if1
     shared-slice-read-if1
-    mul-last-place
-    shared-slice-read-last-place
-    last-place-requires
+    mul-place-in
+    shared-slice-read-place-in
+    place-in-requires
     mul-with
     slice-read-with
     with-requires

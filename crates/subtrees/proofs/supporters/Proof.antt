@@ -1,90 +1,87 @@
+-- `supporters` meets its contract. Assumes nothing.
 use borrow.Author.Needs.{needs}
 use native.Mathlib.Omega.{arith}
 use Prim.Native.Nat.{ℕ, _+_, _-_, _≤_}
-use mathlib.Core.Path.{_≡_, ap, sym, _∙_}
+use mathlib.Core.Path.{_≡_, refl, ap, sym, _∙_}
+use Rattle.subtrees.specs.Places.{Parents}
 use lib.ListN.{length, length-replicate}
 use denote.Ref.{now}
 use Rattle.subtrees.specs.Subtrees.{Subtrees}
-use Rattle.subtrees.proofs.Handing.{Placed, placed-none, placed-more, placed-all, handed-on, handed-all}
+use Rattle.subtrees.proofs.Places.{parent-lt}
+use Rattle.subtrees.proofs.Handing.{handed-on, handed-all}
 use Rattle.subtrees.proofs.supporters.Statement.{statement}
 use Rattle.subtrees.proofs.supporters.Tie as tie
 
 abbrev Inv-loop : tie.InvT-loop
-Inv-loop blocks used slots numbers masks₀ v₀ masks v = (v ≤ 64) × (length masks ≡ 2048) × Placed blocks used slots numbers v masks
+Inv-loop blocks used slots numbers parents masks₀ i₀ masks i =
+    (i ≤ used) × (1 ≤ i) × (used ≤ 2048) × (length masks ≡ 2048) × (length parents ≡ 2048) × Parents blocks used parents
+    × Subtrees blocks used slots numbers i masks
 
 abbrev μ-loop : tie.MeasureT-loop
-μ-loop blocks used slots numbers masks₀ v₀ masks v = 64 - v
-
-abbrev Inv-loop2 : tie.InvT-loop2
-Inv-loop2 blocks used slots numbers masks₀ v i₀ masks i =
-    (i ≤ used) × (1 ≤ i) × (length masks ≡ 2048) × Subtrees blocks used slots numbers i masks
-
-abbrev μ-loop2 : tie.MeasureT-loop2
-μ-loop2 blocks used slots numbers masks₀ v i₀ masks i = i
+μ-loop blocks used slots numbers parents masks₀ i₀ masks i = i
 
 -- the words lent are 2048
-lent : (s : tie.Start Inv-loop μ-loop Inv-loop2 μ-loop2) → length (now (s .args .masks)) ≡ 2048
-lent s = ap length (s .pre .5) ∙ length-replicate {A = ℕ} 2048 0
+lent : (s : tie.Start Inv-loop μ-loop) → length (now (s .args .masks)) ≡ 2048
+lent s = ap length (s .pre .6) ∙ length-replicate {A = ℕ} 2048 0
 
-loop-holds : tie.Need-loop-holds Inv-loop μ-loop Inv-loop2 μ-loop2
-loop-holds c =
-    let s = c .before .before .before .before in
-    (omega arith, lent s, placed-none _ _ _ _ (s .pre .5) (s .pre .2))
-
-place-voter-requires : tie.Need-place-voter-requires Inv-loop μ-loop Inv-loop2 μ-loop2
-place-voter-requires c κs =
-    let l = c .before .before .loop in
+parent-places-requires : tie.Need-parent-places-requires Inv-loop μ-loop
+parent-places-requires c κs =
     let s = c .before .before .before .before .before .before .before in
-    (s .pre .0, s .pre .1, omega arith, s .pre .3, s .pre .4, c .before .loop-test .taken)
+    (s .pre .0, s .pre .2, refl, s .pre .5)
 
-add-v : tie.Need-add-v Inv-loop μ-loop Inv-loop2 μ-loop2
-add-v c = search needs
+place-voters-requires : tie.Need-place-voters-requires Inv-loop μ-loop
+place-voters-requires c κs =
+    let p = c .before .before .before .before .before in
+    let s = p .before .before .before .before .before .before .before .before in
+    (s .pre .0, p .parent-places .ensures .0, s .pre .1, s .pre .2, s .pre .3, s .pre .4, s .pre .6)
 
-loop-less : tie.Need-loop-less Inv-loop μ-loop Inv-loop2 μ-loop2
-loop-less c = search needs
+loop-holds : tie.Need-loop-holds Inv-loop μ-loop
+loop-holds c =
+    let v = c .before .before in
+    let p = v .before .before .before .before .before .before in
+    let s = p .before .before .before .before .before .before .before .before in (
+      omega arith,
+      omega arith,
+      s .pre .2,
+      v .place-voters .kept .1 .1 .1 .1 .1 .0 ∙ lent s,
+      p .parent-places .kept .1 .1 .1 .0 ∙ s .pre .5,
+      p .parent-places .ensures .1,
+      v .place-voters .ensures,
+    )
 
-loop-again : tie.Need-loop-again Inv-loop μ-loop Inv-loop2 μ-loop2
+-- row i, which the loop stands at, hands on to a row before it
+hand-on-requires : tie.Need-hand-on-requires Inv-loop μ-loop
+hand-on-requires c κs =
+    let l = c .before .before .before .loop in
+    let t = c .before .before .loop-test .taken in
+    let s = c .before .before .before .before .before .before .before .before .before .before .before .before .before .before .before .before .before .before .before .before in
+    let e = l .inv .5 .each (l .i - 1) (omega arith) in
+    (omega arith, omega (arith, e, parent-lt (now (s .args .blocks)) (l .i - 1) (omega arith)), omega arith)
+
+loop-again : tie.Need-loop-again Inv-loop μ-loop
 loop-again c =
     let k = c .before .before in
-    let l = k .before .before .before .loop in
-    let s = k .before .before .before .before .before .before .before .before in (
+    let t = k .before .before .before in
+    let l = t .before .loop in
+    let e : l .i ≡ l .i - 1 + 1 = omega (arith, t .loop-test .taken) in
+    let q = l .inv .5 .each (l .i - 1) (omega (arith, t .loop-test .taken)) in (
       omega arith,
-      k .place-voter .kept .1 .1 .1 .1 .1 .0 ∙ l .inv .1,
-      placed-more _ _ _ _ _ (l .inv .2) (k .place-voter .ensures) (s .pre .1) (omega arith),
+      omega (arith, t .loop-test .taken),
+      l .inv .2,
+      k .hand-on .kept .1 .1 .0 ∙ l .inv .3,
+      l .inv .4,
+      l .inv .5,
+      handed-on _ _ _ _ (l .i - 1) (rw e at (l .inv .6)) (rw q at (k .hand-on .ensures)) (omega (arith, t .loop-test .taken)) (omega (arith, t .loop-test .taken)) (omega arith),
     )
 
-loop2-holds : tie.Need-loop2-holds Inv-loop μ-loop Inv-loop2 μ-loop2
-loop2-holds c =
-    let l = c .before .loop in
-    let s = c .before .before .before .before .before .before in
-    (omega arith, s .pre .1, l .inv .1, placed-all _ _ _ _ _ (l .inv .2) (c .loop-test .left))
+same-length : tie.Need-same-length Inv-loop μ-loop
+same-length c = search needs
 
-sub-i : tie.Need-sub-i Inv-loop μ-loop Inv-loop2 μ-loop2
-sub-i c = search needs
+same-length-2 : tie.Need-same-length-2 Inv-loop μ-loop
+same-length-2 c = c .before .loop .inv .3 ∙ sym (lent (c .before .before .before .before .before .before .before .before .before .before .before .before .before .before .before .before .before .before))
 
-hand-on-requires : tie.Need-hand-on-requires Inv-loop μ-loop Inv-loop2 μ-loop2
-hand-on-requires c κs = search needs
-
-loop2-less : tie.Need-loop2-less Inv-loop μ-loop Inv-loop2 μ-loop2
-loop2-less c = search needs
-
-loop2-again : tie.Need-loop2-again Inv-loop μ-loop Inv-loop2 μ-loop2
-loop2-again c =
-    let k = c .before .before in
-    let t = k .before .before in
-    let l = t .before .loop2 in
-    let e : l .i ≡ l .i - 1 + 1 = omega (arith, t .loop2-test .taken) in (
-      omega arith,
-      omega (arith, t .loop2-test .taken),
-      k .hand-on .kept .1 .1 .0 ∙ l .inv .2,
-      handed-on _ _ _ _ (l .i - 1) (rw e at (l .inv .3)) (k .hand-on .ensures) (omega (arith, t .loop2-test .taken)) (omega (arith, t .loop2-test .taken)) (omega arith),
-    )
-
-same-length : tie.Need-same-length Inv-loop μ-loop Inv-loop2 μ-loop2
-same-length c = c .before .loop2 .inv .2 ∙ sym (lent (c .before .before .before .before .before .before .before .before))
-
-returns : tie.Need-returns Inv-loop μ-loop Inv-loop2 μ-loop2
-returns c = let l = c .before .loop2 in handed-all _ _ _ _ _ (l .inv .3) (l .inv .1) (c .loop2-test .left)
+returns : tie.Need-returns Inv-loop μ-loop
+returns c = let l = c .before .loop in (l .inv .5, handed-all _ _ _ _ _ (l .inv .6) (l .inv .1) (c .loop-test .left))
 
 pub supporters-spec : {M : Type 1} → statement M
 supporters-spec =
@@ -92,17 +89,15 @@ supporters-spec =
     (tie.spec
     Inv-loop
     μ-loop
-    Inv-loop2
-    μ-loop2
+    (λ c. search needs)
+    parent-places-requires
+    (λ c. search needs)
+    place-voters-requires
     loop-holds
-    place-voter-requires
-    add-v
-    loop-less
-    loop-again
-    loop2-holds
-    sub-i
+    (λ c. search needs)
     hand-on-requires
-    loop2-less
-    loop2-again
+    (λ c. search needs)
+    loop-again
     same-length
+    same-length-2
     returns)

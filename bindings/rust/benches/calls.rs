@@ -17,7 +17,9 @@ enum Kind {
     /// There is a block for each slot, on the one before, and each sixteenth on the one before that; every node votes in the last slots
     /// for the block of that slot. What is of the last eighth of these slots waits.
     Honest,
-    /// The same blocks with numbers that differ in their highest bits alone, and few voters, each with a vote for every block in the
+    /// The same with every block on block 0.
+    Fan,
+    /// The honest blocks with numbers that differ in their highest bits alone, and few voters, each with a vote for every block in the
     /// last slot: the numbers that were found to make the indices slowest.
     Chosen,
     /// The same blocks, and one voter with votes for block 0, in slots that differ in their highest bits alone: the slots that make the
@@ -36,7 +38,7 @@ struct Case {
 
 impl Case {
     fn new(kind: Kind, nodes: u64, places: (usize, usize), used: (usize, usize)) -> Case {
-        let honest = kind == Kind::Honest;
+        let honest = kind == Kind::Honest || kind == Kind::Fan;
         let last_block = used.0 as u64 - 1;
         let voted = if honest { (used.1 as u64).div_ceil(nodes) } else { 1 };
         let chosen_slot = |i: u64| (i + 1) << 16;
@@ -47,13 +49,17 @@ impl Case {
         let number = |slot: u64| if honest { slot } else { slot << 53 };
         let mut blocks = vec![0, 0, 0, 1];
         for slot in 1..=last_block {
-            let parent = if slot % 16 == 0 { slot - 2 } else { slot - 1 };
+            let parent = match kind {
+                Kind::Fan => 0,
+                _ if slot % 16 == 0 => slot - 2,
+                _ => slot - 1,
+            };
             blocks.extend([number(slot), number(parent), slot, mark(slot)]);
         }
         let mut votes = Vec::new();
         for i in 0..used.1 as u64 {
             let [voter, slot, block] = match kind {
-                Kind::Honest => {
+                Kind::Honest | Kind::Fan => {
                     let slot = last - voted + 1 + i / nodes;
                     [i % nodes, slot, slot.min(last_block)]
                 }
@@ -146,15 +152,22 @@ const CALLS: [&str; 12] = [
     "Write, gossip",
 ];
 
-/// The median of repeated runs. `run` prepares what it needs and answers how long the call took.
-fn median(mut run: impl FnMut() -> Duration) -> Duration {
-    let mut times = vec![run()];
+/// A run prepares what it needs and answers how long the call took.
+type Run<'a> = Box<dyn FnMut() -> Duration + 'a>;
+
+/// The median of each of these, run in turn, so that what else the machine does meanwhile falls on all of them.
+fn medians<const N: usize>(mut runs: [Run; N]) -> [Duration; N] {
+    let mut times: [Vec<Duration>; N] = std::array::from_fn(|_| Vec::new());
     let start = Instant::now();
-    while times.len() < 9 || (times.len() < 2001 && start.elapsed() < Duration::from_millis(300)) {
-        times.push(run());
+    while times[0].len() < 9 || (times[0].len() < 2001 && start.elapsed() < Duration::from_millis(1500)) {
+        for (run, times) in runs.iter_mut().zip(&mut times) {
+            times.push(run());
+        }
     }
-    times.sort();
-    times[times.len() / 2]
+    times.map(|mut times| {
+        times.sort();
+        times[times.len() / 2]
+    })
 }
 
 fn timed<T>(call: impl FnOnce() -> T) -> Duration {
@@ -164,9 +177,9 @@ fn timed<T>(call: impl FnOnce() -> T) -> Duration {
 }
 
 /// One pass that reads every used word of both tables.
-fn pass(case: &Case) -> Duration {
+fn pass(case: &Case) -> Run<'_> {
     let m = &case.memory;
-    median(|| {
+    Box::new(move || {
         let m = black_box(m);
         timed(|| {
             let sum = |words: &[u64]| words.iter().fold(0u64, |sum, word| sum ^ black_box(word));
@@ -197,20 +210,20 @@ macro_rules! timed_call {
     }};
 }
 
-fn proved(case: &Case, call: usize, packets: &Packets) -> Duration {
+fn proved<'a>(case: &'a Case, call: usize, packets: &'a Packets) -> Run<'a> {
     let mut buffer = vec![0; packets.gossip.len()];
     let memory = if call == 3 { case.fresh() } else { case.memory.clone() };
-    median(|| {
+    Box::new(move || {
         let mut node = Node::from_memory(case.settings, memory.clone());
         let mut opened = memory.clone();
         timed_call!(call, &mut node, case, packets, &mut buffer, || Node::open_in(case.settings, &mut opened).unwrap())
     })
 }
 
-fn modelled(case: &Case, call: usize, packets: &Packets) -> Duration {
+fn modelled<'a>(case: &'a Case, call: usize, packets: &'a Packets) -> Run<'a> {
     let mut buffer = vec![0; packets.gossip.len()];
     let model = if call == 3 { case.model(&case.fresh()) } else { case.model(&case.memory) };
-    median(|| {
+    Box::new(move || {
         let mut node = model.clone();
         let mut opened = model.clone();
         timed_call!(call, &mut node, case, packets, &mut buffer, || opened.open().unwrap())
@@ -241,9 +254,10 @@ fn measure(kind: Kind, nodes: u64, (blocks, votes): (usize, usize)) {
     let full = Case::new(kind, nodes, (blocks, votes), (blocks - 1, votes - 1));
     let half = Case::new(kind, nodes, (blocks, votes), (blocks / 2, votes / 2));
     let (full_packets, half_packets) = (full.packets(), half.packets());
-    let (full_pass, half_pass) = (pass(&full), pass(&half));
+    let [full_pass, half_pass] = medians([pass(&full), pass(&half)]);
     let chosen = match kind {
         Kind::Honest => "",
+        Kind::Fan => ", a fan",
         Kind::Chosen => ", chosen numbers",
         Kind::ChosenSlots => ", chosen slots",
     };
@@ -252,18 +266,23 @@ fn measure(kind: Kind, nodes: u64, (blocks, votes): (usize, usize)) {
     println!("| Call | Proved, half | Proved, full | Grows | To the pass | Model, half | Model, full | Grows | To the pass |");
     println!("|---|---|---|---|---|---|---|---|---|");
     for (call, name) in CALLS.iter().enumerate() {
-        let (ph, pf) = (proved(&half, call, &half_packets), proved(&full, call, &full_packets));
-        let (mh, mf) = (modelled(&half, call, &half_packets), modelled(&full, call, &full_packets));
+        let [once, ph, pf, mh, mf] = medians([
+            pass(&full),
+            proved(&half, call, &half_packets),
+            proved(&full, call, &full_packets),
+            modelled(&half, call, &half_packets),
+            modelled(&full, call, &full_packets),
+        ]);
         println!(
             "| {name} | {} | {} | {} | {} | {} | {} | {} | {} |",
             micros(ph),
             micros(pf),
             ratio(pf, ph),
-            ratio(pf, full_pass),
+            ratio(pf, once),
             micros(mh),
             micros(mf),
             ratio(mf, mh),
-            ratio(mf, full_pass)
+            ratio(mf, once)
         );
     }
     println!();
@@ -274,6 +293,7 @@ fn main() {
         for size in SIZES {
             measure(Kind::Honest, nodes, size);
         }
+        measure(Kind::Fan, nodes, SIZES[2]);
         measure(Kind::Chosen, nodes, SIZES[2]);
         measure(Kind::ChosenSlots, nodes, SIZES[2]);
     }

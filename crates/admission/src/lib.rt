@@ -28,7 +28,7 @@ pub enum Lookup {
 }
 
 // Among the first `count` blocks of the packet. The cost is a search of these.
-pub fn find_in_packet(bytes: &[u8], count: usize, number: u64) -> Lookup
+fn find_in_packet(bytes: &[u8], count: usize, number: u64) -> Lookup
     requires { ⌜ count ≤ length (packetOf (now bytes) .blocks) ⌝ }
     ensures { λ r. ⌜ foundOf r ≡ find (take count (packetOf (now (bytes .entry)) .blocks)) number ⌝ }
 {

@@ -11,7 +11,7 @@ ghost use Rattle.ballots.specs.Latest.{votesIn, VotersFit, equivocatorsO
 ghost use Rattle.masks.specs.Masks.{bitOf};
 
 // Whether a vote of an earlier slot has not expired at slot t.
-pub fn is_fresh(expiry: u64, t: u64, slot: u64) -> bool
+fn is_fresh(expiry: u64, t: u64, slot: u64) -> bool
     requires { ⌜ slot ≤ t ⌝ }
     ensures { λ r. ⌜ r ≡ leb t (slot + expiry) ⌝ }
 {
@@ -19,14 +19,14 @@ pub fn is_fresh(expiry: u64, t: u64, slot: u64) -> bool
 }
 
 // Whether a vote's slot is after the one held for its voter.
-pub fn is_later(slot: u64, held: u64) -> bool
+fn is_later(slot: u64, held: u64) -> bool
     ensures { λ r. ⌜ r ≡ ltb held slot ⌝ }
 {
     held < slot
 }
 
 // Whether a row is selected, and its slot is in the window.
-pub fn counts(whole: bool, expiry: u64, t: u64, row: VoteRow) -> bool
+fn counts(whole: bool, expiry: u64, t: u64, row: VoteRow) -> bool
     ensures { λ r. ⌜ r ≡ ((whole || row .shown) && window expiry t (row .vote .slot)) ⌝ }
 {
     if rows::selects(whole, row.shown) {
@@ -40,7 +40,7 @@ pub fn counts(whole: bool, expiry: u64, t: u64, row: VoteRow) -> bool
 }
 
 // The equivocators of one row more, which joins the index: its vote is held against the first one of its voter and slot.
-pub fn equivocators_next(
+fn equivocators_next(
     votes: &[u64],
     i: usize,
     whole: bool,
@@ -68,7 +68,7 @@ pub fn equivocators_next(
 }
 
 // The latest votes of one row more.
-pub fn latest_next(
+fn latest_next(
     votes: &[u64],
     i: usize,
     whole: bool,
@@ -93,7 +93,7 @@ pub fn latest_next(
 
 // The latest vote of each voter in the window, and the voters with two votes of one slot of the window for different blocks.
 // One pass over the votes, with a descent for each. Stack: 80 KiB for the links.
-pub fn gather(
+fn gather(
     votes: &[u64],
     used: usize,
     whole: bool,
@@ -119,7 +119,7 @@ pub fn gather(
 }
 
 // One voter's vote is dropped, if the voter is in the set.
-pub fn drop_voter(dropped: u64, v: usize, slots: &mut [u64])
+fn drop_voter(dropped: u64, v: usize, slots: &mut [u64])
     requires { ⌜ (v < 64) × (length (now slots) ≡ 64) ⌝ }
     ensures { λ r. ⌜ now (slots .exit) ≡ cond (bitOf dropped v) (set (now (slots .entry)) v 0) (now (slots .entry)) ⌝ }
 {

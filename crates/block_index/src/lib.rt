@@ -10,7 +10,7 @@ ghost use Rattle.search_tree.specs.Tree.{Sought};
 ghost use Rattle.block_index.specs.Index.{numberAt, numberShape, numbersDiffer, placeOfNumber, BlockIndex};
 
 // The descent for a number, among the first n blocks. The cost is one step for each block that it meets.
-pub fn descend(blocks: &[u64], n: usize, links: &[u16], number: u64) -> Spot
+fn descend(blocks: &[u64], n: usize, links: &[u16], number: u64) -> Spot
     requires { ⌜ (4 * n ≤ length (now blocks)) × BlockIndex (now blocks) n (now links) ⌝ }
     ensures { λ r. ⌜ Sought numberShape (numberAt (now (blocks .entry))) n (now (links .entry)) number (r .at) (r .place) ⌝ }
 {

@@ -91,7 +91,7 @@ pub fn show_all_votes(votes: &mut [u64], used: usize)
 }
 
 // Every word becomes zero.
-pub fn zero(words: &mut [u64])
+fn zero(words: &mut [u64])
     ensures { λ r. ⌜ now (words .exit) ≡ replicate (length (now (words .entry))) 0 ⌝ }
 {
     for i in 0..words.len() {

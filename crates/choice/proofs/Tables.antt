@@ -30,14 +30,11 @@ use Rattle.ballots.specs.Latest.{selected, votesIn, VotersFit, Kept}
 use Rattle.subtrees.specs.Places.{blockAt, blocksIn, BlocksSound}
 use Rattle.subtrees.specs.Subtrees.{Subtrees}
 use Rattle.choice.specs.Walks.{weightIn}
-use Rattle.choice.specs.Tables.{TablesSound, Supporters, weightAtPlace, Counted}
+use Rattle.choice.specs.Tables.{TablesSound}
+use Rattle.choice.specs.Weights.{Supporters, Counted}
 use Rattle.ballots.proofs.Selected.{entry-in}
 use Rattle.choice.proofs.Held.{Held, held, isIn, Stands, listed, place-is, by-number}
-use Rattle.choice.proofs.Weights.{place-voters, word-weight}
-
--- the words weigh as the blocks do, by the votes of n voters kept for slot t with expiry period E
-pub record Weighed (whole : Bool) (bw : List ℕ) (bu : ℕ) (vw : List ℕ) (vu n E t : ℕ) (masks : List ℕ) : Type 0 where
-  pub each : (j : ℕ) → j < bu → weightAtPlace masks j ≡ weightAt (blocksIn whole bw bu) (votesIn whole vw vu) n E t (blockAt bw j .number)
+use Rattle.choice.proofs.Weights.{Weighed, place-voters, word-weight}
 
 module _ {s : Settings} {bw : List ℕ} {bu : ℕ} {vw : List ℕ} {vu : ℕ} (T : TablesSound s bw bu vw vu) where
   abbrev node : Node

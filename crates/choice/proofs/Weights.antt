@@ -11,16 +11,17 @@ use borrow.Author.Tests.{eqb-true, eq-eqb, leb-true, le-leb, ltb-true, ltb-false
 use Rattle.protocol.specs.declared.Block.{Block}
 use Rattle.protocol.specs.Chain.{above}
 use Rattle.protocol.specs.Filters.{last, none, Choice, chosen, nothing, choiceOf}
-use Rattle.protocol.specs.Walk.{count, supports, weight}
+use Rattle.protocol.specs.Walk.{count, supports, weight, weightAt}
 use Rattle.protocol.proofs.Basics.Counting.{count-ext}
 use Rattle.protocol.proofs.Basics.Tests.{and-left, and-right, either, both, or-left, or-right, same-test}
 use Rattle.protocol.proofs.Chain.Above.{above-cast, above-true, above-holds}
 use Rattle.protocol.proofs.Chain.Relations.{Known, Above, here, up}
 use Rattle.masks.specs.Masks.{bitOf, maskOf}
 use Rattle.masks.proofs.Masks.{bit-mask, mask-ext}
-use Rattle.ballots.specs.Latest.{lastAt}
+use Rattle.ballots.specs.Latest.{votesIn, lastAt}
 use Rattle.subtrees.specs.Places.{blockAt, blocksIn, placeIn, parentPlace}
 use Rattle.subtrees.specs.Subtrees.{upTo, reaches, Subtrees}
+use Rattle.choice.specs.Weights.{weightAtPlace}
 use Rattle.choice.proofs.Held.{Held, isIn, Stands, listed, lists, place-is, parent-is, number-pos, place-pos, parent-in, by-number}
 
 module _ {w : Bool} {ws : List ℕ} {n : ℕ} (H : Held w ws n) where
@@ -119,3 +120,7 @@ word-weight bs k voters b {m} e h f =
     none-from : (v : ℕ) → voters ≤ v → (o : Choice) → k v ≡ o → supports bs o b ≡ false
     none-from v a nothing q = unfold supports in refl
     none-from v a (chosen x) q = absurd (omega (arith, f v x q))
+
+-- the words weigh as the blocks do, by the votes of n voters kept for slot t with expiry period E
+pub record Weighed (whole : Bool) (bw : List ℕ) (bu : ℕ) (vw : List ℕ) (vu n E t : ℕ) (masks : List ℕ) : Type 0 where
+  pub each : (j : ℕ) → j < bu → weightAtPlace masks j ≡ weightAt (blocksIn whole bw bu) (votesIn whole vw vu) n E t (blockAt bw j .number)

@@ -1,4 +1,5 @@
--- Weights, children and best children by places, and what the functions ask of the tables. Assumes nothing.
-pub mod Walks
-pub mod Children
+-- What the functions ask of the tables, the voters and weights of blocks, children and best children by places. Assumes nothing.
 pub mod Tables
+pub mod Weights
+pub mod Children
+pub mod Walks

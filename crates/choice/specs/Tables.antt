@@ -1,19 +1,14 @@
--- What the functions ask of lent tables: that they are those of a sound node; and what the pass over the blocks leaves. Assumes nothing.
-use Prim.Native.Nat.{ℕ, _*_, _≤_, _<_}
-use mathlib.Core.Bool.{Bool, true}
+-- What the functions ask of lent tables: that they are those of a sound node. Assumes nothing.
+use Prim.Native.Nat.{ℕ, _*_, _≤_}
+use mathlib.Core.Bool.{true}
 use mathlib.Core.List.{List}
 use mathlib.Core.Path.{_≡_}
-use lib.ListN.{length, getD}
+use lib.ListN.{length}
 use Rattle.protocol.specs.declared.Settings.{Settings}
 use Rattle.protocol.specs.declared.Clock.{Clock}
 use Rattle.protocol.specs.Store.{Places}
 use Rattle.protocol.specs.Sound.{sound}
 use Rattle.protocol.specs.Lent.{rowsOf, makeBlock, makeVote}
-use Rattle.protocol.specs.Filters.{kept}
-use Rattle.protocol.specs.Walk.{count, supports}
-use Rattle.masks.specs.Masks.{bitOf, maskOf}
-use Rattle.ballots.specs.Latest.{votesIn}
-use Rattle.subtrees.specs.Places.{blockAt, blocksIn, Filled}
 
 -- some number of places and some clock make a sound node of the used rows
 pub record TablesSound (s : Settings) (bw : List ℕ) (bu : ℕ) (vw : List ℕ) (vu : ℕ) : Type 0 where
@@ -22,15 +17,3 @@ pub record TablesSound (s : Settings) (bw : List ℕ) (bu : ℕ) (vw : List ℕ)
   pub blocks-fit : 4 * bu ≤ length bw
   pub votes-fit : 4 * vu ≤ length vw
   pub is-sound : sound s places (record { blocks = rowsOf makeBlock bw bu; votes = rowsOf makeVote vw vu; clock = clock }) ≡ true
-
--- the word at each block's place is the set of the voters whose vote, kept for slot t with expiry period E, is for it or for a block above it
-pub record Supporters (whole : Bool) (bw : List ℕ) (bu : ℕ) (vw : List ℕ) (vu E t : ℕ) (masks : List ℕ) : Type 0 where
-  pub each : (j : ℕ) → j < bu → getD masks j 0 ≡ maskOf 64 (λ v. supports (blocksIn whole bw bu) (kept (votesIn whole vw vu) E t v) (blockAt bw j .number))
-
--- how many voters are in the word at place j
-abbrev pub weightAtPlace : List ℕ → ℕ → ℕ
-weightAtPlace masks j = count (bitOf (getD masks j 0)) 64
-
--- the weights of the words at the first n places
-abbrev pub Counted : List ℕ → ℕ → List ℕ → Type 0
-Counted masks n weights = Filled (λ j. weightAtPlace masks j) n weights

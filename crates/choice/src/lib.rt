@@ -11,7 +11,8 @@ ghost use Rattle.ballots.specs.Latest.{votesIn};
 ghost use Rattle.subtrees.specs.Places.{blockAt, blocksIn, parentPlace, BlocksSound, Parents};
 ghost use Rattle.choice.specs.Walks.{weightIn, beatsAt, foundAt, betterPlace};
 ghost use Rattle.choice.specs.Children.{Linked};
-ghost use Rattle.choice.specs.Tables.{TablesSound, Supporters, Counted};
+ghost use Rattle.choice.specs.Tables.{TablesSound};
+ghost use Rattle.choice.specs.Weights.{Supporters, Counted};
 
 // Whether b is a child of block a, of a slot below the limit.
 fn is_child(lim: u64, a: u64, b: Block) -> bool
@@ -70,7 +71,7 @@ fn better_place(
     best
 }
 
-// Row i becomes the first child of its parent's row, and the one that was comes next to it.
+// Row i becomes the first child of its parent's row; the child that was first comes after it.
 fn link_child(parents: &[u16], i: usize, firsts: &mut [u16], nexts: &mut [u16])
     requires { ⌜ (i < length (now parents)) × (getD (now parents) i 0 < length (now firsts)) × (i < length (now nexts)) × (i < 2048) ⌝ }
     ensures { λ r. ⌜ (now (nexts .exit) ≡ set (now (nexts .entry)) i (getD (now (firsts .entry)) (getD (now (parents .entry)) i 0) 0))

@@ -26,8 +26,8 @@ use Rattle.rows.specs.Rows.{rowAt}
 use Rattle.ballots.specs.Latest.{selected, votesIn}
 use Rattle.ballots.proofs.Kept.{valid-kept}
 use Rattle.subtrees.specs.Places.{blockAt, blocksIn, parentPlace}
-use Rattle.choice.specs.Tables.{weightAtPlace}
-use Rattle.choice.proofs.Tables.{Weighed}
+use Rattle.choice.specs.Weights.{weightAtPlace}
+use Rattle.choice.proofs.Weights.{Weighed}
 use Rattle.choice.proofs.Held.{Held, isIn, Stands, listed, lists, parent-is, place-pos, by-number}
 use Rattle.confirm.specs.Top.{topChoice}
 

@@ -7,7 +7,7 @@ use Rattle.protocol.specs.Filters.{Choice, chosen, nothing}
 use Rattle.protocol.specs.Lent.{makeBlock}
 use Rattle.rows.specs.Rows.{rowAt}
 use Rattle.subtrees.specs.Places.{blockAt}
-use Rattle.choice.specs.Tables.{weightAtPlace}
+use Rattle.choice.specs.Weights.{weightAtPlace}
 use Rattle.confirm.specs.declared.Answer.{Answer}
 use Rattle.confirm.specs.declared.Answer.the-variants.{Chosen, Nothing}
 

@@ -38,7 +38,7 @@ fn climb_down(blocks: &[u64], used: usize, parents: &[u16], from: usize, m: u64)
 }
 
 // Slot t less the depth, and 0 where the depth is more.
-pub fn slot_before(t: u64, depth: u64) -> u64
+fn slot_before(t: u64, depth: u64) -> u64
     ensures { λ r. ⌜ r ≡ t - depth ⌝ }
 {
     if depth < t {
@@ -82,7 +82,7 @@ pub fn deep(
 }
 
 // Whether a set has three quarters of n voters.
-pub fn is_quorum(n: u64, mask: u64) -> bool
+fn is_quorum(n: u64, mask: u64) -> bool
     requires { ⌜ n ≤ 64 ⌝ }
     ensures { λ r. ⌜ r ≡ leb (3 * n) (4 * count (bitOf mask) 64) ⌝ }
 {
@@ -90,7 +90,7 @@ pub fn is_quorum(n: u64, mask: u64) -> bool
 }
 
 // The last block in view with three quarters of n voters. The blocks with as many are on one chain, so it is the highest of them.
-pub fn top(blocks: &[u64], used: usize, masks: &[u64], n: u64) -> Answer
+fn top(blocks: &[u64], used: usize, masks: &[u64], n: u64) -> Answer
     requires { ⌜ (4 * used ≤ length (now blocks)) × (used ≤ length (now masks)) × (n ≤ 64) ⌝ }
     ensures { λ r. ⌜ choiceIn r ≡ topChoice (now (blocks .entry)) (now (masks .entry)) n used ⌝ }
 {

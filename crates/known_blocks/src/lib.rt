@@ -38,14 +38,7 @@ pub fn block_at(blocks: &[u64], used: usize, bytes: &[u8], j: usize) -> Block
 }
 
 // The descent for a number, among the first n blocks. The cost is one step for each block that it meets.
-pub fn descend(
-    blocks: &[u64],
-    used: usize,
-    bytes: &[u8],
-    n: usize,
-    links: &[u16],
-    number: u64,
-) -> Spot
+fn descend(blocks: &[u64], used: usize, bytes: &[u8], n: usize, links: &[u16], number: u64) -> Spot
     requires { ⌜ (4 * used ≤ length (now blocks)) × (n ≤ used + length (packetOf (now bytes) .blocks)) × KnownIndex (knownBlocks (now blocks) used (now bytes)) n (now links) ⌝ }
     ensures { λ r. ⌜ Sought numberShape (numberAt (knownBlocks (now (blocks .entry)) used (now (bytes .entry)))) n (now (links .entry)) number (r .at) (r .place) ⌝ }
 {

@@ -16,7 +16,7 @@ ghost use Rattle.vote_index.specs.Index.{voteShape};
 ghost use Rattle.known_votes.specs.Known.{knownVotes, entryAt, placeOfVote, KnownIndex};
 
 // The vote at place j.
-pub fn vote_at(votes: &[u64], used: usize, bytes: &[u8], j: usize) -> Vote
+fn vote_at(votes: &[u64], used: usize, bytes: &[u8], j: usize) -> Vote
     requires { ⌜ (4 * used ≤ length (now votes)) × (j < used + length (packetOf (now bytes) .votes)) ⌝ }
     ensures { λ r. ⌜ r ≡ entryAt (knownVotes (now (votes .entry)) used (now (bytes .entry))) j ⌝ }
 {
@@ -28,14 +28,7 @@ pub fn vote_at(votes: &[u64], used: usize, bytes: &[u8], j: usize) -> Vote
 }
 
 // The descent for a vote, among the first n. The cost is one step for each vote that it meets.
-pub fn descend(
-    votes: &[u64],
-    used: usize,
-    bytes: &[u8],
-    n: usize,
-    links: &[u16],
-    vote: Vote,
-) -> Spot
+fn descend(votes: &[u64], used: usize, bytes: &[u8], n: usize, links: &[u16], vote: Vote) -> Spot
     requires { ⌜ (4 * used ≤ length (now votes)) × (n ≤ used + length (packetOf (now bytes) .votes)) × KnownIndex (knownVotes (now votes) used (now bytes)) n (now links) ⌝ }
     ensures { λ r. ⌜ Sought voteShape (entryAt (knownVotes (now (votes .entry)) used (now (bytes .entry)))) n (now (links .entry)) vote (r .at) (r .place) ⌝ }
 {

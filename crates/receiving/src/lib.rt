@@ -41,7 +41,7 @@ pub fn brings(clock: Clock, beat: u64, bytes: &[u8]) -> bool
 
 // The packet's blocks, looked up in the links that `views::index_blocks` wrote; marks may have changed since.
 // The cost is a descent for each.
-pub fn show_blocks(blocks: &mut [u64], used: usize, links: &[u16], bytes: &[u8])
+fn show_blocks(blocks: &mut [u64], used: usize, links: &[u16], bytes: &[u8])
     requires { ⌜ (4 * used ≤ length (now blocks)) × (marksSound (now blocks) used ≡ true) × Ordered (rowsOf makeBlock (now blocks) used)
         × BlocksIndexed (now blocks) used (now links) ⌝ }
     ensures { λ r. ⌜ now (blocks .exit) ≡ stored blockRow (show (λ b. any (λ c. eqb (b .number) (c .number)) (packetOf (now (bytes .entry)) .blocks)) (rowsOf makeBlock (now (blocks .entry)) used)) (now (blocks .entry)) ⌝ }
@@ -57,7 +57,7 @@ pub fn show_blocks(blocks: &mut [u64], used: usize, links: &[u16], bytes: &[u8])
 }
 
 // The blocks that the packet's votes are for, looked up in the same way.
-pub fn show_voted(blocks: &mut [u64], used: usize, links: &[u16], bytes: &[u8])
+fn show_voted(blocks: &mut [u64], used: usize, links: &[u16], bytes: &[u8])
     requires { ⌜ (4 * used ≤ length (now blocks)) × (marksSound (now blocks) used ≡ true) × Ordered (rowsOf makeBlock (now blocks) used)
         × BlocksIndexed (now blocks) used (now links) ⌝ }
     ensures { λ r. ⌜ now (blocks .exit) ≡ stored blockRow (show (λ b. any (λ a. eqb (b .number) (a .number)) (packetOf (now (bytes .entry)) .votes)) (rowsOf makeBlock (now (blocks .entry)) used)) (now (blocks .entry)) ⌝ }
@@ -74,7 +74,7 @@ pub fn show_voted(blocks: &mut [u64], used: usize, links: &[u16], bytes: &[u8])
 
 // All blocks that the packet stands on: its blocks, those that its votes are for, and their ancestors.
 // Stack: 20 KiB of links.
-pub fn show_stood_on(blocks: &mut [u64], used: usize, bytes: &[u8])
+fn show_stood_on(blocks: &mut [u64], used: usize, bytes: &[u8])
     requires { ⌜ (4 * used ≤ length (now blocks)) × (marksSound (now blocks) used ≡ true) × Carried (rowsOf makeBlock (now blocks) used) (packetOf (now bytes)) ⌝ }
     ensures { λ r. ⌜ now (blocks .exit) ≡ stored blockRow (show (λ b. stoodOn (entries (rowsOf makeBlock (now (blocks .entry)) used)) (packetOf (now (bytes .entry))) b) (rowsOf makeBlock (now (blocks .entry)) used)) (now (blocks .entry)) ⌝ }
 {
@@ -86,7 +86,7 @@ pub fn show_stood_on(blocks: &mut [u64], used: usize, bytes: &[u8])
 }
 
 // The packet's votes. Stack: 80 KiB of links.
-pub fn show_votes(votes: &mut [u64], used: usize, bytes: &[u8])
+fn show_votes(votes: &mut [u64], used: usize, bytes: &[u8])
     requires { ⌜ (4 * used ≤ length (now votes)) × (marksSound (now votes) used ≡ true) ⌝ }
     ensures { λ r. ⌜ now (votes .exit) ≡ stored voteRow (show (λ a. any (sameVote a) (packetOf (now (bytes .entry)) .votes)) (rowsOf makeVote (now (votes .entry)) used)) (now (votes .entry)) ⌝ }
 {

@@ -29,11 +29,11 @@ set-word masks p q r v e h =
     ap (λ (x : ℕ). set masks p x) h ∙ ap (λ (x : ℕ). set masks x (maskOf 64 (added (bitOf (getD masks x 0)) v))) e
 
 -- the voters below k are set
-pub record Placed (ws : List ℕ) (n : ℕ) (slots numbers : List ℕ) (k : ℕ) (masks : List ℕ) : Type 0 where
+pub record VotersPlaced (ws : List ℕ) (n : ℕ) (slots numbers : List ℕ) (k : ℕ) (masks : List ℕ) : Type 0 where
   pub each : (j : ℕ) → j < n → getD masks j 0 ≡ maskOf 64 (λ v. ltb v k && votesAt ws n slots numbers j v)
 
 module _ (ws : List ℕ) (n : ℕ) (slots numbers : List ℕ) where
-  pub placed-none : {masks : List ℕ} → masks ≡ replicate 2048 0 → n ≤ 2048 → Placed ws n slots numbers 0 masks
+  pub placed-none : {masks : List ℕ} → masks ≡ replicate 2048 0 → n ≤ 2048 → VotersPlaced ws n slots numbers 0 masks
   placed-none {masks} e h = record { each = λ j l. go j l }
     where
       go : (j : ℕ) → j < n → getD masks j 0 ≡ maskOf 64 (λ v. ltb v 0 && votesAt ws n slots numbers j v)
@@ -62,9 +62,9 @@ module _ (ws : List ℕ) (n : ℕ) (slots numbers : List ℕ) where
       h ∙ mask-ext 64 (λ v. ltb v k && votesAt ws n slots numbers j v) (λ v. ltb v (k + 1) && votesAt ws n slots numbers j v)
       (λ v q. sym (more j k v ∙ rw (e, and-false (eqb v k), or-false (ltb v k && votesAt ws n slots numbers j v))))
 
-  pub placed-more : (k : ℕ) {masks next : List ℕ} → Placed ws n slots numbers k masks
+  pub placed-more : (k : ℕ) {masks next : List ℕ} → VotersPlaced ws n slots numbers k masks
       → next ≡ cond (voted slots k) (set masks (placeIn ws n (getD numbers k 0)) (maskOf 64 (added (bitOf (getD masks (placeIn ws n (getD numbers k 0)) 0)) k))) masks
-      → 0 < n → n ≤ length masks → Placed ws n slots numbers (k + 1) next
+      → 0 < n → n ≤ length masks → VotersPlaced ws n slots numbers (k + 1) next
   placed-more k {masks} {next} P e z m = record { each = λ j l. ap (λ (s : List ℕ). getD s j 0) e ∙ go j l (voted slots k) refl (eqb (placeIn ws n (getD numbers k 0)) j) refl }
     where
       go : (j : ℕ) → j < n → (b : Bool) → voted slots k ≡ b → (c : Bool) → eqb (placeIn ws n (getD numbers k 0)) j ≡ c
@@ -82,7 +82,7 @@ module _ (ws : List ℕ) (n : ℕ) (slots numbers : List ℕ) where
           (λ v r. ap (λ (b : Bool). b || eqb v k) (ap (λ (x : ℕ). bitOf x v) (P .each j l) ∙ bit-mask 64 (λ u. ltb u k && votesAt ws n slots numbers j u) v r)
           ∙ sym (more j k v ∙ rw (p, q, and-true (eqb v k)))))
 
-  pub placed-all : (k : ℕ) {masks : List ℕ} → Placed ws n slots numbers k masks → 64 ≤ k → Subtrees ws n slots numbers n masks
+  pub placed-all : (k : ℕ) {masks : List ℕ} → VotersPlaced ws n slots numbers k masks → 64 ≤ k → Subtrees ws n slots numbers n masks
   placed-all k {masks} P h = record { each = λ j l. go j l }
     where
       go : (j : ℕ) → j < n → getD masks j 0 ≡ maskOf 64 (λ v. reaches ws n slots numbers n j v)

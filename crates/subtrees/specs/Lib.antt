@@ -1,3 +1,4 @@
--- Blocks by their places in the table, the voters of each subtree, and what the functions ask of the tables. Assumes nothing.
+-- Arrays, blocks by their places in the table, and the voters of each subtree. Assumes nothing.
+pub mod Filled
 pub mod Places
 pub mod Subtrees

@@ -1,15 +1,15 @@
 -- Blocks by their places in the table. Assumes nothing.
-use Prim.Native.Nat.{ℕ, _-_, _<_}
+use Prim.Native.Nat.{ℕ, _-_}
 use mathlib.Core.Bool.{Bool, true}
 use mathlib.Core.List.{List}
 use mathlib.Core.Path.{_≡_}
-use lib.ListN.{getD}
 use Rattle.protocol.specs.declared.Block.{Block}
 use Rattle.protocol.specs.Lent.{rowsOf, makeBlock}
 use Rattle.protocol.specs.Sound.{blocksSound}
 use Rattle.rows.specs.Rows.{rowAt}
 use Rattle.ballots.specs.Latest.{selected}
 use Rattle.block_index.specs.Index.{placeOfNumber}
+use Rattle.subtrees.specs.Filled.{Filled}
 
 abbrev pub blockAt : List ℕ → ℕ → Block
 blockAt ws i = rowAt makeBlock ws i .entry
@@ -29,10 +29,6 @@ placeIn ws n x = placeOfNumber (rowsOf makeBlock ws n) x - 1
 -- a parent stands before its children
 abbrev pub parentPlace : List ℕ → ℕ → ℕ
 parentPlace ws i = placeIn ws i (blockAt ws i .parent)
-
--- the array has f j at each place j below n
-pub record Filled (f : ℕ → ℕ) (n : ℕ) (array : List ℕ) : Type 0 where
-  pub each : (j : ℕ) → j < n → getD array j 0 ≡ f j
 
 -- the array has the place of each row's parent
 abbrev pub Parents : List ℕ → ℕ → List ℕ → Type 0

@@ -22,7 +22,7 @@ fn place_in(blocks: &[u64], n: usize, links: &[u16], x: u64) -> usize
 }
 
 // The place of each row's parent, each looked up once among the rows before it; and the index of all rows. The cost is two descents for each row.
-pub fn parent_places(blocks: &[u64], used: usize, links: &mut [u16], parents: &mut [u16])
+fn parent_places(blocks: &[u64], used: usize, links: &mut [u16], parents: &mut [u16])
     requires { ⌜ (4 * used ≤ length (now blocks)) × (used ≤ 2048) × (now links ≡ replicate 10240 0) × (length (now parents) ≡ 2048) ⌝ }
     ensures { λ r. ⌜ BlockIndex (now (blocks .entry)) used (now (links .exit)) × Parents (now (blocks .entry)) used (now (parents .exit)) ⌝ }
 {

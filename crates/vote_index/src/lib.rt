@@ -48,7 +48,7 @@ pub fn rest(digits: Digits) -> Digits
 }
 
 // The descent for a vote, among the first n. The cost is one step for each vote that it meets.
-pub fn descend(votes: &[u64], n: usize, links: &[u16], vote: Vote) -> Spot
+fn descend(votes: &[u64], n: usize, links: &[u16], vote: Vote) -> Spot
     requires { ⌜ (4 * n ≤ length (now votes)) × VoteIndex (now votes) n (now links) ⌝ }
     ensures { λ r. ⌜ Sought voteShape (voteAt (now (votes .entry))) n (now (links .entry)) vote (r .at) (r .place) ⌝ }
 {

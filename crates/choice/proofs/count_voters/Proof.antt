@@ -4,8 +4,8 @@ use native.Mathlib.Omega.{arith}
 use Prim.Native.Nat.{_-_, _≤_}
 use mathlib.Core.Path.{_≡_, refl}
 use lib.ListN.{length, length-set}
-use Rattle.choice.specs.Tables.{Counted}
-use Rattle.subtrees.proofs.Places.{filled-none, filled-more}
+use Rattle.choice.specs.Weights.{Counted}
+use Rattle.subtrees.proofs.Filled.{filled-none, filled-more}
 use Rattle.choice.proofs.count_voters.Statement.{statement}
 use Rattle.choice.proofs.count_voters.Tie as tie
 

@@ -8,7 +8,8 @@ use denote.Ref.{now}
 use Rattle.search_tree.proofs.Tree.{index-free}
 use Rattle.block_index.specs.Index.{BlockIndex}
 use Rattle.subtrees.specs.Places.{placeIn, Parents}
-use Rattle.subtrees.proofs.Places.{place-low, filled-none, filled-more}
+use Rattle.subtrees.proofs.Filled.{filled-none, filled-more}
+use Rattle.subtrees.proofs.Places.{place-low}
 use Rattle.subtrees.proofs.parent_places.Statement.{statement}
 use Rattle.subtrees.proofs.parent_places.Tie as tie
 

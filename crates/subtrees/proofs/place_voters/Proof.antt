@@ -5,12 +5,12 @@ use Prim.Native.Nat.{ℕ, _-_, _≤_}
 use mathlib.Core.Path.{_≡_, ap, sym, _∙_}
 use lib.ListN.{length, length-replicate}
 use denote.Ref.{now}
-use Rattle.subtrees.proofs.Handing.{Placed, placed-none, placed-more, placed-all}
+use Rattle.subtrees.proofs.Handing.{VotersPlaced, placed-none, placed-more, placed-all}
 use Rattle.subtrees.proofs.place_voters.Statement.{statement}
 use Rattle.subtrees.proofs.place_voters.Tie as tie
 
 abbrev Inv-loop : tie.InvT-loop
-Inv-loop blocks used links slots numbers masks₀ v₀ masks v = (v ≤ 64) × (length masks ≡ 2048) × Placed blocks used slots numbers v masks
+Inv-loop blocks used links slots numbers masks₀ v₀ masks v = (v ≤ 64) × (length masks ≡ 2048) × VotersPlaced blocks used slots numbers v masks
 
 abbrev μ-loop : tie.MeasureT-loop
 μ-loop blocks used links slots numbers masks₀ v₀ masks v = 64 - v

@@ -10,6 +10,13 @@
  * At each beat an awake node makes the call that is due (propose if slot % nodes == own, vote, merge), then sends its gossip
  * and, if it proposed, its proposal. Between beats it receives packets with the beat last begun.
  *
+ * Blocks stay in their table; votes leave when they are old. Once slot m was merged no slot that may be asked for looks at votes of
+ * slots below m - expiry: likvost_merge removes them, and likvost_receive accepts those that still come but does not store them. So
+ * the table holds votes of slots m - expiry to the slot seen. If no voter votes twice in a slot, then
+ *   nodes * (expiry + 2)      places suffice for a node that merges every slot: no call lacks one for a vote;
+ *   nodes * (expiry + 2 + s)  for one that left out the last s Merges. Its next Merge removes what is old by then.
+ * Every further vote of a voter in a slot takes a place too, and a dishonest voter may cast one for each block.
+ *
  * Every call may be refused. Then `refusal` is the number below, nothing in the lent memory has changed, and the clock that
  * is returned is the one that was passed. Otherwise `refusal` is 0. So always store the returned clock:
  *
@@ -41,7 +48,7 @@ extern "C" {
 typedef struct {
     uint64_t nodes;  /* 1 to 64 */
     uint64_t own;    /* this node's index, below nodes */
-    uint64_t expiry; /* E: votes of the last E slots count, 1 to 4,096 */
+    uint64_t expiry; /* E: votes of the last E slots count, 1 to 4,096; votes of E + 2 slots should find places */
     uint64_t depth;  /* K: the deep block is at least K slots old, 1 to 4,096 */
 } likvost_settings;
 
@@ -49,7 +56,7 @@ typedef struct {
 typedef struct {
     uint64_t seen;     /* the beat last seen */
     uint64_t done;     /* the last beat done */
-    uint64_t merged;   /* the slot last merged */
+    uint64_t merged;   /* the slot last merged: earlier ones can no longer be asked for */
     uint64_t proposed; /* the slot of the last proposal made or brought into view */
 } likvost_clock;
 
@@ -72,7 +79,7 @@ enum {
     LIKVOST_PROPOSER = 14,    /* another node's slot */
     LIKVOST_NUMBER = 15,      /* the number is known */
     LIKVOST_VOTED = 16,       /* an own vote of this slot is known */
-    LIKVOST_SLOT = 17,        /* slot 0, or above the slot seen */
+    LIKVOST_SLOT = 17,        /* slot 0, before the slot last merged, or above the slot seen */
     LIKVOST_BUFFER = 18,      /* buffer too short */
     LIKVOST_PROPOSAL = 19,    /* no own proposal of the beat seen */
     LIKVOST_VOTE = 20,        /* a vote of the packet breaks a rule: the one with this `index` */
@@ -87,8 +94,8 @@ static inline const char *likvost_refusal_message(uint64_t refusal)
         "a table's length is out of range", "the lent memory is unsound", "beat below the one seen, or slot above the limit",
         "malformed packet", "a block of the packet breaks a rule", "not enough free places", "not the phase of this call",
         "beat already done", "not joined for this slot", "another node's slot", "block number already known",
-        "already voted in this slot", "slot 0 or above the slot seen", "buffer too short", "no own proposal of this beat",
-        "a vote of the packet breaks a rule", "the proposal's header does not fit its blocks"};
+        "already voted in this slot", "slot 0, before the one last merged, or above the slot seen", "buffer too short",
+        "no own proposal of this beat", "a vote of the packet breaks a rule", "the proposal's header does not fit its blocks"};
     return refusal < 22 ? messages[refusal] : "unknown refusal";
 }
 
@@ -98,7 +105,7 @@ typedef struct {
     uint64_t index;      /* refused by LIKVOST_BLOCK or LIKVOST_VOTE: the entry's index in its section of the packet, from 0; else 0 */
     uint64_t value;      /* likvost_propose: the base; likvost_vote: the head; else 0 */
     uint64_t new_blocks; /* likvost_receive: how many blocks were new */
-    uint64_t new_votes;  /* likvost_receive: how many votes were new */
+    uint64_t new_votes;  /* likvost_receive: how many votes were new; old ones are not */
     uint64_t brought;    /* likvost_receive: 1 if the packet came into view at once */
     likvost_clock clock; /* the clock after the call */
 } likvost_answer;
@@ -122,7 +129,9 @@ likvost_answer likvost_open(likvost_settings settings, likvost_clock clock, uint
                             size_t *blocks_used, uint64_t *votes, size_t votes_len, size_t *votes_used);
 
 /* Takes a packet: its new entries wait at the tables' ends. The first proposal of the beat's slot, in phase 0, comes into view at
- * once. Refusals: 6 7 8 9 20 21 10. With 9 and 20 `index` tells which block or vote was the first to break a rule. */
+ * once. An old vote, of a slot below clock.merged - expiry, must keep the rules too, but is not stored, not new and needs no place;
+ * the block that it is for comes into view with a proposal all the same.
+ * Refusals: 6 7 8 9 20 21 10. With 9 and 20 `index` tells which block or vote was the first to break a rule. */
 likvost_answer likvost_receive(likvost_settings settings, likvost_clock clock, uint64_t *blocks, size_t blocks_len,
                                size_t *blocks_used, uint64_t *votes, size_t votes_len, size_t *votes_used, uint64_t beat,
                                const uint8_t *packet, size_t packet_len);
@@ -136,11 +145,13 @@ likvost_answer likvost_propose(likvost_settings settings, likvost_clock clock, u
 likvost_answer likvost_vote(likvost_settings settings, likvost_clock clock, uint64_t *blocks, size_t blocks_len,
                             size_t *blocks_used, uint64_t *votes, size_t votes_len, size_t *votes_used, uint64_t beat);
 
-/* Brings all waiting entries into view. Refusals: 6 7 11 12. */
+/* Brings all waiting entries into view, and removes the votes of slots below t - expiry, t being the beat's slot: the others keep their
+ * order and move up, the places that become free are set to zero, and *votes_used tells how many stay. Refusals: 6 7 11 12. */
 likvost_answer likvost_merge(likvost_settings settings, likvost_clock clock, uint64_t *blocks, size_t blocks_len,
                              size_t *blocks_used, uint64_t *votes, size_t votes_len, size_t *votes_used, uint64_t beat);
 
-/* The head for a slot, over the view. Refusals: 6 17. */
+/* The head for a slot, over the view. This and the next two questions are for slots from clock.merged to the slot seen.
+ * Refusals: 6 17. */
 likvost_found likvost_head(likvost_settings settings, likvost_clock clock, const uint64_t *blocks, size_t blocks_len,
                            size_t blocks_used, const uint64_t *votes, size_t votes_len, size_t votes_used, uint64_t slot);
 

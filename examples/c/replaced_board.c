@@ -24,38 +24,43 @@ static void keep(likvost_answer a)
 
 static uint8_t *put(uint8_t *at, uint64_t number, int bytes)
 {
-    for (int i = 0; i < bytes; i++)
-        *at++ = (uint8_t)(number >> (8 * i));
+    for (int i = 0; i < bytes; i++, number >>= 8)
+        *at++ = (uint8_t)number;
     return at;
 }
 
-/* What the two boards say: blocks 11 and 12 of slot 1, and their votes. */
-static size_t gossip(uint8_t *packet)
+/* What the two boards say in a slot: blocks 11 and 12 of slot 1, and their votes of this slot. */
+static size_t gossip(uint8_t *packet, uint64_t slot)
 {
     static const uint8_t cast[][3] = {{1, 1, 11}, {1, 1, 12}, {1, 2, 11}, {1, 3, 11}, {2, 1, 12}, {2, 2, 12}, {2, 3, 12}};
     enum { CAST = sizeof cast / sizeof cast[0] };
     uint8_t *p = put(put(packet, 0, 13), 2, 2);
     for (uint64_t number = 11; number <= 12; number++)
         p = put(put(put(p, number, 8), 0, 8), 1, 4);
-    p = put(p, CAST, 2);
-    for (int i = 0; i < CAST; i++)
-        p = put(put(put(p, cast[i][0], 1), cast[i][1], 4), cast[i][2], 8);
+    uint8_t *count = p;
+    p = put(p, 0, 2);
+    for (int i = 0; i < CAST; i++) {
+        if (cast[i][1] == slot) {
+            p = put(put(put(p, cast[i][0], 1), cast[i][1], 4), cast[i][2], 8);
+            (*count)++;
+        }
+    }
     return (size_t)(p - packet);
 }
 
 int main(void)
 {
     uint8_t packet[BUFFER];
-    size_t length = gossip(packet);
     keep(likvost_open(settings, now, blocks, 4 * BLOCKS, &blocks_used, votes, 4 * VOTES, &votes_used));
-    keep(likvost_receive(settings, now, blocks, 4 * BLOCKS, &blocks_used, votes, 4 * VOTES, &votes_used, 3 * 3, packet, length));
-    for (uint64_t slot = 3; slot <= 4; slot++)
+    for (uint64_t slot = 1; slot <= 4; slot++) {
+        size_t length = gossip(packet, slot);
+        keep(likvost_receive(settings, now, blocks, 4 * BLOCKS, &blocks_used, votes, 4 * VOTES, &votes_used, 3 * slot + 1, packet, length));
         keep(likvost_merge(settings, now, blocks, 4 * BLOCKS, &blocks_used, votes, 4 * VOTES, &votes_used, 3 * slot + 2));
-    for (uint64_t slot = 2; slot <= 4; slot++) {
         likvost_found head = likvost_head(settings, now, blocks, 4 * BLOCKS, blocks_used, votes, 4 * VOTES, votes_used, slot);
         if (head.refusal != LIKVOST_OK)
             return 1;
-        printf("slot %d: head %d\n", (int)slot, (int)head.value);
+        if (slot > 1)
+            printf("slot %d: head %d\n", (int)slot, (int)head.value);
     }
     return 0;
 }

@@ -8,7 +8,7 @@
 
 enum { BLOCKS = 2048, VOTES = 8192, STACK = 1 << 20, PAINT = 0xA5 };
 
-static likvost_settings settings = {.nodes = 64, .own = 0, .expiry = 64, .depth = 32};
+static likvost_settings settings = {.nodes = 64, .own = 0, .expiry = 128, .depth = 32}; /* so no vote of the packets is old */
 static likvost_clock now;
 static uint64_t blocks[4 * BLOCKS], votes[4 * VOTES];
 static size_t blocks_used, votes_used;
@@ -28,8 +28,8 @@ static void must(uint64_t refusal)
 
 static uint8_t *put(uint8_t *at, uint64_t number, int bytes)
 {
-    for (int i = 0; i < bytes; i++)
-        *at++ = (uint8_t)(number >> (8 * i));
+    for (int i = 0; i < bytes; i++, number >>= 8)
+        *at++ = (uint8_t)number;
     return at;
 }
 

@@ -1,9 +1,9 @@
 //! The calls on a node. A number in `Err` is the refusal's; a refused call changes nothing.
-//! Words of request 1 are marked so.
+//! Words of requests 1 and 4 are marked so.
 
 use crate::packet::{Packet, PacketBlock, PacketVote};
 use crate::tables::{phase_of, slot_of, Block, Node, Vote};
-use crate::tables::{BLOCK_PLACES, DEPTH, EXPIRY, FRESH, NODES, SLOT_LIMIT, START, VOTE_PLACES};
+use crate::tables::{BLOCK_PLACES, DEPTH, EXPIRY, FRESH, NODES, SLOT_LIMIT, START, VOTE_PLACES, ZERO_VOTE};
 use crate::walks::View;
 use std::collections::{HashMap, HashSet};
 
@@ -60,7 +60,7 @@ impl Node {
         refuse_if(!BLOCK_PLACES.contains(&self.blocks.len()) || !VOTE_PLACES.contains(&self.votes.len()), 5)?;
         // "sets the tables to block 0 alone, every other place to zero"
         self.blocks.fill(Block { number: 0, parent: 0, slot: 0, in_view: false });
-        self.votes.fill(Vote { voter: 0, slot: 0, number: 0, in_view: false });
+        self.votes.fill(ZERO_VOTE);
         self.blocks[0] = START;
         self.blocks_used = 1;
         self.votes_used = 0;
@@ -140,13 +140,15 @@ impl Node {
         Ok(head)
     }
 
-    /// Merge: brings all that waits into view.
+    /// Merge: brings all that waits into view and removes old votes.
     pub fn merge(&mut self, beat: u64) -> Result<(), u32> {
         self.test_due(beat, 2)?;
         // "All waiting entries come into view."
         self.bring_stock_into_view();
         self.set_done(beat);
         self.clock.merged = slot_of(beat);
+        // Request 4: "At Merge of slot t, votes of slots below t-E are removed"
+        self.remove_old_votes();
         Ok(())
     }
 
@@ -208,7 +210,8 @@ impl Node {
     /// The tests of Head, Deep and Fast: "17 slot 0 or above the slot seen".
     fn test_question(&self, slot: u64) -> Result<(), u32> {
         self.test_sound()?;
-        refuse_if(slot == 0 || slot > slot_of(self.clock.seen), 17)
+        // Request 4: "Slots earlier than the one last merged can no longer be queried, so 17 covers them too."
+        refuse_if(slot == 0 || slot < self.clock.merged || slot > slot_of(self.clock.seen), 17)
     }
 
     /// The packet's blocks that are new, or refusal 9 for the first that breaks a rule.
@@ -269,8 +272,9 @@ impl Node {
             if block_slot > slot {
                 return Err(refused);
             }
+            // Request 4: an old vote "is accepted, not stored and not counted as new".
             // "An entry known already, or repeated in the packet, is not new."
-            if known.insert((voter, slot, number)) {
+            if !self.is_old(slot) && known.insert((voter, slot, number)) {
                 new.push(Vote { voter, slot, number, in_view: false });
             }
         }
@@ -284,6 +288,7 @@ impl Node {
             vote.in_view |= votes.contains(&(vote.voter, vote.slot, vote.number));
         }
         let mut blocks: HashSet<u64> = packet.blocks.iter().map(|block| block.number).collect();
+        // Request 4: of a vote that is not stored, it "brings that vote's block and its ancestors all the same".
         blocks.extend(packet.votes.iter().map(|vote| vote.number));
         // A parent stands earlier than its children, so going backwards finds all ancestors.
         for block in self.blocks[..self.blocks_used].iter_mut().rev() {
@@ -297,6 +302,22 @@ impl Node {
     fn bring_stock_into_view(&mut self) {
         self.blocks[..self.blocks_used].iter_mut().for_each(|block| block.in_view = true);
         self.votes[..self.votes_used].iter_mut().for_each(|vote| vote.in_view = true);
+    }
+
+    /// Request 4: a vote of "a slot below the last merged slot less E". E is added to the vote's slot instead, so that
+    /// nothing is old where the difference is below 0. A slot of the stock or of a packet is small enough for this.
+    fn is_old(&self, slot: u64) -> bool {
+        slot + self.settings.expiry < self.clock.merged
+    }
+
+    /// Takes the old votes out of the table.
+    fn remove_old_votes(&mut self) {
+        let kept: Vec<Vote> = self.stock_votes().iter().copied().filter(|vote| !self.is_old(vote.slot)).collect();
+        // Request 4: "the others keep their order and move up"
+        self.votes[..kept.len()].copy_from_slice(&kept);
+        // Request 4: "the freed places at the end are set to zero and used by later votes"
+        self.votes[kept.len()..self.votes_used].fill(ZERO_VOTE);
+        self.votes_used = kept.len();
     }
 
     /// Puts a block at the table's end. A place must be free.

@@ -18,6 +18,8 @@ pub(crate) const SLOT_LIMIT: u64 = 1_000_000_000;
 
 /// "The starting block has number 0, parent 0 and slot 0 and is always in view."
 pub(crate) const START: Block = Block { number: 0, parent: 0, slot: 0, in_view: true };
+/// A place of the vote table as Open leaves it: "every other place to zero".
+pub(crate) const ZERO_VOTE: Vote = Vote { voter: 0, slot: 0, number: 0, in_view: false };
 /// "A fresh node has seen 2, done 2, merged 0, proposal 0."
 pub(crate) const FRESH: Clock = Clock { seen: 2, done: 2, merged: 0, proposed: 0 };
 

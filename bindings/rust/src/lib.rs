@@ -6,6 +6,9 @@
 //! A beat is `3 * slot + phase`: phase 0 propose, 1 vote, 2 merge. The first beat of a fresh node is 3. At each beat an awake node makes
 //! the call that is due and then sends its gossip and, if it proposed, its proposal.
 //!
+//! Blocks stay in their table; votes leave when they are old. Once slot `m` was merged no slot that may be asked for looks at votes of
+//! slots below `m - expiry`: [`Node::merge`] removes them, and [`Node::receive`] accepts those that still come but does not store them.
+//!
 //! ```
 //! use likvost::{Node, Settings};
 //!
@@ -52,7 +55,7 @@ pub struct Settings {
     pub nodes: u64,
     /// This node's index, below `nodes`.
     pub own: u64,
-    /// Votes of the last `expiry` slots count: 1 to 4,096.
+    /// Votes of the last `expiry` slots count: 1 to 4,096. Those of `expiry + 2` slots should find places, see [`Node::open`].
     pub expiry: u64,
     /// The deep block is at least `depth` slots old: 1 to 4,096.
     pub depth: u64,
@@ -66,7 +69,7 @@ pub struct Clock {
     pub seen: u64,
     /// The last beat done.
     pub done: u64,
-    /// The slot last merged.
+    /// The slot last merged. Earlier ones can no longer be asked for.
     pub merged: u64,
     /// The slot of the last proposal that was made or brought into view.
     pub proposed: u64,
@@ -77,7 +80,7 @@ pub struct Clock {
 pub struct Received {
     /// How many blocks were new.
     pub new_blocks: u64,
-    /// How many votes were new.
+    /// How many votes were new. Old ones are not.
     pub new_votes: u64,
     /// Whether the packet came into view at once.
     pub brought: bool,
@@ -139,6 +142,11 @@ macro_rules! lend {
 
 impl Node {
     /// A fresh node with so many places for blocks (1 to 2,048, block 0 included) and votes (1 to 8,192).
+    ///
+    /// The node holds votes of the slots from `expiry` slots before the one last merged to the slot seen. So if no voter votes twice in a slot,
+    /// no vote is refused by [`Refusal::Places`] on a node that merges every slot and has `nodes * (expiry + 2)` places for votes; one that
+    /// left out the last `s` Merges needs `nodes * (expiry + 2 + s)`, until its next Merge removes what is old by then. Every further vote
+    /// of a voter in a slot takes a place too, and a dishonest voter may cast one for each block.
     pub fn open(settings: Settings, block_places: usize, vote_places: usize) -> Result<Node, Refusal> {
         // No table of more places is opened, so no more memory is asked for.
         let words = |places: usize, limit: usize| if places > limit { 0 } else { 4 * places };
@@ -191,6 +199,8 @@ impl Node {
     }
 
     /// Takes a packet. Its new entries wait; the first proposal of the beat's slot, in phase 0, comes into view at once.
+    /// An old vote, of a slot below the one last merged less `expiry`, must keep the rules too, but is not stored, not new and needs no place;
+    /// the block that it is for comes into view with a proposal all the same.
     /// A packet with a block or vote that breaks a rule is refused whole; [`Refusal::Block`] and [`Refusal::Vote`] tell the first such entry.
     pub fn receive(&mut self, beat: u64, packet: &[u8]) -> Result<Received, Refusal> {
         let m = &mut self.memory;
@@ -219,7 +229,8 @@ impl Node {
         Self::answered(m, a).map(|a| a.value)
     }
 
-    /// Brings all waiting entries into view.
+    /// Brings all waiting entries into view, and removes the votes of slots below `t - expiry`, `t` being the beat's slot: the others keep
+    /// their order and move up, and the places that become free are set to zero.
     pub fn merge(&mut self, beat: u64) -> Result<(), Refusal> {
         let m = &mut self.memory;
         let (b, bl, bu, v, vl, vu) = lend!(m);
@@ -228,7 +239,17 @@ impl Node {
         Self::answered(m, a).map(|_| ())
     }
 
-    /// The head for a slot.
+    /// The head for a slot, from the one last merged to the one seen. The deep and the fast block are for these slots too.
+    ///
+    /// ```
+    /// use likvost::{Node, Refusal, Settings};
+    ///
+    /// let mut node = Node::open(Settings { nodes: 3, own: 1, expiry: 4, depth: 1 }, 16, 32).unwrap();
+    /// node.merge(3 * 7 + 2).unwrap();
+    /// assert_eq!(node.head(6), Err(Refusal::Slot));
+    /// assert_eq!(node.head(7), Ok(0));
+    /// assert_eq!(node.head(8), Err(Refusal::Slot));
+    /// ```
     pub fn head(&self, slot: u64) -> Result<u64, Refusal> {
         self.ask(ffi::likvost_head, slot).map(|found| found.value)
     }

@@ -55,7 +55,7 @@ pub enum Refusal {
     Number,
     /// 16: already voted in this slot.
     Voted,
-    /// 17: slot 0, or a slot above the one seen.
+    /// 17: slot 0, a slot before the one last merged, or one above the slot seen.
     Slot,
     /// 18: the buffer is too short.
     Buffer,
@@ -153,7 +153,7 @@ impl fmt::Display for Refusal {
             Refusal::Proposer => "another node's slot",
             Refusal::Number => "block number already known",
             Refusal::Voted => "already voted in this slot",
-            Refusal::Slot => "slot 0 or above the slot seen",
+            Refusal::Slot => "slot 0, before the one last merged, or above the slot seen",
             Refusal::Buffer => "buffer too short",
             Refusal::Proposal => "no own proposal of this beat",
             Refusal::Header => "the proposal's header does not fit its blocks",

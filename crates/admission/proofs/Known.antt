@@ -1,21 +1,13 @@
--- A packet's entries added to a store: what is looked up in the result is looked up in the store, and then in the packet.
--- Assumes nothing.
+-- A packet's blocks added to a store: what is looked up in the result is looked up in the store, and then in the packet. Assumes nothing.
 use Prim.Native.Nat.{ℕ}
-use mathlib.Core.Bool.{Bool, true, false, _||_, or-assoc, or-false, cond}
+use mathlib.Core.Bool.{Bool, true, false, cond}
 use mathlib.Core.List.{List, [], _∷_, _++_}
 use mathlib.Core.Path.{_≡_, refl, ap, sym, _∙_}
 use lib.Dec.{eqb}
 use borrow.Author.Tests.{eqb-true}
 use Rattle.protocol.specs.declared.Block.{Block}
-use Rattle.protocol.specs.declared.Vote.{Vote}
-use Rattle.protocol.specs.Lists.{any}
 use Rattle.protocol.specs.Chain.{Found, found, missing, find, foundWith}
-use Rattle.protocol.specs.Store.{sameVote}
-use Rattle.protocol.specs.Calls.Receive.{addBlock, addBlocks, addVote, addVotes}
-use Rattle.protocol.proofs.Basics.Members.{any-append}
-use Rattle.protocol.proofs.Store.Views.{vote-same}
-
--- ---- blocks
+use Rattle.protocol.specs.Calls.Receive.{addBlock, addBlocks}
 
 -- the first of two lookups that found something
 unfoldable pub orElse : Found → Found → Found
@@ -82,25 +74,3 @@ pub addBlocks-end : (bs cs : List Block) (c : Block) → addBlocks bs (cs ++ (c 
 unfolding addBlocks
 addBlocks-end bs [] c = refl
 addBlocks-end bs (d ∷ cs) c = addBlocks-end (addBlock bs d) cs c
-
--- ---- votes
-
-any-one : (vs : List Vote) (b a : Vote) → any (sameVote a) (addVote vs b) ≡ (any (sameVote a) vs || any (sameVote a) (b ∷ []))
-unfolding addVote any
-any-one vs b a = go (any (sameVote b) vs) refl
-  where
-    old : (t : Bool) → sameVote a b ≡ t → any (sameVote b) vs ≡ true → any (sameVote a) vs ≡ (any (sameVote a) vs || (t || false))
-    old true q e = rw (ap (λ (c : Vote). any (sameVote c) vs) (vote-same a b q) ∙ e) refl
-    old false q e = sym (or-false (any (sameVote a) vs))
-
-    go : (t : Bool) → any (sameVote b) vs ≡ t → any (sameVote a) (cond t vs (vs ++ (b ∷ []))) ≡ (any (sameVote a) vs || (sameVote a b || false))
-    go true e = old (sameVote a b) refl e
-    go false e = any-append (sameVote a) vs (b ∷ [])
-
-pub any-added : (vs ws : List Vote) (a : Vote) → any (sameVote a) (addVotes vs ws) ≡ (any (sameVote a) vs || any (sameVote a) ws)
-unfolding addVotes any
-any-added vs [] a = sym (or-false (any (sameVote a) vs))
-any-added vs (b ∷ ws) a =
-    any-added (addVote vs b) ws a ∙ ap (λ (t : Bool). t || any (sameVote a) ws) (any-one vs b a)
-    ∙ or-assoc (any (sameVote a) vs) (any (sameVote a) (b ∷ [])) (any (sameVote a) ws)
-    ∙ ap (λ (t : Bool). any (sameVote a) vs || t) (sym (any-append (sameVote a) (b ∷ []) ws))

@@ -3,6 +3,7 @@ use Prim.Native.Nat.{ℕ, _+_, _*_, _≤_, _<_}
 use mathlib.Core.Bool.{Bool, true, _||_}
 use mathlib.Core.List.{List, [], _∷_, _++_}
 use mathlib.Core.Path.{_≡_, refl, ap, sym, _∙_}
+use native.Mathlib.Nat.{le-of-eq}
 use native.Mathlib.Omega.{arith}
 use lib.ListN.{length, take}
 use lib.Seq.{take-all, length-take-le}
@@ -34,7 +35,7 @@ module _ {A : Type 0} {make : Make (Marked A)} {row : Marked A → List ℕ} (co
 
     was : a ≡ rowAt make ws₀ i
     unfolding R
-    was = r ∙ ap (λ (w : List ℕ). rowAt make w i) e ∙ row-after codec (show p (take i R)) ws₀ i len
+    was = r ∙ ap (λ (w : List ℕ). rowAt make w i) e ∙ row-after codec (show p (take i R)) ws₀ i (le-of-eq len)
 
     more : show p (take (i + 1) R) ≡ show p (take i R) ++ (record { entry = a .entry; shown = b } ∷ [])
     unfolding show R

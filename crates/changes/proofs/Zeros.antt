@@ -1,19 +1,40 @@
 -- Tables filled with zeros. Assumes nothing.
-use Prim.Native.Nat.{ℕ, zero, suc, _-_, _≤_}
-use mathlib.Core.List.{List, _∷_, _++_, append-nil}
-use mathlib.Core.Path.{_≡_, ap, _∙_}
+use Prim.Native.Nat.{ℕ, zero, suc, _+_, _-_, _≤_, _<_}
+use mathlib.Core.List.{List, [], _∷_, _++_, append-nil}
+use mathlib.Core.Path.{_≡_, ap, sym}
+use native.Mathlib.Nat.{le-refl}
 use native.Mathlib.Omega.{arith}
-use lib.ListN.{length, drop, replicate, drop-of-length-le}
+use lib.ListN.{length, take, drop, set, replicate, take-append-drop, drop-of-length-le}
+use borrow.Author.Fill.{fill-more}
 use Rattle.protocol.specs.Chain.{genesis}
 use Rattle.protocol.specs.Store.{visible, fresh}
 use Rattle.protocol.specs.Lent.{wordsOf, blockRow}
 use Rattle.rows.specs.Rows.{putRow}
 
--- a loop that fills from the front, at its end
-pub fill-end : (n v : ℕ) (d w : List ℕ) → w ≡ replicate n v ++ drop n d → n ≤ length d → length d ≤ n → w ≡ replicate (length d) v
-fill-end n v d w e h l =
-    let q : n ≡ length d = omega arith in
-    e ∙ rw (drop-of-length-le d l, append-nil, q)
+-- ---- a loop that fills with v from place a on
+
+-- up to place i
+abbrev pub filledTo : ℕ → ℕ → List ℕ → ℕ → List ℕ
+filledTo v a d i = take a d ++ (replicate (i - a) v ++ drop i d)
+
+pub fill-begin : (v a : ℕ) (d : List ℕ) → d ≡ filledTo v a d a
+fill-begin v a d = let e : a - a ≡ 0 = omega arith in rw e (sym (take-append-drop a d))
+
+pub fill-turn : (v a i : ℕ) (d : List ℕ) → a ≤ i → i < length d → set (filledTo v a d i) i v ≡ filledTo v a d (i + 1)
+fill-turn v zero i d h l = let e : i - 0 ≡ i = omega arith in let f : i + 1 - 0 ≡ i + 1 = omega arith in rw (e, f) (fill-more i v d l)
+fill-turn v (suc a) zero d h l = absurd (omega arith)
+fill-turn v (suc a) (suc i) [] h l = absurd (omega arith)
+fill-turn v (suc a) (suc i) (x ∷ d) h l =
+    let e : suc i - suc a ≡ i - a = omega arith in
+    let f : suc i + 1 ≡ suc (i + 1) = omega arith in
+    let g : suc (i + 1) - suc a ≡ i + 1 - a = omega arith in
+    rw (e, f, g) (ap (λ (t : List ℕ). x ∷ t) (fill-turn v a i d (omega arith) (omega arith)))
+
+-- the whole list
+pub fill-whole : (v : ℕ) (d : List ℕ) → filledTo v 0 d (length d) ≡ replicate (length d) v
+fill-whole v d =
+    let e : length d - 0 ≡ length d = omega arith in
+    rw (e, drop-of-length-le d (le-refl (length d)), append-nil)
 
 drop-zeros : (k n : ℕ) → drop {A = ℕ} k (replicate n 0) ≡ replicate (n - k) 0
 drop-zeros zero n = let e : n - 0 ≡ n = omega arith in rw e

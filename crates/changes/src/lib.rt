@@ -8,9 +8,9 @@ ghost use mathlib.Core.Bool.{true};
 ghost use mathlib.Core.List.{_++_, _∷_, []};
 ghost use mathlib.Core.Path.{_≡_};
 ghost use Prim.Native.Nat.{_+_, _-_, _*_, _≤_};
-ghost use lib.ListN.{length, replicate};
-ghost use Rattle.protocol.specs.Store.{showAll, fresh};
-ghost use Rattle.protocol.specs.Lent.{rowsOf, wordsOf, stored, makeBlock, makeVote, blockRow, voteRow, marksSound};
+ghost use lib.ListN.{length, take, drop, replicate};
+ghost use Rattle.protocol.specs.Store.{showAll, rowsSince, fresh};
+ghost use Rattle.protocol.specs.Lent.{rowsOf, wordsOf, stored, makeBlock, makeVote, blockRow, voteRow, marksSound, emptied};
 
 // One block more, at the end.
 pub fn append_block(blocks: &mut [u64], used: &mut usize, block: Block, shown: bool)
@@ -90,13 +90,56 @@ pub fn show_all_votes(votes: &mut [u64], used: usize)
     }
 }
 
-// Every word becomes zero.
-fn zero(words: &mut [u64])
-    ensures { λ r. ⌜ now (words .exit) ≡ replicate (length (now (words .entry))) 0 ⌝ }
+// The words from `first` on become zero, up to the one at `end`, which stays.
+fn zero(words: &mut [u64], first: usize, end: usize)
+    requires { ⌜ (first ≤ end) × (end ≤ length (now words)) ⌝ }
+    ensures { λ r. ⌜ now (words .exit) ≡ take first (now (words .entry)) ++ (replicate (end - first) 0 ++ drop end (now (words .entry))) ⌝ }
 {
-    for i in 0..words.len() {
+    for i in first..end {
         words[i] = 0;
     }
+}
+
+// ---- old votes leave
+
+// The votes of slot `from` and later come into view and move up to the front, in their order. The answer is how many these are.
+fn move_up(votes: &mut [u64], used: usize, from: u64) -> usize
+    requires { ⌜ 4 * used ≤ length (now votes) ⌝ }
+    ensures { λ r. ⌜ (now (votes .exit) ≡ stored voteRow (showAll (rowsSince from (rowsOf makeVote (now (votes .entry)) used))) (now (votes .entry)))
+        × (r ≡ length (rowsSince from (rowsOf makeVote (now (votes .entry)) used))) ⌝ }
+{
+    let mut kept: usize = 0;
+    let mut i: usize = 0;
+    while i < used {
+        let row = rows::vote_at(votes, i);
+        let vote = row.vote;
+        if from <= vote.slot {
+            rows::put_vote(
+                votes,
+                kept,
+                VoteRow {
+                    vote: vote,
+                    shown: true,
+                },
+            );
+            kept += 1;
+        }
+        i += 1;
+    }
+    kept
+}
+
+// Every vote comes into view, and those of slots below `from` are removed: the others move up in their order, and the places that
+// become free are set to zero. The cost is one pass over the rows.
+pub fn merge_votes(votes: &mut [u64], used: &mut usize, from: u64)
+    requires { ⌜ 4 * now used ≤ length (now votes) ⌝ }
+    ensures { λ r. ⌜ (now (votes .exit) ≡ stored voteRow (showAll (rowsSince from (rowsOf makeVote (now (votes .entry)) (now (used .entry))))) (emptied (now (used .entry)) (now (votes .entry))))
+        × (now (used .exit) ≡ length (rowsSince from (rowsOf makeVote (now (votes .entry)) (now (used .entry))))) ⌝ }
+{
+    let before = *used;
+    let kept = move_up(votes, before, from);
+    zero(votes, 4 * kept, 4 * before);
+    *used = kept;
 }
 
 // The tables of a fresh node: block 0 alone, in view, and every other place zero.
@@ -105,8 +148,8 @@ pub fn clear(blocks: &mut [u64], votes: &mut [u64])
     ensures { λ r. ⌜ (now (blocks .exit) ≡ wordsOf blockRow (fresh .blocks) ++ replicate (length (now (blocks .entry)) - 4) 0)
         × (now (votes .exit) ≡ replicate (length (now (votes .entry))) 0) ⌝ }
 {
-    zero(blocks);
-    zero(votes);
+    zero(blocks, 0, blocks.len());
+    zero(votes, 0, votes.len());
     rows::put_block(
         blocks,
         0,

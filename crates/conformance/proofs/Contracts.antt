@@ -3,17 +3,21 @@
 use mathlib.Core.Path.{_≡_, refl}
 use denote.Ref.{now}
 use Rattle.verdicts.specs.Lent.{lent}
-use Rattle.answers.specs.Promises.{Opens, Receives, Proposes, Votes, Merges, Writes}
+use Rattle.answers.specs.Promises.{Opens, Receives, Proposes, Votes, Merges, IsHead, IsDeep, IsFast, Writes}
 use Rattle.node.proofs.«open».Reads as opening
 use Rattle.node.proofs.receive.Reads as receiving
 use Rattle.node.proofs.propose.Reads as proposing
 use Rattle.node.proofs.vote.Reads as voting
 use Rattle.node.proofs.merge.Reads as merging
+use Rattle.queries.proofs.head.Reads as asking-head
+use Rattle.queries.proofs.deep.Reads as asking-deep
+use Rattle.queries.proofs.fast.Reads as asking-fast
 use Rattle.writing.proofs.write.Reads as writing
 
 pub asks-nothing : (opening.Asked ≡ (λ κs a. Unit)) × (receiving.Asked ≡ (λ κs a. Unit)) × (proposing.Asked ≡ (λ κs a. Unit))
     × (voting.Asked ≡ (λ κs a. Unit)) × (merging.Asked ≡ (λ κs a. Unit)) × (writing.Asked ≡ (λ κs a. Unit))
-asks-nothing = (refl, refl, refl, refl, refl, refl)
+    × (asking-head.Asked ≡ (λ κs a. Unit)) × (asking-deep.Asked ≡ (λ κs a. Unit)) × (asking-fast.Asked ≡ (λ κs a. Unit))
+asks-nothing = (refl, refl, refl, refl, refl, refl, refl, refl, refl)
 
 -- The arguments are the settings, the clock, the blocks and how many rows of them are used, the votes and how many rows of them are used, and then
 -- the call's own. Then comes the answer, and the arguments at the end of the call.
@@ -41,3 +45,12 @@ merge-told = refl
 pub write-told : writing.Learnt ≡ (λ κs (s, (c, (bs, (m, (vs, (n, (proposal, (buffer, _)))))))) r (_, (_, (_, (_, (_, (_, (_, (buffer′, _)))))))).
     Writes s (lent (now bs) (now vs) m n c) proposal (now buffer) (now buffer′) r)
 write-told = refl
+
+pub head-told : asking-head.Learnt ≡ (λ κs (s, (c, (bs, (m, (vs, (n, (slot, _))))))) r _. IsHead s (lent (now bs) (now vs) m n c) slot r)
+head-told = refl
+
+pub deep-told : asking-deep.Learnt ≡ (λ κs (s, (c, (bs, (m, (vs, (n, (slot, _))))))) r _. IsDeep s (lent (now bs) (now vs) m n c) slot r)
+deep-told = refl
+
+pub fast-told : asking-fast.Learnt ≡ (λ κs (s, (c, (bs, (m, (vs, (n, (slot, _))))))) r _. IsFast s (lent (now bs) (now vs) m n c) slot r)
+fast-told = refl

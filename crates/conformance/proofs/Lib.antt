@@ -1,4 +1,5 @@
--- That runs of the code are runs of `resilience`, and so demand 3 holds of them. Assumes nothing.
+-- That runs of the code are runs of `resilience`, and so demand 3 holds of them; and that the code's removing of old votes changes no
+-- answer. Assumes nothing.
 pub mod Answers
 pub mod Memory
 pub mod Steps
@@ -6,4 +7,5 @@ pub mod Conforms
 pub mod Promises
 pub mod Completes
 pub mod Contracts
+pub mod Removed
 pub mod Witness

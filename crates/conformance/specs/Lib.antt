@@ -2,3 +2,4 @@
 pub mod State
 pub mod CodeRun
 pub mod Conformance
+pub mod CodeRemoval

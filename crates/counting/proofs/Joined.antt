@@ -22,7 +22,8 @@ use Rattle.known_blocks.specs.Known.{knownBlocks, numberAt, placeOfNumber}
 use Rattle.known_blocks.proofs.Numbers as numbers
 use Rattle.known_votes.specs.Known.{knownVotes, entryAt, placeOfVote}
 use Rattle.known_votes.proofs.Votes as votes
-use Rattle.admission.proofs.Known.{added-joined, any-added}
+use Rattle.protocol.proofs.Store.New.{any-added}
+use Rattle.admission.proofs.Known.{added-joined}
 
 no-place : (place : ℕ) {t : Bool} → not (eqb place 0) ≡ t → eqb place 0 ≡ not t
 no-place place e = sym (Bool·not-not (eqb place 0)) ∙ ap not e

@@ -1,7 +1,7 @@
 -- One turn of a loop that counts a packet's new entries, once for blocks and votes: k entries stood there, n more were new among the first i.
 -- Assumes nothing.
 use Prim.Native.Nat.{ℕ, _+_, _≤_, _<_}
-use mathlib.Core.Bool.{Bool, true, false, not}
+use mathlib.Core.Bool.{Bool, true, false, not, _&&_, _||_}
 use mathlib.Core.List.{List}
 use mathlib.Core.Path.{_≡_, refl, ap}
 use native.Mathlib.Omega.{arith}
@@ -17,6 +17,10 @@ use Rattle.admission.proofs.Entries.{front-entry}
 pub flag-one : (b : Bool) → boolByte b ≤ 1
 flag-one true = omega arith
 flag-one false = omega arith
+
+pub neither-is : (a b : Bool) → (a && not b) ≡ not (not a || b)
+neither-is true b = refl
+neither-is false b = refl
 
 -- `add` adds entries to a store that `has` does not find there
 module _ {A : Type 0} (has : List A → A → Bool) (add : List A → List A → List A) (is : Adding has add) where

@@ -6,17 +6,17 @@
 // Stack: each function has the links of one index, 36 and 144 KiB for blocks and votes.
 use admission::Lookup;
 use protocol::Vote;
-ghost use mathlib.Core.Bool.{true, not};
+ghost use mathlib.Core.Bool.{true, not, _&&_};
 ghost use mathlib.Core.Path.{_≡_};
 ghost use Prim.Native.Nat.{_+_, _*_, _<_, _≤_};
 ghost use lib.ListN.{length, getD, take, replicate};
 ghost use Rattle.protocol.specs.declared.Vote.{Vote};
 ghost use Rattle.protocol.specs.Lists.{any};
 ghost use Rattle.protocol.specs.Chain.{known, genesis};
-ghost use Rattle.protocol.specs.Store.{entries, sameVote};
+ghost use Rattle.protocol.specs.Store.{entries, sameVote, since};
 ghost use Rattle.protocol.specs.Packet.{packetOf};
 ghost use Rattle.protocol.specs.Lent.{rowsOf, makeBlock, makeVote};
-ghost use Rattle.protocol.specs.Calls.Receive.{addBlocks, addVotes};
+ghost use Rattle.protocol.specs.Calls.Receive.{addBlocks, addVotes, addSince};
 ghost use Rattle.packets.specs.Header.{noVote};
 ghost use Rattle.counting.specs.Known.{BlocksKnown, VotesKnown};
 
@@ -130,7 +130,7 @@ fn search_new_vote(votes: &[u64], used: usize, bytes: &[u8], i: usize) -> bool
 
 // The same by an index of the table and of the packet's earlier votes, which vote i joins: a descent. Past `most` places of the
 // index it is searched for: a packet of an honest node has at most the 8,192 votes of its table.
-fn is_new_vote(
+fn is_unknown_vote(
     votes: &[u64],
     used: usize,
     bytes: &[u8],
@@ -148,17 +148,47 @@ fn is_new_vote(
     known_votes::add(votes, used, bytes, used + i, links) == 0
 }
 
+// Whether vote i of the packet is new: not old, that is of slot `from` or later, and not known. It joins the index in any case.
+fn is_new_vote(
+    votes: &[u64],
+    used: usize,
+    bytes: &[u8],
+    i: usize,
+    from: u64,
+    most: usize,
+    links: &mut [u16],
+) -> bool
+    requires { ⌜ (4 * used ≤ length (now votes)) × (i < length (packetOf (now bytes) .votes)) × (most ≤ 16384) × VotesKnown most (now votes) used (now bytes) i (now links) ⌝ }
+    ensures { λ r. ⌜ (r ≡ (since from (getD (packetOf (now (bytes .entry)) .votes) i noVote)
+        && not (any (sameVote (getD (packetOf (now (bytes .entry)) .votes) i noVote)) (addSince from (entries (rowsOf makeVote (now (votes .entry)) used)) (take i (packetOf (now (bytes .entry)) .votes))))))
+        × VotesKnown most (now (votes .entry)) used (now (bytes .entry)) (i + 1) (now (links .exit)) ⌝ }
+{
+    let vote = packets::vote_at(bytes, i);
+    let unknown = is_unknown_vote(votes, used, bytes, i, most, links);
+    if vote.slot < from {
+        return false;
+    }
+    unknown
+}
+
 // How many votes of the packet are new, by an index of the table with `most` places.
-fn count_votes(votes: &[u64], used: usize, bytes: &[u8], most: usize, links: &mut [u16]) -> usize
+fn count_votes(
+    votes: &[u64],
+    used: usize,
+    bytes: &[u8],
+    from: u64,
+    most: usize,
+    links: &mut [u16],
+) -> usize
     requires { ⌜ (4 * used ≤ length (now votes)) × (most ≤ 16384) × VotesKnown most (now votes) used (now bytes) 0 (now links) ⌝ }
-    ensures { λ r. ⌜ used + r ≡ length (addVotes (entries (rowsOf makeVote (now (votes .entry)) used)) (packetOf (now (bytes .entry)) .votes)) ⌝ }
+    ensures { λ r. ⌜ used + r ≡ length (addSince from (entries (rowsOf makeVote (now (votes .entry)) used)) (packetOf (now (bytes .entry)) .votes)) ⌝ }
 {
     let h = packets::header_of(bytes);
     let count = h.votes as usize;
     let mut n: usize = 0;
     let mut i: usize = 0;
     while i < count {
-        n += is_new_vote(votes, used, bytes, i, most, links) as usize;
+        n += is_new_vote(votes, used, bytes, i, from, most, links) as usize;
         i += 1;
     }
     n
@@ -174,19 +204,19 @@ fn index_known_votes(votes: &[u64], used: usize, bytes: &[u8], links: &mut [u16]
     }
 }
 
-// How many votes of the packet are new. The cost is a descent for each row of the table and each vote of the packet, as long as
+// How many votes of the packet are new: those of slot `from` and later that are not known. The cost is a descent for each row of the table and each vote of the packet, as long as
 // these are at most 16,384 together; each further vote is searched for in the table and in the packet. So are fewer than 8 votes,
 // which costs less than an index. Stack: 144 KiB for the links of 16,384 votes.
-pub fn new_votes(votes: &[u64], used: usize, bytes: &[u8]) -> usize
+pub fn new_votes(votes: &[u64], used: usize, bytes: &[u8], from: u64) -> usize
     requires { ⌜ 4 * used ≤ length (now votes) ⌝ }
-    ensures { λ r. ⌜ used + r ≡ length (addVotes (entries (rowsOf makeVote (now (votes .entry)) used)) (packetOf (now (bytes .entry)) .votes)) ⌝ }
+    ensures { λ r. ⌜ used + r ≡ length (addSince from (entries (rowsOf makeVote (now (votes .entry)) used)) (packetOf (now (bytes .entry)) .votes)) ⌝ }
 {
     let h = packets::header_of(bytes);
     if h.votes < 8 {
         let mut none = [0u16; 1];
-        return count_votes(votes, used, bytes, 0, &mut none);
+        return count_votes(votes, used, bytes, from, 0, &mut none);
     }
     let mut links = [0u16; 73728];
     index_known_votes(votes, used, bytes, &mut links);
-    count_votes(votes, used, bytes, 16384, &mut links)
+    count_votes(votes, used, bytes, from, 16384, &mut links)
 }

@@ -3,6 +3,7 @@ use Prim.Native.Nat.{ℕ, _+_, _-_, _*_, _/_, _≤_}
 use mathlib.Core.Bool.{Bool, true, false, _&&_, cond}
 use mathlib.Core.List.{List, [], _∷_, _++_}
 use mathlib.Core.Path.{_≡_, refl, ap, sym, _∙_}
+use native.Mathlib.Nat.{le-of-eq}
 use native.Mathlib.Omega.{arith}
 use lib.Dec.{eqb, leb}
 use lib.ListN.{length}
@@ -13,19 +14,20 @@ use Rattle.protocol.specs.declared.Block.{Block}
 use Rattle.protocol.specs.declared.Vote.{Vote}
 use Rattle.protocol.specs.Lists.{any}
 use Rattle.protocol.specs.Walk as walk
-use Rattle.protocol.specs.Store.{Marked, entries, inView, waiting, visible, showAll, sameVote, Node}
+use Rattle.protocol.specs.Store.{Marked, entries, inView, waiting, visible, showAll, sameVote, keptFrom, rowsSince, Node}
 use Rattle.protocol.specs.Sound.{between, placesSound}
 use Rattle.protocol.specs.Packet.{Packet, packetOf}
 use Rattle.protocol.specs.Refusal.{first, done}
 use Rattle.protocol.specs.Calls.Open.{openTests}
-use Rattle.protocol.specs.Calls.Receive.{receiveTests, addBlocks, addVotes, blocksAfter, votesAfter, brings, stoodOn, receivedOf, receiveInto}
+use Rattle.protocol.specs.Calls.Receive.{receiveTests, addBlocks, addSince, blocksAfter, votesAfter, brings, stoodOn, receivedOf, receiveInto}
 use Rattle.protocol.specs.Calls.Propose.{proposeTests, baseOf}
 use Rattle.protocol.specs.Calls.Vote.{voteTests, headOf}
 use Rattle.protocol.specs.Calls.Merge.{mergeTests}
-use Rattle.protocol.specs.Lent.{Lent, rowsOf, stored, makeBlock, makeVote, blockRow, voteRow, placesIn, placesOf, nodeOf, storeNode, cleared}
+use Rattle.protocol.specs.Lent.{Lent, rowsOf, stored, makeBlock, makeVote, blockRow, voteRow, placesIn, placesOf, nodeOf, emptied, storeNode, cleared}
 use Rattle.protocol.proofs.Basics.Tests.{and-left, and-right}
 use Rattle.protocol.proofs.Calls.Passed as passed
 use Rattle.protocol.proofs.Calls.Passed.{opens}
+use Rattle.protocol.proofs.Store.Views.{length-show}
 use Rattle.protocol.proofs.Lent.Rows.{places-fit, block-codec, vote-codec, stored-same, length-rowsOf}
 use Rattle.storing.specs.Grown.{Holds}
 use Rattle.receiving.specs.Accepted.{Accepted, onlyBlocks, onlyVotes, onlyClock}
@@ -49,7 +51,7 @@ use Rattle.answers.specs.Answers.{received, block}
 use Rattle.answers.specs.Promises.{Opens, Receives, Proposes, Votes, Merges, Carries}
 use Rattle.answers.proofs.Verdict.{said, passed-ready}
 use Rattle.answers.proofs.Leaves.{left-refused, left-done}
-use Rattle.node.proofs.Tables.{store-is, length-more, length-received, length-shown, append-shown, length-append-shown}
+use Rattle.node.proofs.Tables.{store-is, store-grown, length-more, length-received, length-shown, append-shown, length-append-shown}
 
 -- ---- Open
 
@@ -84,18 +86,18 @@ brought-slot x beat p {b = false} e = refl
 
 -- no row is lost
 pub blocks-grow : (ws : List ℕ) (n : ℕ) (p : Packet) (brought : Bool) {ws′ : List ℕ} {n′ : ℕ}
-    → Holds (Marked Block) blockRow (receiveInto brought 0 (onlyBlocks (rowsOf makeBlock ws n)) p .blocks) ws ws′ n′ → n ≤ n′
+    → Holds (Marked Block) blockRow (receiveInto 0 brought 0 (onlyBlocks (rowsOf makeBlock ws n)) p .blocks) ws ws′ n′ → n ≤ n′
 unfolding receiveInto
 blocks-grow ws n p brought h =
     let R = rowsOf makeBlock ws n in
     omega (arith, h .used, length-received (λ b. brought && stoodOn (blocksAfter (onlyBlocks R) p) p b) R (blocksAfter (onlyBlocks R) p), length-rowsOf makeBlock ws n)
 
-pub votes-grow : (ws : List ℕ) (n : ℕ) (p : Packet) (brought : Bool) {ws′ : List ℕ} {n′ : ℕ}
-    → Holds (Marked Vote) voteRow (receiveInto brought 0 (onlyVotes (rowsOf makeVote ws n)) p .votes) ws ws′ n′ → n ≤ n′
+pub votes-grow : (from : ℕ) (ws : List ℕ) (n : ℕ) (p : Packet) (brought : Bool) {ws′ : List ℕ} {n′ : ℕ}
+    → Holds (Marked Vote) voteRow (receiveInto from brought 0 (onlyVotes (rowsOf makeVote ws n)) p .votes) ws ws′ n′ → n ≤ n′
 unfolding receiveInto
-votes-grow ws n p brought h =
+votes-grow from ws n p brought h =
     let R = rowsOf makeVote ws n in
-    omega (arith, h .used, length-received (λ a. brought && any (sameVote a) (p .votes)) R (votesAfter (onlyVotes R) p), length-rowsOf makeVote ws n)
+    omega (arith, h .used, length-received (λ a. brought && any (sameVote a) (p .votes)) R (votesAfter from (onlyVotes R) p), length-rowsOf makeVote ws n)
 
 module _ (s : Settings) (m : Lent) (beat : ℕ) (bytes : List ℕ) {v : Verdict} (h : verdictOf v ≡ lentVerdict s (λ p x. receiveTests s p x beat bytes) m) where
   pub receive-leaves : {e : Refusal} {r : Moved} → v ≡ Refuse e → r ≡ record { reply = reply.Refused e; clock = m .clock } → Receives s m beat bytes (lent (m .blocks) (m .votes) (m .blocksUsed) (m .votesUsed) (r .clock)) (r .reply)
@@ -111,30 +113,31 @@ module _ (s : Settings) (m : Lent) (beat : ℕ) (bytes : List ℕ) {v : Verdict}
   pub receive-block-room : v ≡ Pass → 4 * length (addBlocks (entries (rowsOf makeBlock (m .blocks) (m .blocksUsed))) (packetOf bytes .blocks)) ≤ length (m .blocks)
   receive-block-room e = receive-room-blocks s m beat bytes (said Pass h e)
 
-  pub receive-vote-room : v ≡ Pass → 4 * length (addVotes (entries (rowsOf makeVote (m .votes) (m .votesUsed))) (packetOf bytes .votes)) ≤ length (m .votes)
-  receive-vote-room e = receive-room-votes s m beat bytes (said Pass h e)
+  pub receive-vote-room : {from : ℕ} → v ≡ Pass → from ≡ keptFrom s (m .clock .merged) → 4 * length (addSince from (entries (rowsOf makeVote (m .votes) (m .votesUsed))) (packetOf bytes .votes)) ≤ length (m .votes)
+  receive-vote-room e f = rw f (receive-room-votes s m beat bytes (said Pass h e))
 
-  pub receive-stores : {brought : Bool} {bw vw : List ℕ} {bu vu : ℕ} {k : Clock} → v ≡ Pass
+  pub receive-stores : {brought : Bool} {from : ℕ} {bw vw : List ℕ} {bu vu : ℕ} {k : Clock} → v ≡ Pass
       → brought ≡ brings (onlyClock (m .clock)) beat (packetOf bytes)
-      → Holds (Marked Block) blockRow (receiveInto brought 0 (onlyBlocks (rowsOf makeBlock (m .blocks) (m .blocksUsed))) (packetOf bytes) .blocks) (m .blocks) bw bu
-      → Holds (Marked Vote) voteRow (receiveInto brought 0 (onlyVotes (rowsOf makeVote (m .votes) (m .votesUsed))) (packetOf bytes) .votes) (m .votes) vw vu
+      → from ≡ keptFrom s (m .clock .merged)
+      → Holds (Marked Block) blockRow (receiveInto 0 brought 0 (onlyBlocks (rowsOf makeBlock (m .blocks) (m .blocksUsed))) (packetOf bytes) .blocks) (m .blocks) bw bu
+      → Holds (Marked Vote) voteRow (receiveInto from brought 0 (onlyVotes (rowsOf makeVote (m .votes) (m .votesUsed))) (packetOf bytes) .votes) (m .votes) vw vu
       → k ≡ received-clock (m .clock) beat brought
       → Receives s m beat bytes (lent bw vw bu vu k)
       (reply.Received (record { «new_blocks» = bu - m .blocksUsed; «new_votes» = vu - m .votesUsed; brought = brought }))
   unfolding receivedOf receiveInto brings nodeOf blocksAfter votesAfter
-  receive-stores {brought} {bw} {vw} {bu} {vu} {k} e f b w c =
+  receive-stores {brought} {from} {bw} {vw} {bu} {vu} {k} e f g b w c =
       let p = packetOf bytes in
       let R = rowsOf makeBlock (m .blocks) (m .blocksUsed) in
       let U = rowsOf makeVote (m .votes) (m .votesUsed) in
-      let x : Node = receiveInto brought beat (nodeOf m) p in
+      let x : Node = receiveInto from brought beat (nodeOf m) p in
       let store : lent bw vw bu vu k ≡ storeNode x m
-      = rw (c, brought-slot (nodeOf m) beat p f) (store-is x m (b .words) (w .words) (b .used) (w .used)) in
+      = rw (c, brought-slot (nodeOf m) beat p f) (store-grown x m (b .words) (w .words) (b .used) (w .used) (omega (arith, w .used, votes-grow from (m .votes) (m .votesUsed) p brought w))) in
       let nb : bu - m .blocksUsed ≡ length (addBlocks (entries R) (p .blocks)) - length R
       = omega (arith, b .used, length-received (λ o. brought && stoodOn (addBlocks (entries R) (p .blocks)) p o) R (addBlocks (entries R) (p .blocks)), length-rowsOf makeBlock (m .blocks) (m .blocksUsed)) in
-      let nv : vu - m .votesUsed ≡ length (addVotes (entries U) (p .votes)) - length U
-      = omega (arith, w .used, length-received (λ a. brought && any (sameVote a) (p .votes)) U (addVotes (entries U) (p .votes)), length-rowsOf makeVote (m .votes) (m .votesUsed)) in
-      left-done (receive-done s m beat bytes (said Pass h e)) (store ∙ ap (λ (o : Bool). storeNode (receiveInto o beat (nodeOf m) p) m) f)
-      (λ i. done (received (record { newBlocks = nb i; newVotes = nv i; brought = f i })))
+      let nv : vu - m .votesUsed ≡ length (addSince from (entries U) (p .votes)) - length U
+      = omega (arith, w .used, length-received (λ a. brought && any (sameVote a) (p .votes)) U (addSince from (entries U) (p .votes)), length-rowsOf makeVote (m .votes) (m .votesUsed)) in
+      left-done (receive-done s m beat bytes (said Pass h e)) (store ∙ (λ i. storeNode (receiveInto (g i) (f i) beat (nodeOf m) p) m))
+      (λ i. done (received (record { newBlocks = nb i; newVotes = (nv ∙ ap (λ (o : ℕ). length (addSince o (entries U) (p .votes)) - length U) g) i; brought = f i })))
 
 -- ---- Propose
 
@@ -156,8 +159,8 @@ module _ (s : Settings) (m : Lent) (beat number : ℕ) {v : Verdict} (h : verdic
   propose-stores {base} e f g b n w =
       let new : Marked Block = visible (record { number = number; parent = base; slot = beat / 3 }) in
       left-done (propose-done s m beat number (said Pass h e))
-      (rw (← f) (store-is _ m (append-shown block-codec (m .blocks) (m .blocksUsed) g new b) w
-      (n ∙ length-append-shown block-codec (m .blocks) (m .blocksUsed) new) (length-shown vote-codec (m .votes) (m .votesUsed))))
+      (rw (← f) (store-grown _ m (append-shown block-codec (m .blocks) (m .blocksUsed) g new b) w
+      (n ∙ length-append-shown block-codec (m .blocks) (m .blocksUsed) new) (length-shown vote-codec (m .votes) (m .votesUsed)) (le-of-eq (length-shown vote-codec (m .votes) (m .votesUsed)))))
       (ap (λ (x : ℕ). done (block x)) f)
 
 -- ---- Vote
@@ -177,9 +180,10 @@ module _ (s : Settings) (m : Lent) (beat : ℕ) {v : Verdict} (h : verdictOf v �
   unfolding nodeOf headOf
   vote-stores {head} e f w n =
       let R = passed-ready s _ m h e .memory in
+      let new : Marked Vote = waiting (record { voter = s .own; slot = beat / 3; number = head }) in
       left-done (vote-done s m beat (said Pass h e))
-      (rw (← f) (store-is _ m (sym (stored-same block-codec (m .blocks) (m .blocksUsed) (R .block-marks) (R .block-words))) w
-      (sym (length-rowsOf makeBlock (m .blocks) (m .blocksUsed))) (n ∙ length-more makeVote (m .votes) (m .votesUsed) _)))
+      (rw (← f) (store-grown _ m (sym (stored-same block-codec (m .blocks) (m .blocksUsed) (R .block-marks) (R .block-words))) w
+      (sym (length-rowsOf makeBlock (m .blocks) (m .blocksUsed))) (n ∙ length-more makeVote (m .votes) (m .votesUsed) _) (omega (arith, length-more makeVote (m .votes) (m .votesUsed) new))))
       (ap (λ (x : ℕ). done (block x)) f)
 
 -- ---- Merge
@@ -188,14 +192,16 @@ module _ (s : Settings) (m : Lent) (beat : ℕ) {v : Verdict} (h : verdictOf v �
   pub merge-leaves : {e : Refusal} {r : Moved} → v ≡ Refuse e → r ≡ record { reply = reply.Refused e; clock = m .clock } → Merges s m beat (lent (m .blocks) (m .votes) (m .blocksUsed) (m .votesUsed) (r .clock)) (r .reply)
   merge-leaves e f = left-refused (merge-refused s m beat _ (said (Refuse _) h e)) f
 
-  pub merge-stores : {bw vw : List ℕ} → v ≡ Pass
+  pub merge-stores : {from vu : ℕ} {bw vw : List ℕ} → v ≡ Pass → from ≡ keptFrom s (beat / 3)
       → bw ≡ stored blockRow (showAll (rowsOf makeBlock (m .blocks) (m .blocksUsed))) (m .blocks)
-      → vw ≡ stored voteRow (showAll (rowsOf makeVote (m .votes) (m .votesUsed))) (m .votes)
-      → Merges s m beat (lent bw vw (m .blocksUsed) (m .votesUsed) (record { seen = beat; done = beat; merged = beat / 3; proposed = m .clock .proposed })) reply.Done
-  unfolding nodeOf
-  merge-stores e b w =
+      → vw ≡ stored voteRow (showAll (rowsSince from (rowsOf makeVote (m .votes) (m .votesUsed)))) (emptied (m .votesUsed) (m .votes))
+      → vu ≡ length (rowsSince from (rowsOf makeVote (m .votes) (m .votesUsed)))
+      → Merges s m beat (lent bw vw (m .blocksUsed) vu (record { seen = beat; done = beat; merged = beat / 3; proposed = m .clock .proposed })) reply.Done
+  unfolding nodeOf showAll
+  merge-stores {from} e f b w n =
       left-done (merge-done s m beat (said Pass h e))
-      (store-is _ m b w (length-shown block-codec (m .blocks) (m .blocksUsed)) (length-shown vote-codec (m .votes) (m .votesUsed))) refl
+      (rw (← f) (store-is _ m b w (length-shown block-codec (m .blocks) (m .blocksUsed))
+      (n ∙ sym (length-show (λ a. true) (rowsSince from (rowsOf makeVote (m .votes) (m .votesUsed))))))) refl
 
 -- ---- the call that is asked for
 

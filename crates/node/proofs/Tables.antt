@@ -1,23 +1,28 @@
 -- Tables after the changes of a call. Assumes nothing.
-use Prim.Native.Nat.{ℕ, suc, _+_, _-_}
+use Prim.Native.Nat.{ℕ, suc, _+_, _-_, _≤_}
 use mathlib.Core.Bool.{Bool, true}
 use mathlib.Core.List.{List, [], _∷_, _++_}
 use mathlib.Core.Path.{_≡_, refl, ap, sym, _∙_}
 use native.Mathlib.Omega.{arith}
 use lib.ListN.{length, drop, length-append, length-drop}
 use Rattle.protocol.specs.Store.{Marked, allWaiting, show, showAll, Node}
-use Rattle.protocol.specs.Lent.{Lent, Make, rowsOf, stored, blockRow, voteRow, marksSound, storeNode}
+use Rattle.protocol.specs.Lent.{Lent, Make, rowsOf, stored, blockRow, voteRow, marksSound, emptied, storeNode}
 use Rattle.protocol.proofs.Store.Views.{length-show}
-use Rattle.protocol.proofs.Lent.Rows.{Codec, rows-stored, marks-stored, length-rowsOf}
+use Rattle.protocol.proofs.Lent.Rows.{Codec, vote-codec, stored-emptied, rows-stored, marks-stored, length-rowsOf}
 use Rattle.rows.proofs.Stored.{stored-longer}
 use Rattle.verdicts.specs.Lent.{lent}
 
 -- ---- a node stored, place by place
 
-pub store-is : (x : Node) (m : Lent) {bw vw : List ℕ} {bu vu : ℕ} → bw ≡ stored blockRow (x .blocks) (m .blocks) → vw ≡ stored voteRow (x .votes) (m .votes)
-    → bu ≡ length (x .blocks) → vu ≡ length (x .votes) → lent bw vw bu vu (x .clock) ≡ storeNode x m
+pub store-is : (x : Node) (m : Lent) {bw vw : List ℕ} {bu vu : ℕ} → bw ≡ stored blockRow (x .blocks) (m .blocks)
+    → vw ≡ stored voteRow (x .votes) (emptied (m .votesUsed) (m .votes)) → bu ≡ length (x .blocks) → vu ≡ length (x .votes) → lent bw vw bu vu (x .clock) ≡ storeNode x m
 unfolding storeNode
 store-is x m b v bu vu = λ i. record { blocks = b i; votes = v i; blocksUsed = bu i; votesUsed = vu i; clock = x .clock }
+
+-- where no vote left, no place became free
+pub store-grown : (x : Node) (m : Lent) {bw vw : List ℕ} {bu vu : ℕ} → bw ≡ stored blockRow (x .blocks) (m .blocks) → vw ≡ stored voteRow (x .votes) (m .votes)
+    → bu ≡ length (x .blocks) → vu ≡ length (x .votes) → m .votesUsed ≤ length (x .votes) → lent bw vw bu vu (x .clock) ≡ storeNode x m
+store-grown x m b v bu vu h = store-is x m b (v ∙ sym (stored-emptied vote-codec (x .votes) (m .votesUsed) (m .votes) h)) bu vu
 
 -- ---- one row more
 

@@ -79,8 +79,8 @@ fn received_clock(clock: Clock, beat: u64, brought: bool) -> Clock
     }
 }
 
-// New entries wait at the tables' ends; the slot's first proposal comes into view with all that it stands on.
-// The answer says how many entries were new, and whether the packet came into view.
+// New entries wait at the tables' ends, but for votes of slots below the last merged slot less E, which are not stored; the slot's first
+// proposal comes into view with all that it stands on. The answer says how many entries were new, and whether the packet came into view.
 pub fn receive(
     settings: Settings,
     clock: Clock,
@@ -112,7 +112,8 @@ pub fn receive(
         Verdict::Pass => {
             let brought = receiving::brings(clock, beat, bytes);
             receiving::receive_blocks(blocks, blocks_used, bytes, brought);
-            receiving::receive_votes(votes, votes_used, bytes, brought);
+            let from = own::kept_from(settings, clock.merged);
+            receiving::receive_votes(votes, votes_used, bytes, from, brought);
             let new_blocks = *blocks_used - block_rows;
             let new_votes = *votes_used - vote_rows;
             Moved {
@@ -237,7 +238,7 @@ pub fn vote(
     }
 }
 
-// All waiting entries come into view.
+// All waiting entries come into view, and votes of slots below t - E are removed: the others move up, and the places freed are zero.
 pub fn merge(
     settings: Settings,
     clock: Clock,
@@ -265,14 +266,16 @@ pub fn merge(
     match verdict {
         Verdict::Refuse(refusal) => refused(refusal, clock),
         Verdict::Pass => {
+            let slot = beat / 3;
+            let from = own::kept_from(settings, slot);
             changes::show_all_blocks(blocks, block_rows);
-            changes::show_all_votes(votes, vote_rows);
+            changes::merge_votes(votes, votes_used, from);
             Moved {
                 reply: Reply::Done,
                 clock: Clock {
                     seen: beat,
                     done: beat,
-                    merged: beat / 3,
+                    merged: slot,
                     proposed: clock.proposed,
                 },
             }

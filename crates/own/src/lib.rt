@@ -1,4 +1,4 @@
-// What a node itself may do and did: whether it is joined, proposes, has voted, has proposed.
+// What a node itself may do and did: whether it is joined, proposes, has voted, has proposed; and which votes it keeps.
 // Each takes a look through one table at most.
 use protocol::Block;
 use protocol::Clock;
@@ -11,7 +11,7 @@ ghost use Prim.Native.Nat.{_+_, _*_, _/_, _%_, _≤_, _<_};
 ghost use lib.Dec.{eqb};
 ghost use lib.ListN.{length};
 ghost use Rattle.protocol.specs.Lists.{any};
-ghost use Rattle.protocol.specs.Store.{entries, inView};
+ghost use Rattle.protocol.specs.Store.{entries, inView, keptFrom};
 ghost use Rattle.protocol.specs.Lent.{rowsOf, makeBlock, makeVote};
 ghost use Rattle.protocol.specs.Calls.Write.{lastBlock, proposedNow};
 
@@ -24,6 +24,16 @@ pub fn joined(clock: Clock, beat: u64) -> bool
         return false;
     }
     clock.merged == slot - 1
+}
+
+// The first slot whose votes the node keeps once this slot is merged.
+pub fn kept_from(settings: Settings, slot: u64) -> u64
+    ensures { λ r. ⌜ r ≡ keptFrom settings slot ⌝ }
+{
+    if slot < settings.expiry {
+        return 0;
+    }
+    slot - settings.expiry
 }
 
 // Whether the node is the proposer of the beat's slot.

@@ -5,12 +5,12 @@ use mathlib.Core.Path.{_≡_, refl}
 use mathlib.Core.List.{List, [], _∷_, _++_}
 use Rattle.protocol.specs.declared.Block.{Block}
 use Rattle.protocol.specs.declared.Vote.{Vote}
-use Rattle.protocol.specs.Lists.{any, all}
+use Rattle.protocol.specs.Lists.{filter, any, all}
 use Rattle.protocol.specs.Chain.{genesis, find, foundWith, slotIn, upGo, upStep, aboveIn, above}
 use Rattle.protocol.specs.Filters.{conflict, equivocates, counted, window, later, latest, chosen, nothing, choiceOf, kept}
 use Rattle.protocol.specs.Walk.{count, supports, weight, isChild, beats, better, bestChild, walkStep, walkIn, walk, weightAt, head, base}
 use Rattle.protocol.specs.Confirm.{deepGo, deepStep, deepIn, deepFrom, deep, voteIn, validVote, quorum, heightGo, heightStep, heightIn, height, higher, highest, numberIn, fast}
-use Rattle.protocol.specs.Store.{waiting, visible, allWaiting, entries, inView, show, sameBlock, sameVote, fresh}
+use Rattle.protocol.specs.Store.{waiting, visible, allWaiting, entries, inView, show, sameBlock, sameVote, since, fresh}
 use Rattle.protocol.specs.Sound.{between, settingsSound, placesSound, clockSound, restSound, blocksSound, votesSound, sound}
 use Rattle.protocol.specs.Packet.{bytesOf, numberOf, field, flat, section, entriesAt, headBytes, blockBytes, voteBytes, packetAs, blockAt, voteAt, packetAt, packetBytes, packetOf, headerFormed, wellFormed}
 use Rattle.protocol.specs.Refusal.{by, byEntry, first, Reply, refused, Outcome, unless}
@@ -56,7 +56,7 @@ pub record Starred : Type 0 where
   pub fast-four : fast blocks (vote 4 3 11 ∷ three) 5 3 ≡ chosen 11
 
 pub starred : Starred
-unfolding any find slotIn upGo upStep aboveIn above conflict equivocates counted window later latest choiceOf kept count supports weight isChild beats better bestChild walkStep walkIn walk weightAt head base deepGo deepStep deepIn deepFrom deep voteIn validVote quorum heightGo heightStep heightIn height higher highest numberIn fast
+unfolding any filter since find slotIn upGo upStep aboveIn above conflict equivocates counted window later latest choiceOf kept count supports weight isChild beats better bestChild walkStep walkIn walk weightAt head base deepGo deepStep deepIn deepFrom deep voteIn validVote quorum heightGo heightStep heightIn height higher highest numberIn fast
 starred =
     record {
       head-4 = refl;
@@ -97,7 +97,7 @@ pub record Told : Type 0 where
   pub ties-by-number : head arrived votes 5 2 4 ≡ 31
 
 pub told : Told
-unfolding any find slotIn upGo upStep aboveIn above conflict equivocates counted window later latest choiceOf kept count supports weight isChild beats better bestChild walkStep walkIn walk weightAt head base deepGo deepStep deepIn deepFrom deep voteIn validVote quorum heightGo heightStep heightIn height higher highest numberIn fast foundWith receive receiveTests receivedOf receiveInto firstBadBlock firstBadVote blockAllowed knownAs headerAllowed voteAllowed blocksAfter votesAfter addBlocks addBlock addVotes addVote brings stoodOn first unless sound settingsSound placesSound clockSound blocksSound restSound votesSound between all sameBlock sameVote entries inView show allWaiting packetBytes packetAs headBytes blockBytes voteBytes section flat bytesOf packetOf packetAt entriesAt blockAt voteAt field numberOf wellFormed headerFormed
+unfolding any filter since find slotIn upGo upStep aboveIn above conflict equivocates counted window later latest choiceOf kept count supports weight isChild beats better bestChild walkStep walkIn walk weightAt head base deepGo deepStep deepIn deepFrom deep voteIn validVote quorum heightGo heightStep heightIn height higher highest numberIn fast foundWith receive receiveTests receivedOf receiveInto firstBadBlock firstBadVote blockAllowed knownAs headerAllowed voteAllowed blocksAfter votesAfter addBlocks addBlock addVotes addVote brings stoodOn first unless sound settingsSound placesSound clockSound blocksSound restSound votesSound between all sameBlock sameVote entries inView show allWaiting packetBytes packetAs headBytes blockBytes voteBytes section flat bytesOf packetOf packetAt entriesAt blockAt voteAt field numberOf wellFormed headerFormed
 told =
     record {
       slot-t-hides-nothing = refl;
@@ -125,7 +125,7 @@ pub record Named : Type 0 where
   pub no-place : answered 1 1 11 (block 11 0 1 ∷ []) [] ≡ refused (by 10)
 
 pub named : Named
-unfolding any find foundWith receive receiveTests receivedOf receiveInto firstBadBlock firstBadVote blockAllowed knownAs headerAllowed voteAllowed blocksAfter votesAfter addBlocks addBlock addVotes addVote brings stoodOn first unless sound settingsSound placesSound clockSound blocksSound restSound votesSound between all sameBlock sameVote entries inView show allWaiting packetBytes packetAs headBytes blockBytes voteBytes section flat bytesOf packetOf packetAt entriesAt blockAt voteAt field numberOf wellFormed headerFormed
+unfolding any filter since find foundWith receive receiveTests receivedOf receiveInto firstBadBlock firstBadVote blockAllowed knownAs headerAllowed voteAllowed blocksAfter votesAfter addBlocks addBlock addVotes addVote brings stoodOn first unless sound settingsSound placesSound clockSound blocksSound restSound votesSound between all sameBlock sameVote entries inView show allWaiting packetBytes packetAs headBytes blockBytes voteBytes section flat bytesOf packetOf packetAt entriesAt blockAt voteAt field numberOf wellFormed headerFormed
 named = record { first-block = refl; first-vote = refl; wrong-header = refl; other-slot = refl; no-place = refl }
 
 -- ---- request 2: a voter is dropped for two votes of one slot of the window, and for the fast block for two of slot t
@@ -151,7 +151,7 @@ pub record Doubled : Type 0 where
   pub fast-after : fast blocks (fourWith (vote 0 4 11 ∷ vote 0 4 0 ∷ [])) 5 3 ≡ chosen 11
 
 pub doubled : Doubled
-unfolding any find slotIn upGo upStep aboveIn above conflict equivocates counted window later latest choiceOf kept count supports weight isChild beats better bestChild walkStep walkIn walk weightAt head base voteIn validVote quorum heightGo heightStep heightIn height higher highest numberIn fast
+unfolding any filter since find slotIn upGo upStep aboveIn above conflict equivocates counted window later latest choiceOf kept count supports weight isChild beats better bestChild walkStep walkIn walk weightAt head base voteIn validVote quorum heightGo heightStep heightIn height higher highest numberIn fast
 doubled =
     record {
       too-old = refl;
@@ -180,5 +180,5 @@ pub record Late : Type 0 where
   pub late-fast : fast lateBlocks lateVotes 5 999999999 ≡ chosen 11
 
 pub late : Late
-unfolding any find slotIn upGo upStep aboveIn above conflict equivocates counted window later latest choiceOf kept count supports weight isChild beats better bestChild walkStep walkIn walk weightAt head base deepGo deepStep deepIn deepFrom deep voteIn validVote quorum heightGo heightStep heightIn height higher highest numberIn fast
+unfolding any filter since find slotIn upGo upStep aboveIn above conflict equivocates counted window later latest choiceOf kept count supports weight isChild beats better bestChild walkStep walkIn walk weightAt head base deepGo deepStep deepIn deepFrom deep voteIn validVote quorum heightGo heightStep heightIn height higher highest numberIn fast
 late = record { late-head = refl; late-base = refl; late-deep = refl; late-fast = refl }

@@ -9,4 +9,5 @@ pub mod Packet
 pub mod Calls
 pub mod Exchange
 pub mod Lent
+pub mod Removal
 pub mod Cases

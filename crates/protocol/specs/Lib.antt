@@ -12,3 +12,4 @@ pub mod Refusal
 pub mod Calls
 pub mod Lent
 pub mod RoundTrip
+pub mod Removal

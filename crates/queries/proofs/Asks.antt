@@ -34,7 +34,7 @@ module _ (s : Settings) (slot : ℕ) (m : Lent) {v : Verdict} (h : verdictOf v �
   slot-bound e =
       let a = passed _ _ (passes s _ m (said Pass h e) .1) in
       let b = passed _ _ (a .1) in
-      let seen = ltb-false (m .clock .seen / 3) slot (neither (eqb slot 0) (ltb (m .clock .seen / 3) slot) (b .0) .1) in
+      let seen = ltb-false (m .clock .seen / 3) slot (neither (ltb (m .clock .seen / 3) slot) _ (neither (eqb slot 0) _ (b .0) .1) .0) in
       omega (arith, seen, pass-ready s _ m (said Pass h e) .clock)
 
   pub head-leaves : {e : Refusal} → v ≡ Refuse e → IsHead s m slot (answer.Refused e)

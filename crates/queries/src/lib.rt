@@ -1,4 +1,4 @@
-// Head, Deep and Fast: questions about a slot, over the view. The memory is only read.
+// Head, Deep and Fast: questions about a slot, from the one last merged to the one seen, over the view. The memory is only read.
 // Each takes any memory that a caller may lend: the verdict comes first.
 use answers::Answer;
 use protocol::Clock;

@@ -12,7 +12,7 @@ use Rattle.protocol.specs.Chain.{known}
 use Rattle.protocol.specs.Store.{Marked, entries, inView, allWaiting, show, sameVote}
 use Rattle.protocol.specs.Packet.{Packet}
 use Rattle.protocol.specs.Lent.{Make, rowsOf, stored, makeBlock, blockRow, marksSound}
-use Rattle.protocol.specs.Calls.Receive.{addBlocks, addVotes, blocksAfter, votesAfter, stoodOn, receiveInto}
+use Rattle.protocol.specs.Calls.Receive.{addBlocks, addSince, blocksAfter, votesAfter, stoodOn, receiveInto}
 use Rattle.protocol.proofs.Store.FirstBad.{votes-allowed}
 use Rattle.protocol.proofs.Store.Growth.{Added, added-blocks, table-grow}
 use Rattle.protocol.proofs.Store.New.{newBlocksOf, knowsBlock, adding-blocks}
@@ -74,22 +74,22 @@ module _ (ms : List (Marked Block)) (p : Packet) (K : Accepted ms p) where
 -- ---- what Receive leaves
 
 module _ (ms : List (Marked Block)) (p : Packet) where
-  pub blocks-kept : receiveInto false 0 (onlyBlocks ms) p .blocks ≡ grown addBlocks ms (p .blocks)
+  pub blocks-kept : receiveInto 0 false 0 (onlyBlocks ms) p .blocks ≡ grown addBlocks ms (p .blocks)
   unfolding receiveInto blocksAfter grown
   blocks-kept = show-none (λ b. false) (λ b. refl) (ms ++ allWaiting (drop (length ms) (addBlocks (entries ms) (p .blocks))))
 
-  blocks-brought : receiveInto true 0 (onlyBlocks ms) p .blocks
+  blocks-brought : receiveInto 0 true 0 (onlyBlocks ms) p .blocks
       ≡ show (λ b. stoodOn (entries (grown addBlocks ms (p .blocks))) p b) (grown addBlocks ms (p .blocks))
   blocks-brought =
       unfold receiveInto blocksAfter grown in (
       ap (λ (bs : List Block). show (λ b. stoodOn bs p b) (grown addBlocks ms (p .blocks))) (sym (entries-grown knowsBlock addBlocks adding-blocks ms (p .blocks))))
 
-module _ (ms : List (Marked Vote)) (p : Packet) where
-  pub votes-kept : receiveInto false 0 (onlyVotes ms) p .votes ≡ grown addVotes ms (p .votes)
+module _ (from : ℕ) (ms : List (Marked Vote)) (p : Packet) where
+  pub votes-kept : receiveInto from false 0 (onlyVotes ms) p .votes ≡ grown (addSince from) ms (p .votes)
   unfolding receiveInto votesAfter grown
-  votes-kept = show-none (λ a. false) (λ a. refl) (ms ++ allWaiting (drop (length ms) (addVotes (entries ms) (p .votes))))
+  votes-kept = show-none (λ a. false) (λ a. refl) (ms ++ allWaiting (drop (length ms) (addSince from (entries ms) (p .votes))))
 
-  pub votes-brought : receiveInto true 0 (onlyVotes ms) p .votes ≡ show (λ a. any (sameVote a) (p .votes)) (grown addVotes ms (p .votes))
+  pub votes-brought : receiveInto from true 0 (onlyVotes ms) p .votes ≡ show (λ a. any (sameVote a) (p .votes)) (grown (addSince from) ms (p .votes))
   unfolding receiveInto votesAfter grown
   votes-brought = refl
 
@@ -113,7 +113,7 @@ module _ {A : Type 0} {make : Make (Marked A)} {row : Marked A → List ℕ} (co
 
 pub blocks-shown : (ms : List (Marked Block)) (p : Packet) (ws₀ : List ℕ) {ws ws′ : List ℕ} {u : ℕ} → Holds (Marked Block) blockRow (grown addBlocks ms (p .blocks)) ws₀ ws u
     → ws′ ≡ stored blockRow (show (λ b. stoodOn (entries (rowsOf makeBlock ws u)) p b) (rowsOf makeBlock ws u)) ws
-    → Holds (Marked Block) blockRow (receiveInto true 0 (onlyBlocks ms) p .blocks) ws₀ ws′ u
+    → Holds (Marked Block) blockRow (receiveInto 0 true 0 (onlyBlocks ms) p .blocks) ws₀ ws′ u
 blocks-shown ms p ws₀ {ws} {ws′} {u} h e =
     let new = grown addBlocks ms (p .blocks) in
     rw (blocks-brought ms p)

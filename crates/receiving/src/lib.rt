@@ -14,7 +14,7 @@ ghost use Rattle.protocol.specs.Lists.{any};
 ghost use Rattle.protocol.specs.Store.{Marked, entries, show, sameVote};
 ghost use Rattle.protocol.specs.Packet.{packetOf};
 ghost use Rattle.protocol.specs.Lent.{rowsOf, stored, makeBlock, makeVote, blockRow, voteRow, marksSound};
-ghost use Rattle.protocol.specs.Calls.Receive.{addBlocks, addVotes, stoodOn, receiveInto, brings as bringsIn};
+ghost use Rattle.protocol.specs.Calls.Receive.{addBlocks, addSince, stoodOn, receiveInto, brings as bringsIn};
 ghost use Rattle.storing.specs.Grown.{Holds};
 ghost use Rattle.views.specs.Ancestors.{Ordered};
 ghost use Rattle.views.specs.Indexed.{BlocksIndexed};
@@ -56,7 +56,7 @@ fn show_blocks(blocks: &mut [u64], used: usize, links: &[u16], bytes: &[u8])
     }
 }
 
-// The blocks that the packet's votes are for, looked up in the same way.
+// The blocks that the packet's votes are for, old ones too, looked up in the same way.
 fn show_voted(blocks: &mut [u64], used: usize, links: &[u16], bytes: &[u8])
     requires { ⌜ (4 * used ≤ length (now blocks)) × (marksSound (now blocks) used ≡ true) × Ordered (rowsOf makeBlock (now blocks) used)
         × BlocksIndexed (now blocks) used (now links) ⌝ }
@@ -85,7 +85,7 @@ fn show_stood_on(blocks: &mut [u64], used: usize, bytes: &[u8])
     views::show_ancestors(blocks, used, &links);
 }
 
-// The packet's votes. Stack: 80 KiB of links.
+// The packet's votes, as far as they are stored. Stack: 80 KiB of links.
 fn show_votes(votes: &mut [u64], used: usize, bytes: &[u8])
     requires { ⌜ (4 * used ≤ length (now votes)) × (marksSound (now votes) used ≡ true) ⌝ }
     ensures { λ r. ⌜ now (votes .exit) ≡ stored voteRow (show (λ a. any (sameVote a) (packetOf (now (bytes .entry)) .votes)) (rowsOf makeVote (now (votes .entry)) used)) (now (votes .entry)) ⌝ }
@@ -107,7 +107,7 @@ fn show_votes(votes: &mut [u64], used: usize, bytes: &[u8])
 // The blocks of an accepted packet, which comes into view or not.
 pub fn receive_blocks(blocks: &mut [u64], used: &mut usize, bytes: &[u8], brought: bool)
     requires { ⌜ (4 * length (addBlocks (entries (rowsOf makeBlock (now blocks) (now used))) (packetOf (now bytes) .blocks)) ≤ length (now blocks)) × (marksSound (now blocks) (now used) ≡ true) × Accepted (rowsOf makeBlock (now blocks) (now used)) (packetOf (now bytes)) ⌝ }
-    ensures { λ r. ⌜ Holds (Marked Block) blockRow (receiveInto brought 0 (onlyBlocks (rowsOf makeBlock (now (blocks .entry)) (now (used .entry)))) (packetOf (now (bytes .entry))) .blocks) (now (blocks .entry)) (now (blocks .exit)) (now (used .exit)) ⌝ }
+    ensures { λ r. ⌜ Holds (Marked Block) blockRow (receiveInto 0 brought 0 (onlyBlocks (rowsOf makeBlock (now (blocks .entry)) (now (used .entry)))) (packetOf (now (bytes .entry))) .blocks) (now (blocks .entry)) (now (blocks .exit)) (now (used .exit)) ⌝ }
 {
     storing::add_blocks(blocks, used, bytes);
     if brought {
@@ -116,12 +116,12 @@ pub fn receive_blocks(blocks: &mut [u64], used: &mut usize, bytes: &[u8], brough
     }
 }
 
-// The votes of a packet, which comes into view or not.
-pub fn receive_votes(votes: &mut [u64], used: &mut usize, bytes: &[u8], brought: bool)
-    requires { ⌜ (4 * length (addVotes (entries (rowsOf makeVote (now votes) (now used))) (packetOf (now bytes) .votes)) ≤ length (now votes)) × (marksSound (now votes) (now used) ≡ true) ⌝ }
-    ensures { λ r. ⌜ Holds (Marked Vote) voteRow (receiveInto brought 0 (onlyVotes (rowsOf makeVote (now (votes .entry)) (now (used .entry)))) (packetOf (now (bytes .entry))) .votes) (now (votes .entry)) (now (votes .exit)) (now (used .exit)) ⌝ }
+// The votes of a packet, which comes into view or not. Old ones, of slots below `from`, are not stored.
+pub fn receive_votes(votes: &mut [u64], used: &mut usize, bytes: &[u8], from: u64, brought: bool)
+    requires { ⌜ (4 * length (addSince from (entries (rowsOf makeVote (now votes) (now used))) (packetOf (now bytes) .votes)) ≤ length (now votes)) × (marksSound (now votes) (now used) ≡ true) ⌝ }
+    ensures { λ r. ⌜ Holds (Marked Vote) voteRow (receiveInto from brought 0 (onlyVotes (rowsOf makeVote (now (votes .entry)) (now (used .entry)))) (packetOf (now (bytes .entry))) .votes) (now (votes .entry)) (now (votes .exit)) (now (used .exit)) ⌝ }
 {
-    storing::add_votes(votes, used, bytes);
+    storing::add_votes(votes, used, bytes, from);
     if brought {
         let n = *used;
         show_votes(votes, n, bytes);

@@ -56,8 +56,8 @@ module _ {A : Type 0} {make : Make A} {row : A → List ℕ} (codec : Codec A ma
   put-after ws n a k h =
       ap (λ (w : List ℕ). putRow w n (row a)) (sym (stored-same codec ws n k h)) ∙ put-end (rowsOf make ws n) ws a n (length-rowsOf make ws n)
 
-  -- the row after those stored is as it was
-  pub row-after : (rs : List A) (ws : List ℕ) (n : ℕ) → length rs ≡ n → rowAt make (stored row rs ws) n ≡ rowAt make ws n
+  -- a row after those stored is as it was
+  pub row-after : (rs : List A) (ws : List ℕ) (n : ℕ) → length rs ≤ n → rowAt make (stored row rs ws) n ≡ rowAt make ws n
   row-after rs ws n e =
       sym (head-at make (stored row rs ws) n) ∙ ap (headRow make) (drop-stored codec rs ws (4 * n) (omega arith)) ∙ head-at make ws n
 

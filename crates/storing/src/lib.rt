@@ -18,7 +18,7 @@ ghost use Rattle.protocol.specs.Chain.{known};
 ghost use Rattle.protocol.specs.Store.{Marked, entries, sameVote};
 ghost use Rattle.protocol.specs.Packet.{packetOf};
 ghost use Rattle.protocol.specs.Lent.{rowsOf, makeBlock, makeVote, blockRow, voteRow, marksSound};
-ghost use Rattle.protocol.specs.Calls.Receive.{addBlocks, addVotes};
+ghost use Rattle.protocol.specs.Calls.Receive.{addBlocks, addSince};
 ghost use Rattle.storing.specs.Grown.{grown, Holds};
 ghost use Rattle.storing.specs.Indexed.{BlocksIndexed, VotesIndexed};
 
@@ -120,12 +120,22 @@ fn knows_vote(votes: &[u64], used: usize, most: usize, links: &[u16], vote: Vote
     rows::find_vote(votes, 0, used, vote)
 }
 
-// A vote goes to the end, waiting, unless it is there; and joins the index. Two descents, or a search.
-fn add_vote(votes: &mut [u64], used: &mut usize, most: usize, links: &mut [u16], vote: Vote)
-    requires { ⌜ (4 * length (addVotes (entries (rowsOf makeVote (now votes) (now used))) (vote ∷ [])) ≤ length (now votes)) × (marksSound (now votes) (now used) ≡ true) × (most ≤ 8193) × VotesIndexed most (now votes) (now used) (now links) ⌝ }
-    ensures { λ r. ⌜ Holds (Marked Vote) voteRow (grown addVotes (rowsOf makeVote (now (votes .entry)) (now (used .entry))) (vote ∷ [])) (now (votes .entry)) (now (votes .exit)) (now (used .exit))
+// A vote goes to the end, waiting, unless it is old, of a slot below `from`, or is there; and joins the index. Two descents, or a search.
+fn add_vote(
+    votes: &mut [u64],
+    used: &mut usize,
+    from: u64,
+    most: usize,
+    links: &mut [u16],
+    vote: Vote,
+)
+    requires { ⌜ (4 * length (addSince from (entries (rowsOf makeVote (now votes) (now used))) (vote ∷ [])) ≤ length (now votes)) × (marksSound (now votes) (now used) ≡ true) × (most ≤ 8193) × VotesIndexed most (now votes) (now used) (now links) ⌝ }
+    ensures { λ r. ⌜ Holds (Marked Vote) voteRow (grown (addSince from) (rowsOf makeVote (now (votes .entry)) (now (used .entry))) (vote ∷ [])) (now (votes .entry)) (now (votes .exit)) (now (used .exit))
         × VotesIndexed most (now (votes .exit)) (now (used .exit)) (now (links .exit)) ⌝ }
 {
+    if vote.slot < from {
+        return;
+    }
     let n = *used;
     if knows_vote(votes, n, most, links, vote) {
         return;
@@ -138,34 +148,41 @@ fn add_vote(votes: &mut [u64], used: &mut usize, most: usize, links: &mut [u16],
 }
 
 // The packet's votes, in order. The earlier ones are in the table by then, so each is looked up there alone.
-fn store_votes(votes: &mut [u64], used: &mut usize, bytes: &[u8], most: usize, links: &mut [u16])
-    requires { ⌜ (4 * length (addVotes (entries (rowsOf makeVote (now votes) (now used))) (packetOf (now bytes) .votes)) ≤ length (now votes)) × (marksSound (now votes) (now used) ≡ true) × (most ≤ 8193) × VotesIndexed most (now votes) (now used) (now links) ⌝ }
-    ensures { λ r. ⌜ Holds (Marked Vote) voteRow (grown addVotes (rowsOf makeVote (now (votes .entry)) (now (used .entry))) (packetOf (now (bytes .entry)) .votes)) (now (votes .entry)) (now (votes .exit)) (now (used .exit)) ⌝ }
+fn store_votes(
+    votes: &mut [u64],
+    used: &mut usize,
+    bytes: &[u8],
+    from: u64,
+    most: usize,
+    links: &mut [u16],
+)
+    requires { ⌜ (4 * length (addSince from (entries (rowsOf makeVote (now votes) (now used))) (packetOf (now bytes) .votes)) ≤ length (now votes)) × (marksSound (now votes) (now used) ≡ true) × (most ≤ 8193) × VotesIndexed most (now votes) (now used) (now links) ⌝ }
+    ensures { λ r. ⌜ Holds (Marked Vote) voteRow (grown (addSince from) (rowsOf makeVote (now (votes .entry)) (now (used .entry))) (packetOf (now (bytes .entry)) .votes)) (now (votes .entry)) (now (votes .exit)) (now (used .exit)) ⌝ }
 {
     let h = packets::header_of(bytes);
     let count = h.votes as usize;
     let mut i: usize = 0;
     while i < count {
         let vote = packets::vote_at(bytes, i);
-        add_vote(votes, used, most, links, vote);
+        add_vote(votes, used, from, most, links, vote);
         i += 1;
     }
 }
 
-// The packet's votes are added. The cost is a descent for each row of the table and two for each vote of the packet; fewer than
+// The packet's votes of slot `from` and later are added. The cost is a descent for each row of the table and two for each vote of the packet; fewer than
 // 8 votes are searched for, which costs less. Stack: 80 KiB for the links of 8,192 votes.
-pub fn add_votes(votes: &mut [u64], used: &mut usize, bytes: &[u8])
-    requires { ⌜ (4 * length (addVotes (entries (rowsOf makeVote (now votes) (now used))) (packetOf (now bytes) .votes)) ≤ length (now votes)) × (marksSound (now votes) (now used) ≡ true) ⌝ }
-    ensures { λ r. ⌜ Holds (Marked Vote) voteRow (grown addVotes (rowsOf makeVote (now (votes .entry)) (now (used .entry))) (packetOf (now (bytes .entry)) .votes)) (now (votes .entry)) (now (votes .exit)) (now (used .exit)) ⌝ }
+pub fn add_votes(votes: &mut [u64], used: &mut usize, bytes: &[u8], from: u64)
+    requires { ⌜ (4 * length (addSince from (entries (rowsOf makeVote (now votes) (now used))) (packetOf (now bytes) .votes)) ≤ length (now votes)) × (marksSound (now votes) (now used) ≡ true) ⌝ }
+    ensures { λ r. ⌜ Holds (Marked Vote) voteRow (grown (addSince from) (rowsOf makeVote (now (votes .entry)) (now (used .entry))) (packetOf (now (bytes .entry)) .votes)) (now (votes .entry)) (now (votes .exit)) (now (used .exit)) ⌝ }
 {
     let h = packets::header_of(bytes);
     if h.votes < 8 {
         let mut none = [0u16; 1];
-        store_votes(votes, used, bytes, 0, &mut none);
+        store_votes(votes, used, bytes, from, 0, &mut none);
         return;
     }
     let mut links = [0u16; 40960];
     let n = *used;
     index_votes(votes, n, &mut links);
-    store_votes(votes, used, bytes, 8193, &mut links);
+    store_votes(votes, used, bytes, from, 8193, &mut links);
 }

@@ -5,6 +5,7 @@ use mathlib.Core.Bool.{Bool}
 use mathlib.Core.List.{List}
 use lib.ListN.{length}
 use Rattle.protocol.specs.declared.Settings.{Settings}
+use Rattle.protocol.specs.Store.{keptFrom}
 use Rattle.protocol.specs.Packet.{packetOf}
 use Rattle.protocol.specs.Refusal.{Refusal, pass, refuse, refused, done}
 use Rattle.protocol.specs.Calls.Receive.{brings, receiveTests, receivedOf, receiveInto, receive}
@@ -22,15 +23,15 @@ module _ (s : Settings) (m : Lent) where
     pub receive-refused : (k : Refusal) → lentVerdict s (λ p x. receiveTests s p x beat bytes) m ≡ refuse k
         → callLent s (λ p x. receive s p x beat bytes) m ≡ record { reply = refused k; lent = m }
     unfolding receive
-    receive-refused = call-refused s (λ p x. receiveTests s p x beat bytes) m (λ p x. receivedOf x beat (packetOf bytes)) (λ p x. receiveInto (brings x beat (packetOf bytes)) beat x (packetOf bytes))
+    receive-refused = call-refused s (λ p x. receiveTests s p x beat bytes) m (λ p x. receivedOf (keptFrom s (x .clock .merged)) x beat (packetOf bytes)) (λ p x. receiveInto (keptFrom s (x .clock .merged)) (brings x beat (packetOf bytes)) beat x (packetOf bytes))
 
     pub receive-done : lentVerdict s (λ p x. receiveTests s p x beat bytes) m ≡ pass
         → callLent s (λ p x. receive s p x beat bytes) m ≡ record {
-          reply = done (receivedOf (nodeOf m) beat (packetOf bytes));
-          lent = storeNode (receiveInto (brings (nodeOf m) beat (packetOf bytes)) beat (nodeOf m) (packetOf bytes)) m;
+          reply = done (receivedOf (keptFrom s (m .clock .merged)) (nodeOf m) beat (packetOf bytes));
+          lent = storeNode (receiveInto (keptFrom s (m .clock .merged)) (brings (nodeOf m) beat (packetOf bytes)) beat (nodeOf m) (packetOf bytes)) m;
         }
-    unfolding receive
-    receive-done = call-done s (λ p x. receiveTests s p x beat bytes) m (λ p x. receivedOf x beat (packetOf bytes)) (λ p x. receiveInto (brings x beat (packetOf bytes)) beat x (packetOf bytes))
+    unfolding receive nodeOf
+    receive-done = call-done s (λ p x. receiveTests s p x beat bytes) m (λ p x. receivedOf (keptFrom s (x .clock .merged)) x beat (packetOf bytes)) (λ p x. receiveInto (keptFrom s (x .clock .merged)) (brings x beat (packetOf bytes)) beat x (packetOf bytes))
 
   module _ (beat number : ℕ) where
     pub propose-refused : (k : Refusal) → lentVerdict s (λ p x. proposeTests s p x beat number) m ≡ refuse k
@@ -55,12 +56,12 @@ module _ (s : Settings) (m : Lent) where
 
     pub merge-refused : (k : Refusal) → lentVerdict s (λ p x. mergeTests s p x beat) m ≡ refuse k → callLent s (λ p x. merge s p x beat) m ≡ record { reply = refused k; lent = m }
     unfolding merge
-    merge-refused = call-refused s (λ p x. mergeTests s p x beat) m (λ p x. tt) (λ p x. mergeInto x beat)
+    merge-refused = call-refused s (λ p x. mergeTests s p x beat) m (λ p x. tt) (λ p x. mergeInto (keptFrom s (beat / 3)) x beat)
 
     pub merge-done : lentVerdict s (λ p x. mergeTests s p x beat) m ≡ pass
-        → callLent s (λ p x. merge s p x beat) m ≡ record { reply = done tt; lent = storeNode (mergeInto (nodeOf m) beat) m }
+        → callLent s (λ p x. merge s p x beat) m ≡ record { reply = done tt; lent = storeNode (mergeInto (keptFrom s (beat / 3)) (nodeOf m) beat) m }
     unfolding merge
-    merge-done = call-done s (λ p x. mergeTests s p x beat) m (λ p x. tt) (λ p x. mergeInto x beat)
+    merge-done = call-done s (λ p x. mergeTests s p x beat) m (λ p x. tt) (λ p x. mergeInto (keptFrom s (beat / 3)) x beat)
 
   module _ (slot : ℕ) (k : Refusal) (e : lentVerdict s (λ p x. queryTests s p x slot) m ≡ refuse k) where
     pub head-refused : askLent s (λ p x. headQuery s p x slot) m ≡ refused k

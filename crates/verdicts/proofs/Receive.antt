@@ -1,6 +1,6 @@
 -- Receive's tests by what code computes: the first bad entries, and places counted. Assumes nothing.
 use Prim.Native.Nat.{ℕ, _+_, _-_, _/_, _<_, _≤_}
-use mathlib.Core.Path.{_≡_, sym, _∙_}
+use mathlib.Core.Path.{_≡_, sym, ap, _∙_}
 use mathlib.Core.Bool.{Bool, true, false, not, _||_}
 use mathlib.Core.List.{List, [], _∷_}
 use native.Mathlib.Omega.{arith}
@@ -9,11 +9,11 @@ use lib.ListN.{length}
 use borrow.Author.Tests.{lt-ltb, le-ltb}
 use Rattle.protocol.specs.declared.Settings.{Settings}
 use Rattle.protocol.specs.declared.Block.{Block}
-use Rattle.protocol.specs.Store.{entries}
+use Rattle.protocol.specs.Store.{entries, keptFrom}
 use Rattle.protocol.specs.Packet.{packetOf, wellFormed}
 use Rattle.protocol.specs.Refusal as rules
 use Rattle.protocol.specs.Refusal.{by, byEntry, test, testSection, pass, refuse, first}
-use Rattle.protocol.specs.Calls.Receive.{addBlocks, addVotes, headerAllowed, firstBadBlock, firstBadVote, blocksAfter, votesAfter, receiveTests}
+use Rattle.protocol.specs.Calls.Receive.{addBlocks, addSince, headerAllowed, firstBadBlock, firstBadVote, blocksAfter, votesAfter, receiveTests}
 use Rattle.protocol.specs.Lent.{Lent, rowsOf, makeBlock, makeVote, placesIn, placesOf, nodeOf}
 use Rattle.verdicts.specs.declared.Verdict.{Verdict}
 use Rattle.verdicts.specs.declared.Verdict.the-variants.{Pass}
@@ -37,8 +37,12 @@ module _ (s : Settings) (m : Lent) (beat : ℕ) (bytes : List ℕ) {v : Verdict}
   abbrev blockCount : ℕ
   blockCount = length (addBlocks blocks (packetOf bytes .blocks))
 
+  -- votes, of slot `from` and later
+  abbrev votesSince : ℕ → ℕ
+  votesSince from = length (addSince from (entries (rowsOf makeVote (m .votes) (m .votesUsed))) (packetOf bytes .votes))
+
   abbrev voteCount : ℕ
-  voteCount = length (addVotes (entries (rowsOf makeVote (m .votes) (m .votesUsed))) (packetOf bytes .votes))
+  voteCount = votesSince (keptFrom s (m .clock .merged))
 
   abbrev decided : rules.Verdict
   decided = lentVerdict s (λ p x. receiveTests s p x beat bytes) m
@@ -86,11 +90,11 @@ module _ (s : Settings) (m : Lent) (beat : ℕ) (bytes : List ℕ) {v : Verdict}
             blocks-fit : ltb p (m .blocksUsed + n) ≡ false
             blocks-fit = le-ltb p (m .blocksUsed + n) (omega (arith, R .fit-blocks))
 
-            module _ {q : ℕ} (vote-places : q ≡ placesIn (m .votes)) {k : ℕ} (new-votes : m .votesUsed + k ≡ voteCount) where
+            module _ {q : ℕ} (vote-places : q ≡ placesIn (m .votes)) {from : ℕ} (kept : from ≡ keptFrom s (m .clock .merged)) {k : ℕ} (new-votes : m .votesUsed + k ≡ votesSince from) where
               pub votes-full : q - m .votesUsed < k → refuse (by 10) ≡ decided
               votes-full h =
-                  sym (left ∙ unfold first in (rw (allowed, sym new, sym places, blocks-fit, sym new-votes, sym vote-places, lt-ltb q (m .votesUsed + k) (omega arith))))
+                  sym (left ∙ unfold first in (rw (allowed, sym new, sym places, blocks-fit, sym (new-votes ∙ ap votesSince kept), sym vote-places, lt-ltb q (m .votesUsed + k) (omega arith))))
 
               pub room : k ≤ q - m .votesUsed → pass ≡ decided
               room h =
-                  sym (left ∙ unfold first in (rw (allowed, sym new, sym places, blocks-fit, sym new-votes, sym vote-places, le-ltb q (m .votesUsed + k) (omega (arith, R .fit-votes)))))
+                  sym (left ∙ unfold first in (rw (allowed, sym new, sym places, blocks-fit, sym (new-votes ∙ ap votesSince kept), sym vote-places, le-ltb q (m .votesUsed + k) (omega (arith, R .fit-votes)))))

@@ -7,10 +7,10 @@ use native.Mathlib.Omega.{arith}
 use lib.ListN.{length}
 use borrow.Author.Tests.{ltb-false}
 use Rattle.protocol.specs.declared.Settings.{Settings}
-use Rattle.protocol.specs.Store.{entries}
+use Rattle.protocol.specs.Store.{entries, keptFrom}
 use Rattle.protocol.specs.Packet.{packetOf}
 use Rattle.protocol.specs.Refusal.{pass}
-use Rattle.protocol.specs.Calls.Receive.{addBlocks, addVotes, blocksAfter, votesAfter, receiveTests}
+use Rattle.protocol.specs.Calls.Receive.{addBlocks, addSince, blocksAfter, votesAfter, receiveTests}
 use Rattle.protocol.specs.Calls.Propose.{proposeTests}
 use Rattle.protocol.specs.Calls.Vote.{voteTests}
 use Rattle.protocol.specs.Calls.Write.{packetOut, writeTests}
@@ -28,7 +28,7 @@ module _ (s : Settings) (m : Lent) where
     unfolding nodeOf placesOf blocksAfter
     receive-room-blocks = places-fit (m .blocks) _ (receives s (placesOf m) (nodeOf m) beat bytes (passes s _ m e .1) .room-blocks)
 
-    pub receive-room-votes : 4 * length (addVotes (entries (rowsOf makeVote (m .votes) (m .votesUsed))) (packetOf bytes .votes)) ≤ length (m .votes)
+    pub receive-room-votes : 4 * length (addSince (keptFrom s (m .clock .merged)) (entries (rowsOf makeVote (m .votes) (m .votesUsed))) (packetOf bytes .votes)) ≤ length (m .votes)
     unfolding nodeOf placesOf votesAfter
     receive-room-votes = places-fit (m .votes) _ (receives s (placesOf m) (nodeOf m) beat bytes (passes s _ m e .1) .room-votes)
 

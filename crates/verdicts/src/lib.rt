@@ -48,7 +48,7 @@ pub enum Refusal {
     Number,
     // an own vote for the slot is known
     Voted,
-    // a question about slot 0, or a slot above the one seen
+    // a question about slot 0, a slot above the one seen, or one before the slot last merged
     Slot,
     // the buffer is too short
     Buffer,
@@ -245,7 +245,8 @@ pub fn receive_verdict(
     if ranges::places_in(blocks) - blocks_used < counting::new_blocks(blocks, blocks_used, bytes) {
         return Verdict::Refuse(Refusal::Places);
     }
-    if ranges::places_in(votes) - votes_used < counting::new_votes(votes, votes_used, bytes) {
+    let from = own::kept_from(settings, clock.merged);
+    if ranges::places_in(votes) - votes_used < counting::new_votes(votes, votes_used, bytes, from) {
         return Verdict::Refuse(Refusal::Places);
     }
     Verdict::Pass
@@ -371,6 +372,9 @@ pub fn query_verdict(
         return Verdict::Refuse(Refusal::Slot);
     }
     if clock.seen / 3 < slot {
+        return Verdict::Refuse(Refusal::Slot);
+    }
+    if slot < clock.merged {
         return Verdict::Refuse(Refusal::Slot);
     }
     Verdict::Pass

@@ -212,14 +212,14 @@ fn waiting_votes() {
     assert_eq!(node.clone().propose(21, 99), Ok(11));
     node.merge(23).unwrap();
     assert_eq!(node.head(7), Ok(11));
-    // The fast block does not look at it either.
+    // The fast block does not look at one of its slot either.
     let mut node = at_slot_7(fork(3));
-    add_double(&mut node, 5);
+    add_double(&mut node, 7);
     node.votes[1].in_view = false;
     for voter in [1, 2] {
-        add_vote(&mut node, vote(voter, 5, 21));
+        add_vote(&mut node, vote(voter, 7, 21));
     }
-    assert_eq!(node.fast(5), Ok(Some(21)));
+    assert_eq!(node.fast(7), Ok(Some(21)));
     node.merge(23).unwrap();
-    assert_eq!(node.fast(5), Ok(None));
+    assert_eq!(node.fast(7), Ok(None));
 }

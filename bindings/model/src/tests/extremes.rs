@@ -2,19 +2,7 @@
 
 use super::*;
 
-/// A small generator of numbers.
-struct Draw(u64);
-
 impl Draw {
-    fn next(&mut self) -> u64 {
-        self.0 = self.0.wrapping_mul(6_364_136_223_846_793_005).wrapping_add(1_442_695_040_888_963_407);
-        self.0 >> 33
-    }
-
-    fn of<T: Copy>(&mut self, values: &[T]) -> T {
-        values[self.next() as usize % values.len()]
-    }
-
     /// Mostly small, at times huge.
     fn value(&mut self) -> u64 {
         let small = self.next() % 5;
@@ -23,10 +11,6 @@ impl Draw {
         } else {
             small
         }
-    }
-
-    fn yes(&mut self) -> bool {
-        self.next() % 2 == 0
     }
 }
 

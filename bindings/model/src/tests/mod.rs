@@ -2,7 +2,9 @@
 
 mod doubles;
 mod extremes;
+mod old_votes;
 mod packets;
+mod pairs;
 mod places;
 mod program;
 mod receive;
@@ -58,7 +60,8 @@ pub fn add_vote(node: &mut Node, vote: Vote) {
     node.votes_used += 1;
 }
 
-/// The shed of document 01 with K = 3, after the merge of slot 4.
+/// The shed of document 01 with K = 3, slot 4 last merged. Merge would have removed its vote of slot 1; such tables are
+/// sound all the same.
 pub fn shed() -> Node {
     let mut node = fresh(5, 0, 2, 3);
     node.clock = Clock { seen: 14, done: 14, merged: 4, proposed: 0 };
@@ -69,6 +72,24 @@ pub fn shed() -> Node {
         add_vote(&mut node, vote(voter, slot, number));
     }
     node
+}
+
+/// A small generator of numbers.
+pub struct Draw(pub u64);
+
+impl Draw {
+    pub fn next(&mut self) -> u64 {
+        self.0 = self.0.wrapping_mul(6_364_136_223_846_793_005).wrapping_add(1_442_695_040_888_963_407);
+        self.0 >> 33
+    }
+
+    pub fn of<T: Copy>(&mut self, values: &[T]) -> T {
+        values[self.next() as usize % values.len()]
+    }
+
+    pub fn yes(&mut self) -> bool {
+        self.next() % 2 == 0
+    }
 }
 
 /// The bytes of a packet.

@@ -64,13 +64,19 @@ fn one_place_each() {
     assert_eq!(node.merge(5), Ok(()));
     assert_eq!((node.head(1), node.deep(1), node.fast(1)), (Ok(0), Ok(0), Ok(Some(0))));
     assert_eq!(node.vote(7), Err(10));
+    // With E = 1 the vote of slot 1 is kept at the merge of slot 2 and leaves at that of slot 3.
+    assert_eq!(node.merge(8), Ok(()));
+    assert_eq!(node.vote(10), Err(10));
+    assert_eq!(node.merge(11), Ok(()));
+    assert_eq!(node.vote(13), Ok(0));
+    assert_eq!(node.votes, [Vote { in_view: false, ..vote(0, 4, 0) }]);
 }
 
 #[test]
 fn the_largest_tables() {
-    // A chain of 2,047 blocks, block i in slot i; 64 voters in each of slots 1900 to 2027, for the slot's block.
+    // A chain of 2,047 blocks, block i in slot i; 64 voters in each of slots 1920 to 2047, for the slot's block.
     let blocks: Vec<(u64, u64, u32)> = (1..=2047).map(|i| (i, i - 1, i as u32)).collect();
-    let slots = 1900..2028;
+    let slots = 1920..2048;
     let votes: Vec<(u8, u32, u64)> =
         slots.flat_map(|slot| (0..64).map(move |voter| (voter, slot, u64::from(slot)))).collect();
     assert_eq!((blocks.len(), votes.len()), (2047, 8192));
@@ -83,10 +89,18 @@ fn the_largest_tables() {
     assert_eq!((node.head(2047), node.deep(2047)), (Ok(0), Ok(0)));
     node.merge(3 * 2047 + 2).unwrap();
     assert_eq!((node.head(2047), node.deep(2047)), (Ok(2047), Ok(1947)));
-    assert_eq!((node.fast(2027), node.fast(2028)), (Ok(Some(2027)), Ok(None)));
+    assert_eq!((node.fast(2046), node.fast(2047), node.fast(2048)), (Err(17), Ok(Some(2047)), Err(17)));
     let mut buffer = vec![0; 147_453];
     assert_eq!(node.write(false, &mut buffer), Ok(147_453));
     assert_eq!(buffer, bytes);
     assert_eq!(node.receive(3 * 2047 + 2, &gossip(&[(9999, 0, 1)], &[])), whole(10));
     assert_eq!(node.receive(3 * 2047 + 2, &gossip(&[], &[(0, 1, 0)])), whole(10));
+    // So far no slot is below a merged slot less E. At the merge of slot 6,080 those below 1984 are, half of the votes.
+    node.merge(3 * 6080 + 2).unwrap();
+    assert_eq!((node.blocks_used, node.votes_used), (2048, 4096));
+    assert_eq!(node.fast(6080), Ok(None));
+    let (kept, freed) = node.votes.split_at(4096);
+    assert!((0..64).all(|voter| kept[voter] == vote(voter as u64, 1984, 1984)));
+    assert!((0..64).all(|voter| kept[4032 + voter] == vote(voter as u64, 2047, 2047)));
+    assert!(freed.iter().all(|place| *place == NO_VOTE));
 }

@@ -78,7 +78,7 @@ fn vote_rules() {
     for (votes, index) in wrong {
         assert_eq!(at_14(&gossip(&[(41, 31, 4)], votes)), entry(20, index), "{votes:?}");
     }
-    assert_eq!(at_14(&gossip(&[(41, 31, 4)], &[(4, 4, 41), (0, 3, 31), (0, 1, 0)])), waits(1, 3));
+    assert_eq!(at_14(&gossip(&[(41, 31, 4)], &[(4, 4, 41), (0, 3, 31), (0, 2, 0)])), waits(1, 3));
     // A wrong block behind good ones goes before a wrong vote at the front.
     assert_eq!(at_14(&gossip(&[(41, 31, 4), (42, 31, 4), (43, 99, 4)], &[(5, 4, 31)])), entry(9, 2));
 }

@@ -164,7 +164,9 @@ fn merge() {
     assert_eq!(node.merge(17), Ok(()));
     assert_eq!(node.clock, Clock { seen: 17, done: 17, merged: 5, proposed: 5 });
     assert_eq!(blocks_in_view(&node), [0, 11, 21, 31]);
-    assert_eq!(votes_in_view(&node), [(0, 1, 11), (1, 2, 21), (4, 2, 11), (2, 3, 31), (3, 3, 21)]);
+    // With E = 2 the votes of slots 1 and 2 leave.
+    assert_eq!(votes_in_view(&node), [(2, 3, 31), (3, 3, 21)]);
+    assert_eq!((node.blocks_used, node.votes_used), (4, 2));
 }
 
 #[test]
@@ -175,7 +177,7 @@ fn head_deep_fast() {
     refused(&node, |n| n.deep(0), 6);
     refused(&node, |n| n.fast(0), 6);
     node.blocks[0].in_view = true;
-    for slot in [0, 5, u64::MAX] {
+    for slot in [0, 1, 3, 5, u64::MAX] {
         refused(&node, |n| n.head(slot), 17);
         refused(&node, |n| n.deep(slot), 17);
         refused(&node, |n| n.fast(slot), 17);

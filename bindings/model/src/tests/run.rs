@@ -68,8 +68,8 @@ fn three_nodes() {
     for node in &run.nodes {
         assert_eq!((node.head(6), node.deep(6), node.fast(6)), (Ok(106), Ok(105), Ok(Some(106))));
         assert_eq!(blocks_in_view(node), [0, 101, 102, 104, 105, 106]);
-        // Six slots of three votes, without node 0 in slots 3 and 4.
-        assert_eq!(node.votes_used, 16);
+        // Slots 4, 5 and 6 of three votes, without node 0 in slot 4.
+        assert_eq!(node.votes_used, 8);
     }
 }
 
@@ -105,20 +105,22 @@ fn a_replaced_board_counts_again() {
     assert_eq!(node.vote(4), Ok(11));
     node.receive(4, &gossip(&[], &[(1, 1, 11), (1, 1, 21), (2, 1, 21)])).unwrap();
     node.merge(5).unwrap();
+    // All three are needed for a fast block. In slot 1 node 1 is dropped.
+    assert_eq!(node.fast(1), Ok(None));
     // Slots 2 and 3 look back on slot 1, node 1 is dropped: one against one, the smaller number.
     assert_eq!(node.vote(7), Ok(11));
     node.receive(7, &gossip(&[], &[(1, 2, 21), (2, 2, 21)])).unwrap();
     node.merge(8).unwrap();
+    // In slots 2 and 3 it counts, and only block 0 has all three.
+    assert_eq!(node.fast(2), Ok(Some(0)));
     assert_eq!(node.propose(9, 31), Ok(11));
     assert_eq!(node.vote(10), Ok(31));
     node.receive(10, &gossip(&[], &[(1, 3, 21), (2, 3, 21)])).unwrap();
     node.merge(11).unwrap();
+    assert_eq!(node.fast(3), Ok(Some(0)));
     // Slot 4 looks back on slots 2 and 3: two against one.
     assert_eq!(node.vote(13), Ok(21));
     node.receive(13, &gossip(&[], &[(1, 4, 21), (2, 4, 21)])).unwrap();
     node.merge(14).unwrap();
-    assert_eq!((node.head(4), node.deep(4)), (Ok(21), Ok(21)));
-    // All three are needed. In slot 1 node 1 is dropped; in slots 2 and 3 it counts, and only block 0 has all three.
-    let fast: Vec<Option<u64>> = (1..=4).map(|slot| node.fast(slot).unwrap()).collect();
-    assert_eq!(fast, [None, Some(0), Some(0), Some(21)]);
+    assert_eq!((node.head(4), node.deep(4), node.fast(4)), (Ok(21), Ok(21), Ok(Some(21))));
 }

@@ -9,10 +9,18 @@ fn base_for_3(mut node: Node) -> u64 {
     node.propose(9, 99).unwrap()
 }
 
+/// The shed before any merge, so that every slot up to 4 may be queried.
+fn unmerged() -> Node {
+    let mut node = shed();
+    node.clock.merged = 0;
+    node
+}
+
 #[test]
 fn heads() {
     assert_eq!(shed().head(4), Ok(31));
-    assert_eq!(shed().head(3), Ok(31));
+    assert_eq!(unmerged().head(4), Ok(31));
+    assert_eq!(unmerged().head(3), Ok(31));
     let mut added = shed();
     add_vote(&mut added, vote(4, 3, 21));
     assert_eq!(added.head(4), Ok(21));
@@ -50,8 +58,8 @@ fn deep_blocks() {
 
 #[test]
 fn fast_blocks() {
-    assert_eq!(shed().fast(3), Ok(None));
-    let mut node = shed();
+    assert_eq!(unmerged().fast(3), Ok(None));
+    let mut node = unmerged();
     node.votes_used = 0;
     for voter in [0, 1, 2] {
         add_vote(&mut node, vote(voter, 3, 31));
@@ -117,7 +125,7 @@ fn window_of_the_head() {
 
 #[test]
 fn head_stops_below_later_blocks() {
-    let node = shed();
+    let node = unmerged();
     assert_eq!(node.head(1), Ok(11));
     assert_eq!(node.head(2), Ok(11));
     let mut waiting = shed();

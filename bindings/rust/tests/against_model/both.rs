@@ -2,6 +2,7 @@
 //!
 //! The model has tables of blocks and votes. How tables are lent, four words to a row, is said here: the model does not know it.
 
+use crate::old_votes::Removed;
 use likvost::{Clock, Memory, Node, Settings};
 use likvost_model as model;
 use std::fmt::Debug;
@@ -74,6 +75,8 @@ pub struct Both {
     readable: bool,
     /// The words that the model's tables make, and in unused places what stood there.
     lent: Memory,
+    /// For the counts of a test.
+    pub removed: Removed,
 }
 
 impl Both {
@@ -84,6 +87,7 @@ impl Both {
             readable: marks(&memory.blocks, memory.blocks_used) && marks(&memory.votes, memory.votes_used),
             lent: memory.clone(),
             proved: Node::from_memory(settings, memory),
+            removed: Removed::default(),
         }
     }
 
@@ -166,13 +170,15 @@ impl Both {
         reply
     }
 
-    /// The words of the model's used rows, its counts and its clock.
+    /// The words of the model's rows that are in use or were before the call, its counts and its clock.
     fn store(&mut self) {
         let (node, lent) = (&self.model, &mut self.lent);
-        for (row, b) in lent.blocks.chunks_exact_mut(4).zip(&node.blocks[..node.blocks_used]) {
+        let blocks = node.blocks.iter().take(node.blocks_used.max(lent.blocks_used));
+        for (row, b) in lent.blocks.chunks_exact_mut(4).zip(blocks) {
             row.copy_from_slice(&[b.number, b.parent, b.slot, u64::from(b.in_view)]);
         }
-        for (row, v) in lent.votes.chunks_exact_mut(4).zip(&node.votes[..node.votes_used]) {
+        let votes = node.votes.iter().take(node.votes_used.max(lent.votes_used));
+        for (row, v) in lent.votes.chunks_exact_mut(4).zip(votes) {
             row.copy_from_slice(&[v.voter, v.slot, v.number, u64::from(v.in_view)]);
         }
         lent.blocks_used = node.blocks_used;

@@ -23,7 +23,7 @@ fn votes(random: &mut Random, voters: u64, count: u64, from: u64) -> Vec<PacketV
     (0..count)
         .map(|i| {
             let slot = from + i / voters;
-            PacketVote { voter: (i % voters) as u8, slot: slot as u32, number: random.between(1, 4 * slot) }
+            PacketVote { voter: (i % voters) as u8, slot: slot as u32, number: random.between(1, 2047.min(4 * slot)) }
         })
         .collect()
 }
@@ -32,9 +32,10 @@ fn votes(random: &mut Random, voters: u64, count: u64, from: u64) -> Vec<PacketV
 fn largest_tables() {
     let random = &mut Random::new(5);
     let mut run = Run::new(5);
-    // 2,047 blocks reach to slot 512; 64 voters in 128 slots cast 8,192 votes.
-    let packet = gossip(blocks(random, 2047), votes(random, 64, 8192, 384)).encode();
-    let beat = 3 * 520 + 1;
+    // 2,047 blocks reach to slot 512; 64 voters in the 128 slots up to it cast 8,192 votes.
+    let packet = gossip(blocks(random, 2047), votes(random, 64, 8192, 385)).encode();
+    let slot = 512;
+    let beat = 3 * slot + 1;
     // one place too few for the blocks, then for the votes, then enough
     for (block_places, vote_places, refusal) in [(2047, 8192, Some(10)), (2048, 8191, Some(10)), (2048, 8192, None)] {
         let settings = Settings { nodes: 64, own: 3, expiry: 200, depth: 40 };
@@ -52,10 +53,10 @@ fn largest_tables() {
         assert_eq!(make(Call::Write { proposal: false }, &mut buffer), Ok(Answer::Length(packet.len())));
         assert_eq!(buffer[..packet.len()], packet);
         assert_eq!(make(Call::Write { proposal: false }, &mut vec![0; packet.len() - 1]), Err((18, None)));
-        let slot = 512;
-        assert!(make(Call::Head { slot }, &mut []).is_ok());
-        assert!(make(Call::Deep { slot }, &mut []).is_ok());
-        assert!(make(Call::Fast { slot: 400 }, &mut []).is_ok());
+        for question in [|slot| Call::Head { slot }, |slot| Call::Deep { slot }, |slot| Call::Fast { slot }] {
+            assert!(matches!(make(question(slot), &mut []), Ok(Answer::Block(_))));
+            assert_eq!(make(question(slot - 1), &mut []), Err((17, None)));
+        }
         let beat = beat + 2;
         assert_eq!(make(Call::Propose { beat, number: 9 }, &mut []), Err((14, None)));
         assert_eq!(make(Call::Vote { beat: beat + 1 }, &mut []), Err((10, None)));
@@ -64,6 +65,37 @@ fn largest_tables() {
             Ok(Answer::Received { new_blocks: 0, new_votes: 0, brought: false })
         );
     }
+}
+
+/// Half of the votes of full tables leave at a Merge, and others take their places.
+#[test]
+fn freed_places() {
+    let random = &mut Random::new(7);
+    let mut run = Run::new(7);
+    let settings = Settings { nodes: 64, own: 3, expiry: 64, depth: 40 };
+    let mut node = Both::new(settings, zeroed(2048, 8192));
+    let mut make = |call: Call, used: usize| {
+        let reply = run.make(&mut node, &call, &mut []);
+        assert_eq!(node.memory().votes_used, used);
+        reply
+    };
+    let receive = |slot: u64, packet: &[u8]| Call::Receive { beat: 3 * slot, packet: packet.to_vec() };
+    let merge = |slot: u64| Call::Merge { beat: 3 * slot + 2 };
+    let new_votes = |new_votes| Ok(Answer::Received { new_blocks: 0, new_votes, brought: false });
+    assert_eq!(make(Call::Open, 0), Ok(Answer::Done));
+    let first = gossip(blocks(random, 2047), votes(random, 64, 8192, 385)).encode();
+    assert_eq!(make(receive(512, &first), 8192), Ok(Answer::Received { new_blocks: 2047, new_votes: 8192, brought: false }));
+    // Slots 385 to 447 are old after this Merge: 63 slots of 64 votes.
+    assert_eq!(make(merge(512), 8192 - 63 * 64), Ok(Answer::Done));
+    // What left does not come back, and takes no places.
+    assert_eq!(make(receive(600, &first), 8192 - 63 * 64), new_votes(0));
+    let full = gossip(Vec::new(), votes(random, 64, 63 * 64, 513)).encode();
+    assert_eq!(make(receive(600, &full), 8192), new_votes(63 * 64));
+    let one_more = gossip(Vec::new(), votes(random, 1, 1, 600)).encode();
+    assert_eq!(make(receive(600, &one_more), 8192), Err((10, None)));
+    // This Merge keeps slots 536 to 575, and the next one none.
+    assert_eq!(make(merge(600), 40 * 64), Ok(Answer::Done));
+    assert_eq!(make(merge(640), 0), Ok(Answer::Done));
 }
 
 /// Packets that no honest node sends, longer than the places of any index: what is past these is found all the same.

@@ -9,6 +9,7 @@
 
 mod both;
 mod full;
+mod old_votes;
 mod packets;
 mod random;
 mod world;
@@ -54,6 +55,9 @@ fn random_calls() {
     }
     println!("{} proposals came into view on arrival, {} fast blocks", run.brought, run.fast);
     println!("the largest index of a refused block {}, of a refused vote {}", run.deepest[0], run.deepest[1]);
+    for (what, times) in run.old_votes.list() {
+        println!("{what}: {times}");
+    }
     if calls >= 100_000 {
         for (call, expected) in REPLIES.iter().enumerate() {
             for &reply in *expected {
@@ -62,5 +66,8 @@ fn random_calls() {
         }
         assert!(run.brought > 0 && run.fast > 0);
         assert!(run.deepest.iter().all(|&index| index >= 2), "refused entries stand deep in their sections too");
+        for (what, times) in run.old_votes.list() {
+            assert!(times >= calls / 1_000, "{what}: {times} in {calls} calls");
+        }
     }
 }

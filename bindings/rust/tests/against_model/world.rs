@@ -1,6 +1,7 @@
 //! A few nodes of one network that make calls, exchange packets and are lent damaged memory.
 
 use crate::both::{zeroed, Answer, Both, Call, Reply};
+use crate::old_votes::OldVotes;
 use crate::packets;
 use crate::random::Random;
 use likvost::{Clock, Memory, Settings};
@@ -19,19 +20,22 @@ pub struct Run {
     /// Proposals that came into view on arrival, and Fast blocks.
     pub brought: u64,
     pub fast: u64,
+    pub old_votes: OldVotes,
 }
 
 impl Run {
     pub fn new(seed: u64) -> Run {
-        Run { seed, calls: 0, replies: [[0; 22]; 9], deepest: [0; 2], brought: 0, fast: 0 }
+        Run { seed, calls: 0, replies: [[0; 22]; 9], deepest: [0; 2], brought: 0, fast: 0, old_votes: OldVotes::default() }
     }
 
     /// Makes a call on both sides; ends the test if they differ.
     pub fn make(&mut self, node: &mut Both, call: &Call, buffer: &mut [u8]) -> Reply {
         self.calls += 1;
+        let before = node.memory().clone();
         let reply = node.make(call, buffer).unwrap_or_else(|difference| {
             panic!("LIKVOST_SEED={}, call {}: {call:?} of {:?}: {difference}", self.seed, self.calls, node.settings())
         });
+        self.old_votes.count(node, &before, call, &reply);
         self.replies[call.index()][reply.err().map_or(0, |(number, _)| number) as usize] += 1;
         match reply {
             Err((9, Some(index))) => self.deepest[0] = self.deepest[0].max(index),
@@ -96,7 +100,8 @@ impl<'a> World<'a> {
             match self.random.below(100) {
                 0..=19 => self.tick(),
                 20..=42 => self.deliver(),
-                43..=59 => self.receive_made(),
+                43..=53 => self.receive_made(),
+                54..=59 => self.receive_old_votes(),
                 60..=75 => self.ask(),
                 76..=80 => self.late(),
                 81..=84 => self.write_odd(),
@@ -192,7 +197,17 @@ impl<'a> World<'a> {
 
     fn made_packet(&mut self, node: usize) -> Vec<u8> {
         let both = &self.nodes[node];
-        packets::made(&mut self.random, both.settings().nodes, both.memory(), self.beat).encode()
+        packets::made(&mut self.random, both.settings(), both.memory(), self.beat).encode()
+    }
+
+    /// A late block, and then a proposal with an old vote for it.
+    fn receive_old_votes(&mut self) {
+        let (node, beat) = (self.any(), self.beat);
+        let both = &self.nodes[node];
+        let packets = packets::with_old_votes(&mut self.random, both.settings(), both.memory(), beat);
+        for packet in packets.into_iter().flatten() {
+            let _ = self.make(node, Call::Receive { beat, packet: packet.encode() });
+        }
     }
 
     /// A packet that was made for the node.
@@ -203,13 +218,16 @@ impl<'a> World<'a> {
     }
 
     fn slot(&mut self, node: usize) -> u64 {
-        let seen = self.nodes[node].memory().clock.seen / 3;
+        let clock = self.nodes[node].memory().clock;
+        let seen = clock.seen / 3;
         match self.random.below(24) {
             0 => 0,
             1 => seen.saturating_add(1),
             2 => self.random.word(),
             3 => self.random.between(0, seen),
-            4..=11 => seen.saturating_sub(self.random.below(6)),
+            4..=5 => clock.merged.saturating_sub(self.random.between(1, 6)),
+            6..=10 => clock.merged,
+            11..=13 => self.random.between(clock.merged, seen),
             _ => seen,
         }
     }
@@ -240,6 +258,9 @@ impl<'a> World<'a> {
     /// A few calls on a copy of a node, most with odd arguments, and on damaged memory half of the time.
     fn trial(&mut self) {
         let node = self.any();
+        if self.random.once_in(5) {
+            return self.lend_old_vote(node);
+        }
         let mut copy = self.nodes[node].clone();
         if self.random.once_in(2) {
             let mut settings = copy.settings();
@@ -268,6 +289,29 @@ impl<'a> World<'a> {
             };
             let mut buffer = [7; 700];
             let _ = self.run.make(&mut copy, &call, &mut buffer);
+        }
+    }
+
+    /// Calls on a copy of a node with a vote that is old already. No call leaves one, but the memory is sound.
+    fn lend_old_vote(&mut self, node: usize) {
+        let (settings, mut memory) = (self.nodes[node].settings(), self.nodes[node].memory().clone());
+        let first = memory.clock.merged.saturating_sub(settings.expiry);
+        if first < 2 || memory.votes_used == 0 {
+            return;
+        }
+        let row = 4 * self.random.below(memory.votes_used as u64) as usize;
+        // a waiting vote of the same voter for block 0
+        memory.votes[row + 1..row + 4].copy_from_slice(&[self.random.between(1, first - 1), 0, 0]);
+        let (beat, slot) = (self.beat.next_multiple_of(3), self.slot(node));
+        let packets = packets::with_old_votes(&mut self.random, settings, &memory, beat);
+        let mut copy = Both::new(settings, memory);
+        for packet in packets.into_iter().flatten() {
+            let _ = self.run.make(&mut copy, &Call::Receive { beat, packet: packet.encode() }, &mut []);
+        }
+        let due = [Call::Vote { beat: beat + 1 }, Call::Merge { beat: beat + 2 }];
+        let others = [Call::Head { slot }, Call::Write { proposal: false }];
+        for call in [&due[self.random.below(2) as usize], &others[self.random.below(2) as usize]] {
+            let _ = self.run.make(&mut copy, call, &mut [7; 3000]);
         }
     }
 

@@ -9,7 +9,7 @@ use Rattle.protocol.specs.Chain.{genesis}
 use Rattle.protocol.specs.Store.{visible}
 use Rattle.protocol.specs.Lent.{blockRow}
 use Rattle.rows.specs.Rows.{putRow}
-use Rattle.changes.proofs.Zeros.{put-first}
+use Rattle.changes.proofs.Zeros.{fill-whole, put-first}
 use Rattle.changes.proofs.clear.Statement.{statement}
 use Rattle.changes.proofs.clear.Tie as tie
 
@@ -19,8 +19,10 @@ returns c =
     let v = p .before .before .before .before in
     let b = v .before .before .before .before in
     let a = b .before .before .before .before .args in (
-      p .put-block .ensures ∙ ap (λ (w : List ℕ). putRow w 0 (blockRow (visible genesis))) (b .zero .ensures) ∙ put-first (length (now (a .blocks))),
-      v .zero2 .ensures,
+      p .put-block .ensures
+          ∙ ap (λ (w : List ℕ). putRow w 0 (blockRow (visible genesis))) (b .zero .ensures ∙ fill-whole 0 (now (a .blocks)))
+          ∙ put-first (length (now (a .blocks))),
+      v .zero2 .ensures ∙ fill-whole 0 (now (a .votes)),
     )
 
 pub clear-spec : {M : Type 1} → statement M

@@ -1,6 +1,6 @@
 -- `search_new_vote` meets its contract. Assumes nothing.
 use borrow.Author.Needs.{needs}
-use Rattle.admission.proofs.Known.{any-added}
+use Rattle.protocol.proofs.Store.New.{any-added}
 use Rattle.counting.proofs.search_new_vote.Statement.{statement}
 use Rattle.counting.proofs.search_new_vote.Tie as tie
 

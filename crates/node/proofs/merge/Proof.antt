@@ -6,11 +6,13 @@ use Rattle.node.proofs.merge.Statement.{statement}
 use Rattle.node.proofs.merge.Tie as tie
 
 show-all-blocks-requires : tie.Need-show-all-blocks-requires
-show-all-blocks-requires c κs = passed-ready _ _ _ (c .before .before .before .merge-verdict .ensures) (c .before .enum-told .given .1) .memory .block-words
+show-all-blocks-requires c κs =
+    let t = c .before .before in
+    passed-ready _ _ _ (t .before .before .merge-verdict .ensures) (t .enum-told .given .1) .memory .block-words
 
-show-all-votes-requires : tie.Need-show-all-votes-requires
-show-all-votes-requires c κs =
-    let t = c .before .before .before .before .before in
+merge-votes-requires : tie.Need-merge-votes-requires
+merge-votes-requires c κs =
+    let t = c .before .before .before .before .before .before .before in
     passed-ready _ _ _ (t .before .before .merge-verdict .ensures) (t .enum-told .given .1) .memory .vote-words
 
 returns : tie.Need-returns
@@ -19,9 +21,11 @@ returns c = merge-leaves _ _ _ (c .before .before .before .before .merge-verdict
 returns-2 : tie.Need-returns-2
 returns-2 c =
     let v = c .before .before in
-    let b = v .before .before .before .before in
-    let t = b .before .before in
-    merge-stores _ _ _ (t .before .before .merge-verdict .ensures) (t .enum-told .given .1) (b .show-all-blocks .ensures) (v .show-all-votes .ensures)
+    let b = v .before .before .before .before .before in
+    let f = b .before .before in
+    let t = f .before in
+    merge-stores _ _ _ (t .before .before .merge-verdict .ensures) (t .enum-told .given .1) (f .kept-from .ensures) (b .show-all-blocks .ensures)
+    (v .merge-votes .ensures .0) (v .merge-votes .ensures .1)
 
 pub merge-spec : {M : Type 1} → statement M
 merge-spec =
@@ -31,8 +35,9 @@ merge-spec =
     (λ c. search needs)
     (λ c κs. search needs)
     (λ c. search needs)
+    (λ c κs. search needs)
     show-all-blocks-requires
-    show-all-votes-requires
+    merge-votes-requires
     (λ c. search needs)
     (λ c. search needs)
     returns

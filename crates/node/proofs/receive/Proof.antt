@@ -14,16 +14,17 @@ receive-blocks-requires c κs =
 
 receive-votes-requires : tie.Need-receive-votes-requires
 receive-votes-requires c κs =
-    let t = c .before .before .before .before .before .before .before .before in
+    let f = c .before .before in
+    let t = f .before .before .before .before .before .before .before in
     let h = t .before .before .receive-verdict .ensures in
     let e = t .enum-told .given .1 in
-    (receive-vote-room _ _ _ _ h e, passed-ready _ _ _ h e .memory .vote-marks)
+    (receive-vote-room _ _ _ _ h e (f .kept-from .ensures), passed-ready _ _ _ h e .memory .vote-marks)
 
 sub-new-blocks : tie.Need-sub-new-blocks
-sub-new-blocks c = blocks-grow _ _ _ _ (c .before .before .before .before .before .before .before .receive-blocks .ensures)
+sub-new-blocks c = blocks-grow _ _ _ _ (c .before .before .before .before .before .before .before .before .receive-blocks .ensures)
 
 sub-new-votes : tie.Need-sub-new-votes
-sub-new-votes c = votes-grow _ _ _ _ (c .before .before .receive-votes .ensures)
+sub-new-votes c = votes-grow _ _ _ _ _ (c .before .before .receive-votes .ensures)
 
 returns : tie.Need-returns
 returns c = receive-leaves _ _ _ _ (c .before .before .before .before .receive-verdict .ensures) (c .before .before .verdict .given .1) (c .refused .ensures)
@@ -31,10 +32,11 @@ returns c = receive-leaves _ _ _ _ (c .before .before .before .before .receive-v
 returns-2 : tie.Need-returns-2
 returns-2 c =
     let v = c .before .before .before in
-    let b = v .before .before .before .before .before in
+    let f = v .before .before .before in
+    let b = f .before .before .before in
     let q = b .before .before .before in
     let t = q .before in
-    receive-stores _ _ _ _ (t .before .before .receive-verdict .ensures) (t .enum-told .given .1) (q .brings .ensures)
+    receive-stores _ _ _ _ (t .before .before .receive-verdict .ensures) (t .enum-told .given .1) (q .brings .ensures) (f .kept-from .ensures)
     (b .receive-blocks .ensures) (v .receive-votes .ensures) (c .received-clock .ensures)
 
 pub receive-spec : {M : Type 1} → statement M
@@ -47,6 +49,7 @@ receive-spec =
     (λ c. search needs)
     (λ c κs. search needs)
     receive-blocks-requires
+    (λ c κs. search needs)
     receive-votes-requires
     sub-new-blocks
     sub-new-votes

@@ -14,7 +14,7 @@ use Rattle.protocol.specs.declared.Settings.{Settings}
 use Rattle.protocol.specs.declared.Vote.{Vote}
 use Rattle.protocol.specs.Limits.{limits}
 use Rattle.protocol.specs.Chain.{genesis, Found, found, missing, find, foundWith}
-use Rattle.protocol.specs.Store.{entries, Places, Node}
+use Rattle.protocol.specs.Store.{entries, keptFrom, Places, Node}
 use Rattle.protocol.specs.Sound.{between, sound}
 use Rattle.protocol.specs.Packet.{Packet, packetOf, wellFormed}
 use Rattle.protocol.specs.Refusal.{by, first, done, pass, refuse, unless}
@@ -107,20 +107,23 @@ module _ (F : Block → Type 0) (one : (c d : Block) → F c → F d → c .numb
 
 -- ---- a packet that meets all the rules is refused only for want of places
 
-abbrev pub lacking : Places → Node → Packet → Bool
-lacking pl y p = ltb (pl .blocks) (length (blocksAfter y p)) || ltb (pl .votes) (length (votesAfter y p))
+abbrev pub lacking : Settings → Places → Node → Packet → Bool
+lacking s pl y p = ltb (pl .blocks) (length (blocksAfter y p)) || ltb (pl .votes) (length (votesAfter (keptFrom s (y .clock .merged)) y p))
 
 module _ (s : Settings) (pl : Places) (y : Node) (beat : ℕ) (bytes : List ℕ) (p : Packet)
     (e : packetOf bytes ≡ p) (S : sound s pl y ≡ true) (l : y .clock .seen ≤ beat) (m : beat / 3 ≤ (limits .slot)) (W : wellFormed bytes ≡ true)
     (A : Allowed (s .nodes) (beat / 3) y p) where
-  pub verdict : first (receiveTests s pl y beat bytes) ≡ cond (lacking pl y p) (refuse (by 10)) pass
+  pub verdict : first (receiveTests s pl y beat bytes) ≡ cond (lacking s pl y p) (refuse (by 10)) pass
   unfolding receiveTests first
   verdict = rw (e, S, le-ltb beat (y .clock .seen) l, le-ltb (limits .slot) (beat / 3) m, W, A .blocks, A .votes, A .header, le-ltb (length (p .blocks)) (length (p .blocks)) (omega arith), le-ltb (length (p .votes)) (length (p .votes)) (omega arith))
 
-  pub accepted : length (blocksAfter y p) ≤ pl .blocks → length (votesAfter y p) ≤ pl .votes
-      → receive s pl y beat bytes ≡ record { reply = done (receivedOf y beat p); node = receiveInto (brings y beat p) beat y p }
+  pub accepted : length (blocksAfter y p) ≤ pl .blocks → length (votesAfter (keptFrom s (y .clock .merged)) y p) ≤ pl .votes
+      → receive s pl y beat bytes ≡ record {
+        reply = done (receivedOf (keptFrom s (y .clock .merged)) y beat p);
+        node = receiveInto (keptFrom s (y .clock .merged)) (brings y beat p) beat y p;
+      }
   unfolding receive unless
-  accepted b v = rw (verdict, le-ltb (pl .blocks) (length (blocksAfter y p)) b, le-ltb (pl .votes) (length (votesAfter y p)) v, e)
+  accepted b v = rw (verdict, le-ltb (pl .blocks) (length (blocksAfter y p)) b, le-ltb (pl .votes) (length (votesAfter (keptFrom s (y .clock .merged)) y p)) v, e)
 
 -- ---- what can be sent, at a node that knows no other block by one of its numbers
 

@@ -11,7 +11,7 @@ use lib.Dec.{ltb}
 use borrow.Author.Tests.{ltb-true}
 use Rattle.protocol.specs.declared.Settings.{Settings}
 use Rattle.protocol.specs.Limits.{limits}
-use Rattle.protocol.specs.Store.{entries, Places, Node}
+use Rattle.protocol.specs.Store.{entries, keptFrom, Places, Node}
 use Rattle.protocol.specs.Packet.{Packet, packetOf, wellFormed}
 use Rattle.protocol.specs.Refusal.{Refusal, by, pass, refuse, refused, done, first}
 use Rattle.protocol.specs.Calls.Receive.{blocksAfter, votesAfter, brings, receivedOf, receiveInto, receiveTests, receive}
@@ -68,23 +68,26 @@ module _ (s : Settings) (pl : Places) (x : Node) (proposal : Bool) (buffer : Lis
   here : Arrives proposal
   here = arrives proposal (W .proposes)
 
-  pub sent-verdict : first (receiveTests s' pl' y beat bytes) ≡ cond (lacking pl' y sent) (refuse (by 10)) pass
+  pub sent-verdict : first (receiveTests s' pl' y beat bytes) ≡ cond (lacking s' pl' y sent) (refuse (by 10)) pass
   sent-verdict =
       verdict s' pl' y beat bytes sent (ap packetOf (W .bytes) ∙ here .read) (sound-holds (M .good)) (M .receiver) (M .within)
       (ap wellFormed (W .bytes) ∙ here .formed) (here .allowed)
 
-  pub sent-accepted : length (blocksAfter y sent) ≤ pl' .blocks → length (votesAfter y sent) ≤ pl' .votes
-      → receive s' pl' y beat bytes ≡ record { reply = done (receivedOf y beat sent); node = receiveInto (brings y beat sent) beat y sent }
+  pub sent-accepted : length (blocksAfter y sent) ≤ pl' .blocks → length (votesAfter (keptFrom s' (y .clock .merged)) y sent) ≤ pl' .votes
+      → receive s' pl' y beat bytes ≡ record {
+        reply = done (receivedOf (keptFrom s' (y .clock .merged)) y beat sent);
+        node = receiveInto (keptFrom s' (y .clock .merged)) (brings y beat sent) beat y sent;
+      }
   sent-accepted =
       accepted s' pl' y beat bytes sent (ap packetOf (W .bytes) ∙ here .read) (sound-holds (M .good)) (M .receiver) (M .within)
       (ap wellFormed (W .bytes) ∙ here .formed) (here .allowed)
 
   pub sent-refused : (k : Refusal) → receive s' pl' y beat bytes .reply ≡ refused k
-      → (k ≡ by 10) × ((pl' .blocks < length (blocksAfter y sent)) ⊎ (pl' .votes < length (votesAfter y sent)))
+      → (k ≡ by 10) × ((pl' .blocks < length (blocksAfter y sent)) ⊎ (pl' .votes < length (votesAfter (keptFrom s' (y .clock .merged)) y sent)))
   unfolding receive
-  sent-refused k e = go (lacking pl' y sent) refl (sym sent-verdict ∙ unless-refused (first (receiveTests s' pl' y beat bytes)) y _ _ k e .0)
+  sent-refused k e = go (lacking s' pl' y sent) refl (sym sent-verdict ∙ unless-refused (first (receiveTests s' pl' y beat bytes)) y _ _ k e .0)
     where
-      go : (b : Bool) → lacking pl' y sent ≡ b → cond b (refuse (by 10)) pass ≡ refuse k
-          → (k ≡ by 10) × ((pl' .blocks < length (blocksAfter y sent)) ⊎ (pl' .votes < length (votesAfter y sent)))
-      go true q h = (cc, ⊎-map (ltb-true (pl' .blocks) (length (blocksAfter y sent))) (ltb-true (pl' .votes) (length (votesAfter y sent))) (either (ltb (pl' .blocks) (length (blocksAfter y sent))) _ q))
+      go : (b : Bool) → lacking s' pl' y sent ≡ b → cond b (refuse (by 10)) pass ≡ refuse k
+          → (k ≡ by 10) × ((pl' .blocks < length (blocksAfter y sent)) ⊎ (pl' .votes < length (votesAfter (keptFrom s' (y .clock .merged)) y sent)))
+      go true q h = (cc, ⊎-map (ltb-true (pl' .blocks) (length (blocksAfter y sent))) (ltb-true (pl' .votes) (length (votesAfter (keptFrom s' (y .clock .merged)) y sent))) (either (ltb (pl' .blocks) (length (blocksAfter y sent))) _ q))
       go false q h = let z : _≡_ {A = ℕ} 0 1 = cc in absurd (omega arith)

@@ -4,7 +4,7 @@ use mathlib.Core.Path.{_≡_, refl, sym, ap, _∙_}
 use mathlib.Core.Logic.{_⊎_, inl, inr}
 use mathlib.Core.Bool.{true, false, not}
 use mathlib.Core.List.{List, [], _∷_, _++_, List·Memᴰ·head, List·Memᴰ·tail, List·Memᴰ·append-cases, List·Memᴰ·eq-of-singleton}
-use native.Mathlib.Nat.{le-refl}
+use native.Mathlib.Nat.{le-refl, zero-sub}
 use native.Mathlib.Omega.{arith}
 use lib.ListN.{length, take, drop}
 use borrow.Author.Tests.{not-true}
@@ -13,7 +13,7 @@ use Rattle.protocol.specs.declared.Settings.{Settings}
 use Rattle.protocol.specs.declared.Vote.{Vote}
 use Rattle.protocol.specs.Lists.{any}
 use Rattle.protocol.specs.Chain.{genesis, find, foundWith}
-use Rattle.protocol.specs.Store.{entries, allWaiting, visible, sameVote, Places, Node, fresh}
+use Rattle.protocol.specs.Store.{entries, allWaiting, visible, sameVote, keptFrom, Places, Node, fresh}
 use Rattle.protocol.specs.Refusal.{done}
 use Rattle.protocol.specs.Calls.Receive.{blocksAfter, votesAfter, brings, receivedOf, receiveInto, receive}
 use Rattle.protocol.specs.Calls.Write.{afterGenesis, gossipOf, write}
@@ -23,6 +23,7 @@ use Rattle.protocol.proofs.Chain.Relations.{Sound}
 use Rattle.protocol.proofs.Filters.Relations.{Cast}
 use Rattle.protocol.proofs.Store.Growth.{distinct}
 use Rattle.protocol.proofs.Store.New.{newOf, newBlocksOf, newVotesOf, apart}
+use Rattle.protocol.proofs.Store.Since.{since-zero}
 use Rattle.protocol.proofs.Store.Sound.{IsSound, fresh-sound, store-sound}
 use Rattle.protocol.proofs.Store.Follow.{blockFollows, allFollow}
 use Rattle.protocol.proofs.Basics.Members.{any-true, any-holds}
@@ -68,23 +69,26 @@ fresh-agrees bs S c d m k q =
 
 -- ---- the gossip of a sound node, at any beat from the one seen on
 
-module _ {s : Settings} {pl : Places} {x : Node} (G : IsSound s pl x) where
+-- a fresh node has merged nothing, so to it no vote is old
+module _ {s : Settings} {pl : Places} {x : Node} (G : IsSound s pl x) (from : ℕ) (z : from ≡ 0) where
   all-blocks : blocksAfter fresh (gossipOf x) ≡ entries (x .blocks)
   unfolding gossipOf entries
   all-blocks =
       let D = store-sendable G in
       blocks-after fresh (gossipOf x) ∙ ap (λ l. genesis ∷ l) (follow-new (x .clock .seen / 3) (genesis ∷ []) (afterGenesis (entries (x .blocks))) (D .follow)) ∙ sym (D .root)
 
-  all-votes : votesAfter fresh (gossipOf x) ≡ entries (x .votes)
+  all-votes : votesAfter from fresh (gossipOf x) ≡ entries (x .votes)
   unfolding gossipOf entries any
-  all-votes = votes-after fresh (gossipOf x) ∙ distinct-new [] (entries (x .votes)) (λ a m. refl) (G .apart)
+  all-votes =
+      votes-after fresh (gossipOf x) from ∙ ap (newVotesOf []) (since-zero from z (entries (x .votes)))
+      ∙ distinct-new [] (entries (x .votes)) (λ a m. refl) (G .apart)
 
-  gossip-into : receiveInto (brings fresh (x .clock .seen) (gossipOf x)) (x .clock .seen) fresh (gossipOf x) ≡ copyOf x
+  gossip-into : receiveInto from (brings fresh (x .clock .seen) (gossipOf x)) (x .clock .seen) fresh (gossipOf x) ≡ copyOf x
   unfolding receiveInto brings gossipOf
   gossip-into =
       let b = show-none (λ a. false) (λ a. refl) (visible genesis ∷ allWaiting (drop 1 (blocksAfter fresh (gossipOf x)))) in
       let c = ap (λ bs. visible genesis ∷ allWaiting (drop 1 bs)) (all-blocks ∙ store-sendable G .root) in
-      let v = show-none (λ a. false) (λ a. refl) (allWaiting (votesAfter fresh (gossipOf x))) in
+      let v = show-none (λ a. false) (λ a. refl) (allWaiting (votesAfter from fresh (gossipOf x))) in
       let w = ap allWaiting all-votes in
       λ i. record { blocks = (b ∙ c) i; votes = (v ∙ w) i; clock = copyOf x .clock }
 
@@ -94,9 +98,11 @@ unfolding RoundTrip entries brings gossipOf receivedOf
 gossip-carries-the-store s p x N buffer n e s' p' old o same rb rv =
     let G = wrote s p x false buffer n e .good in
     let beat = x .clock .seen in
-    let a : length (blocksAfter fresh (gossipOf x)) ≡ length (x .blocks) = ap length (all-blocks G) ∙ length-entries (x .blocks) in
-    let c : length (votesAfter fresh (gossipOf x)) ≡ length (x .votes) = ap length (all-votes G) ∙ length-entries (x .votes) in
-    let d : length (votesAfter fresh (gossipOf x)) - 0 ≡ length (x .votes) = omega arith in
+    let from = keptFrom s' 0 in
+    let z : from ≡ 0 = zero-sub (s' .expiry) in
+    let a : length (blocksAfter fresh (gossipOf x)) ≡ length (x .blocks) = ap length (all-blocks G from z) ∙ length-entries (x .blocks) in
+    let c : length (votesAfter from fresh (gossipOf x)) ≡ length (x .votes) = ap length (all-votes G from z) ∙ length-entries (x .votes) in
+    let d : length (votesAfter from fresh (gossipOf x)) - 0 ≡ length (x .votes) = omega arith in
     let M : Meet s x s' p' fresh beat = record {
       numbers = N;
       good = fresh-sound s' p' (open-settings s' p' old o) (open-places s' p' old o);
@@ -110,7 +116,7 @@ gossip-carries-the-store s p x N buffer n e s' p' old o same rb rv =
           ∙ sent-accepted s p x false buffer n e s' p' fresh beat M (omega (arith, a, rb)) (omega (arith, c, rv))
           ∙ λ i. record {
             reply = done (record { newBlocks = a i - 1; newVotes = d i; brought = false });
-            node = gossip-into G i;
+            node = gossip-into G from z i;
           },
       ap {B = List Block} (λ l. genesis ∷ l) (entries-waiting (afterGenesis (entries (x .blocks)))) ∙ sym (store-sendable G .root),
       entries-waiting (entries (x .votes)),

@@ -7,9 +7,9 @@ use lib.Dec.{eqb, leb, ltb}
 use Rattle.protocol.specs.declared.Settings.{Settings}
 use Rattle.protocol.specs.declared.Block.{Block}
 use Rattle.protocol.specs.declared.Vote.{Vote}
-use Rattle.protocol.specs.Lists.{any}
+use Rattle.protocol.specs.Lists.{any, filter}
 use Rattle.protocol.specs.Chain.{Found, found, missing, find, foundWith, known, above}
-use Rattle.protocol.specs.Store.{entries, allWaiting, show, sameBlock, sameVote, Places, Node}
+use Rattle.protocol.specs.Store.{entries, allWaiting, show, sameBlock, sameVote, keptFrom, since, Places, Node}
 use Rattle.protocol.specs.Sound.{between}
 use Rattle.protocol.specs.Packet.{Packet, packetOf, wellFormed}
 use Rattle.protocol.specs.Refusal.{Test, test, testSection, first, Outcome, unless, unsound, wrongBeat}
@@ -30,11 +30,15 @@ unfoldable pub addVotes : List Vote → List Vote → List Vote
 addVotes vs [] = vs
 addVotes vs (a ∷ rest) = addVotes (addVote vs a) rest
 
+-- an old vote, of a slot below `from`, is left out
+abbrev pub addSince : ℕ → List Vote → List Vote → List Vote
+addSince from vs new = addVotes vs (filter (since from) new)
+
 unfoldable pub blocksAfter : Node → Packet → List Block
 blocksAfter x p = addBlocks (entries (x .blocks)) (p .blocks)
 
-unfoldable pub votesAfter : Node → Packet → List Vote
-votesAfter x p = addVotes (entries (x .votes)) (p .votes)
+unfoldable pub votesAfter : ℕ → Node → Packet → List Vote
+votesAfter from x p = addSince from (entries (x .votes)) (p .votes)
 
 -- ---- the rules of a packet's entries, at a beat of this slot
 
@@ -73,7 +77,7 @@ firstBadVote n slot bs (a ∷ rest) = cond (voteAllowed n slot bs a) (suc (first
 unfoldable pub brings : Node → ℕ → Packet → Bool
 brings x beat p = eqb (p .kind) 1 && (eqb (p .slot * 3) beat && not (eqb (x .clock .proposed) (p .slot)))
 
--- a block that the packet's entries stand on: one of its blocks, one that its votes are for, or an ancestor of these
+-- a block that the packet's entries stand on: one of its blocks, one that its votes are for, old ones too, or an ancestor of these
 unfoldable pub stoodOn : List Block → Packet → Block → Bool
 stoodOn bs p b =
     any (λ c. above bs (c .number) (b .number)) (p .blocks) || any (λ a. above bs (a .number) (b .number)) (p .votes)
@@ -83,13 +87,14 @@ stoodOn bs p b =
 unfoldable pub receiveTests : Settings → Places → Node → ℕ → List ℕ → List Test
 receiveTests s pl x beat bytes =
     let p = packetOf bytes in
+    let from = keptFrom s (x .clock .merged) in
     unsound s pl x
     ∷ wrongBeat x beat
     ∷ test 8 (not (wellFormed bytes))
     ∷ testSection 9 (firstBadBlock (beat / 3) (entries (x .blocks)) (p .blocks)) (p .blocks)
     ∷ testSection 20 (firstBadVote (s .nodes) (beat / 3) (blocksAfter x p) (p .votes)) (p .votes)
     ∷ test 21 (not (headerAllowed p))
-    ∷ test 10 (ltb (pl .blocks) (length (blocksAfter x p)) || ltb (pl .votes) (length (votesAfter x p)))
+    ∷ test 10 (ltb (pl .blocks) (length (blocksAfter x p)) || ltb (pl .votes) (length (votesAfter from x p)))
     ∷ []
 
 -- how many entries were new, and whether the packet came into view
@@ -98,23 +103,23 @@ pub record Received : Type 0 where
   pub newVotes : ℕ
   pub brought : Bool
 
-unfoldable pub receivedOf : Node → ℕ → Packet → Received
-receivedOf x beat p =
+unfoldable pub receivedOf : ℕ → Node → ℕ → Packet → Received
+receivedOf from x beat p =
     record {
       newBlocks = length (blocksAfter x p) - length (x .blocks);
-      newVotes = length (votesAfter x p) - length (x .votes);
+      newVotes = length (votesAfter from x p) - length (x .votes);
       brought = brings x beat p;
     }
 
-unfoldable pub receiveInto : Bool → ℕ → Node → Packet → Node
-receiveInto brought beat x p =
+unfoldable pub receiveInto : ℕ → Bool → ℕ → Node → Packet → Node
+receiveInto from brought beat x p =
     record {
       blocks =
           show (λ b. brought && stoodOn (blocksAfter x p) p b)
           (x .blocks ++ allWaiting (drop (length (x .blocks)) (blocksAfter x p)));
       votes =
           show (λ a. brought && any (sameVote a) (p .votes))
-          (x .votes ++ allWaiting (drop (length (x .votes)) (votesAfter x p)));
+          (x .votes ++ allWaiting (drop (length (x .votes)) (votesAfter from x p)));
       clock =
           record {
             seen = beat;
@@ -127,4 +132,5 @@ receiveInto brought beat x p =
 unfoldable pub receive : Settings → Places → Node → ℕ → List ℕ → Outcome Received
 receive s pl x beat bytes =
     let p = packetOf bytes in
-    unless (first (receiveTests s pl x beat bytes)) x (receivedOf x beat p) (receiveInto (brings x beat p) beat x p)
+    let from = keptFrom s (x .clock .merged) in
+    unless (first (receiveTests s pl x beat bytes)) x (receivedOf from x beat p) (receiveInto from (brings x beat p) beat x p)

@@ -99,7 +99,7 @@ module _ {N : Network} (X : Execution N) where
         (stored-of-run X k (omega arith) j honest) (O .blocks) (O .follow) (O .votes) (O .header)
 
     -- only want of places is left
-    left : (b : Bool) → lacking (N .places j) (world X k .node j) p ≡ b
+    left : (b : Bool) → lacking (settings N j) (N .places j) (world X k .node j) p ≡ b
         → first (receiveTests (settings N j) (N .places j) (world X k .node j) (world X k .beat) (packetBytes p)) ≡ cond b (refuse (by 10)) pass
     left b e =
         verdict (settings N j) (N .places j) (world X k .node j) (world X k .beat) (packetBytes p) p (round-trip p (O .fits)) (sound-holds G)
@@ -109,9 +109,9 @@ module _ {N : Network} (X : Execution N) where
 
     passes : first (receiveTests (settings N j) (N .places j) (world X k .node j) (world X k .beat) (packetBytes p)) ≡ pass
     unfolding at
-    passes = go (lacking (N .places j) (world X k .node j) p) refl
+    passes = go (lacking (settings N j) (N .places j) (world X k .node j) p) refl
       where
-        go : (b : Bool) → lacking (N .places j) (world X k .node j) p ≡ b
+        go : (b : Bool) → lacking (settings N j) (N .places j) (world X k .node j) p ≡ b
             → first (receiveTests (settings N j) (N .places j) (world X k .node j) (world X k .beat) (packetBytes p)) ≡ pass
         go false e = left false e
         go true e =

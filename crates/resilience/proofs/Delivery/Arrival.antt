@@ -1,5 +1,5 @@
--- What an honest node sends, the others have when they next wake: a packet that is sent arrives, and owed gossip brings over the sender's store.
--- Assumes nothing.
+-- What an honest node sends, the others have when they next wake: a packet that is sent arrives, and owed gossip brings over the sender's store
+-- but old votes. Assumes nothing.
 use Prim.Native.Nat.{ℕ, suc, _/_, _≤_, _<_}
 use mathlib.Core.Path.{_≡_, sym, ap, _∙_}
 use mathlib.Core.Logic.{_⊎_, inl, inr}
@@ -29,14 +29,15 @@ use Rattle.resilience.proofs.Runs.History.{beat-mono, log-later, since-
 use Rattle.resilience.proofs.Runs.Lasting.{grows}
 use Rattle.resilience.proofs.Invariants.Soundness.{sound-tables}
 use Rattle.resilience.proofs.Invariants.Clock.{seen-beat}
+use Rattle.resilience.proofs.Invariants.Votes.{BeforeRemoval, not-removed}
 use Rattle.resilience.proofs.Delivery.Owed.{Sending, sends-before}
 use Rattle.resilience.proofs.Delivery.Written.{written}
 use Rattle.resilience.proofs.Delivery.Acceptance.{Acceptable, outgoing-acceptable, accepts, accepts-node}
 
--- the store of x is part of that of y
-pub record StoreWithin (x y : Node) : Type 0 where
+-- the store of x is part of that of y, but for votes of slots below `first`
+pub record StoreWithin (first : ℕ) (x y : Node) : Type 0 where
   pub blocks : (c : Block) → In c (entries (x .blocks)) → In c (entries (y .blocks))
-  pub votes : (a : Vote) → Cast a (entries (x .votes)) → Cast a (entries (y .votes))
+  pub votes : (a : Vote) → Cast a (entries (x .votes)) → first ≤ a .slot → Cast a (entries (y .votes))
 
 module _ {N : Network} (X : Execution N) where
   -- ---- waking: the call of j at index m is in the log
@@ -76,6 +77,9 @@ module _ {N : Network} (X : Execution N) where
     soon : world X (A .when) .beat / 3 ≤ limits .slot
     soon = omega (arith, A .early)
 
+    receiver : isHonest N j ≡ true
+    receiver = receiver-honest X (A .when) (omega (arith, A .before)) j (packetBytes p) (A .is)
+
     pub arrival-tests : Receives (settings N j) (N .places j) (world X (A .when) .node j) (world X (A .when) .beat) (packetBytes p)
     arrival-tests = accepts X (A .when) (omega (arith, A .before)) j slot p O (A .is) early soon
 
@@ -86,17 +90,18 @@ module _ {N : Network} (X : Execution N) where
     arrived-block c n = go (List·Memᴰ·cases-cons n)
       where
         go : (c ≡ genesis) ⊎ In c (p .blocks) → In c (entries (world X m .node j .blocks))
-        go (inl e) = rw e (store-sound (sound-tables X m j (receiver-honest X (A .when) (omega (arith, A .before)) j (packetBytes p) (A .is))) .start)
+        go (inl e) = rw e (store-sound (sound-tables X m j receiver) .start)
         go (inr k) =
             grows X j (suc (A .when)) m (A .before) (omega arith) .blocks c (rw arrival-node
             (stores-blocks (settings N j) (N .places j) (world X (A .when) .node j) (world X (A .when) .beat) (packetBytes p) arrival-tests c
             (rw (round-trip p (O .fits)) k)))
 
-    pub arrived-vote : (a : Vote) → Cast a (p .votes) → Cast a (entries (world X m .node j .votes))
-    arrived-vote a n =
+    pub arrived-vote : (a : Vote) → Cast a (p .votes) → BeforeRemoval X m (a .slot) → Cast a (entries (world X m .node j .votes))
+    arrived-vote a n b =
+        let r = not-removed X m j (a .slot) receiver b in
         grows X j (suc (A .when)) m (A .before) (omega arith) .votes a (rw arrival-node
         (stores-votes (settings N j) (N .places j) (world X (A .when) .node j) (world X (A .when) .beat) (packetBytes p) arrival-tests a
-        (rw (round-trip p (O .fits)) n)))
+        (rw (round-trip p (O .fits)) n) (omega (arith, grows X j (A .when) m (omega (arith, A .before)) (omega arith) .merged)))) r
 
   -- ---- gossip that i owes at index a has reached j when it wakes at a later beat
 
@@ -119,15 +124,17 @@ module _ {N : Network} (X : Execution N) where
     early : world X (s .when) .node i .clock .seen / 3 ≤ world X (arrival .when) .beat / 3
     early = omega (arith, seen-beat X (s .when) i hi, beat-mono X (s .when) (arrival .when) (omega (arith, arrival .after)))
 
-    pub gossip-arrives : StoreWithin (world X a .node i) (world X m .node j)
+    -- of the votes those from slot `first` on, which no node has removed by then
+    pub gossip-arrives : (first : ℕ) → BeforeRemoval X m first → StoreWithin first (world X a .node i) (world X m .node j)
     unfolding gossipOf
-    gossip-arrives = record {
+    gossip-arrives first soon = record {
       blocks =
           λ c n. arrived-block (s .when) m j (world X (s .when) .node i .clock .seen / 3)
           (gossipOf (world X (s .when) .node i)) acceptable lm arrival early within c
           (rw (store-sendable (sound-tables X (s .when) i hi) .root) at (grows X i a (s .when) (s .after) (omega (arith, s .before)) .blocks c n));
       votes =
-          λ v n. arrived-vote (s .when) m j (world X (s .when) .node i .clock .seen / 3)
+          λ v n r. arrived-vote (s .when) m j (world X (s .when) .node i .clock .seen / 3)
           (gossipOf (world X (s .when) .node i)) acceptable lm arrival early within v
-          (grows X i a (s .when) (s .after) (omega (arith, s .before)) .votes v n);
+          (grows X i a (s .when) (s .after) (omega (arith, s .before)) .votes v n (not-removed X (s .when) i (v .slot) hi (omega (arith, s .beat))))
+          (omega arith);
     }

@@ -8,26 +8,30 @@ use native.Mathlib.Omega.{arith}
 use lib.Dec.{eqb}
 use borrow.Author.Tests.{eqb-true, eqb-false}
 use Rattle.protocol.specs.declared.Vote.{Vote}
-use Rattle.protocol.specs.Store.{entries, inView}
+use Rattle.protocol.specs.Store.{entries, inView, keptFrom}
 use Rattle.protocol.proofs.Filters.Relations.{Cast}
-use Rattle.protocol.proofs.Store.Views.{view-all}
-use Rattle.resilience.specs.Run.{Network, isHonest, owes, owesGossip}
+use Rattle.protocol.proofs.Store.Since.{since-has}
+use Rattle.protocol.proofs.Calls.Merge.{merge-view}
+use Rattle.resilience.specs.Run.{Network, settings, isHonest, owes, owesGossip}
 use Rattle.resilience.specs.Resilience.{Delivered}
 use Rattle.resilience.proofs.Steps.Change.{votes, turn-after}
 use Rattle.resilience.proofs.Runs.Trace.{at}
-use Rattle.resilience.proofs.Runs.Execution.{Execution, world, log}
+use Rattle.resilience.proofs.Runs.Execution.{Execution, world, log, storedFrom}
 use Rattle.resilience.proofs.Runs.History.{beat-before}
 use Rattle.resilience.proofs.Runs.Lasting.{grows}
 use Rattle.resilience.proofs.Invariants.Clock.{Merged, merged-when}
-use Rattle.resilience.proofs.Invariants.Votes.{Ballot, own-stored}
+use Rattle.resilience.proofs.Invariants.Votes.{not-removed, Ballot, own-stored}
 use Rattle.resilience.proofs.Delivery.Arrival.{woken, gossip-arrives}
 
 module _ {N : Network} (X : Execution N) where
-  -- what was stored at the Merge is in view afterwards
+  -- what was stored at the Merge is in view afterwards, until it is old
   pub merged-vote : (k i q : ℕ) → k ≤ X .end → (M : Merged X i q) → M .when < k → (v : Vote) → Cast v (entries (world X (M .when) .node i .votes))
-      → Cast v (inView (world X k .node i .votes))
-  merged-vote k i q l M b v m =
-      grows X i (suc (M .when)) k b l .view-votes v (rw (M .after) (rw (view-all (world X (M .when) .node i .votes)) m))
+      → storedFrom X k i ≤ v .slot → Cast v (inView (world X k .node i .votes))
+  merged-vote k i q l M b v m r =
+      let g = grows X i (suc (M .when)) k b l in
+      g .view-votes v (rw (M .after) (rw (merge-view (settings N i) (N .places i) (world X (M .when) .node i) (world X (M .when) .beat) (M .tests))
+      (since-has (keptFrom (settings N i) (world X (M .when) .beat / 3)) (entries (world X (M .when) .node i .votes)) v m
+      (omega (arith, g .merged, ap (λ x. x .clock .merged) (M .after)))))) r
 
   -- ---- an honest vote is stored by a node that merges its slot, and in its view afterwards
 
@@ -48,15 +52,16 @@ module _ {N : Network} (X : Execution N) where
         go : (t : Bool) → eqb u i ≡ t → Cast cast (entries (world X (M .when) .node i .votes))
         go true q =
             subst (λ (o : ℕ). Cast cast (entries (world X (M .when) .node o .votes))) (eqb-true u i q)
-            (own-stored X b u x A (M .when) before (omega arith))
+            (own-stored X b u x A (M .when) before (omega arith) (not-removed X (M .when) u (b / 3) (A .honest) (omega (arith, M .beat))))
         go false q =
             gossip-arrives X from del (suc (A .when)) (M .when) u i before (omega arith) (A .honest)
             (ap owesGossip (turn-after N (world X (A .when)) (X .steps (A .when)) u (owes true false) (ap (λ o. o .turn) (A .by .result))))
             (woken X (M .when) i (omega arith) [] (M .log)) (omega (arith, beat)) (omega (arith, beat, A .beat, M .beat))
-            (M .tests .base .within) (eqb-false u i q) .votes
-            cast (own-stored X b u x A (suc (A .when)) (le-refl (suc (A .when))) (A .before))
+            (M .tests .base .within) (eqb-false u i q) (b / 3) (omega (arith, M .beat)) .votes cast
+            (own-stored X b u x A (suc (A .when)) (le-refl (suc (A .when))) (A .before) (not-removed X (suc (A .when)) u (b / 3) (A .honest) (omega (arith, beat))))
+            (le-refl (b / 3))
 
     pub ballot-in-view : isHonest N i ≡ true → world X k .node i .clock .merged ≡ b / 3 → Cast cast (inView (world X k .node i .votes))
     ballot-in-view h e =
         let r = merged-when X k i (b / 3) h (omega (arith, A .by .tests .joined, A .by .beat)) e in
-        merged-vote k i (b / 3) l (r .0) (r .1) cast (ballot-stored (r .0) (r .1))
+        merged-vote k i (b / 3) l (r .0) (r .1) cast (ballot-stored (r .0) (r .1)) (omega arith)

@@ -17,17 +17,17 @@ use Rattle.protocol.specs.Calls.Vote.{headOf}
 use Rattle.protocol.specs.Calls.Write.{proposalOf, packetOut}
 use Rattle.protocol.proofs.Basics.Members.{same-refl}
 use Rattle.protocol.proofs.Basics.Tests.{split}
+use Rattle.protocol.proofs.Filters.Relations.{Cast}
 use Rattle.protocol.proofs.Store.Sound.{view-sound}
 use Rattle.protocol.proofs.Packet.Bytes.{round-trip}
 use Rattle.protocol.proofs.Calls.Brings.{brought-before}
 use Rattle.resilience.specs.Run.{Network, settings}
 use Rattle.resilience.specs.Resilience.{Delivered}
-use Rattle.resilience.proofs.Runs.Execution.{Execution, world, log}
+use Rattle.resilience.proofs.Runs.Execution.{Execution, world, log, storedFrom}
 use Rattle.resilience.proofs.Runs.History.{beat-mono, beat-before}
-use Rattle.resilience.proofs.Runs.Lasting.{grows}
 use Rattle.resilience.proofs.Invariants.Soundness.{sound-tables}
 use Rattle.resilience.proofs.Invariants.Clock.{seen-beat, merged-when}
-use Rattle.resilience.proofs.Invariants.Votes.{Ballot}
+use Rattle.resilience.proofs.Invariants.Votes.{stored-recent, Ballot}
 use Rattle.resilience.proofs.Invariants.Proposals.{Built}
 use Rattle.resilience.proofs.Delivery.Acceptance.{Acceptable, outgoing-acceptable}
 use Rattle.resilience.proofs.Delivery.Arrival.{Arrival, arrives, arrival-node, woken}
@@ -133,16 +133,18 @@ module _ {N : Network} {X : Execution N} {b p n y : ℕ} (Q : Built X b p n y) w
     seen-now : world X (A .when) .node v .clock .seen ≤ b + 1
     seen-now = omega (arith, seen-beat X (A .when) v (A .honest), beat-now)
 
-    soon : suc (arrival .when) ≤ X .end
-    soon = omega (arith, arrival .before, A .before)
+    -- both have merged the slot before and nothing later, so they have removed the same votes
+    kept-by-both : (a : Vote) → Cast a (votesOf Q) → storedFrom X (A .when) v ≤ a .slot
+    kept-by-both a m = omega (arith, stored-recent X (Q .when) p (Q .honest) a m, Q .by .tests .joined, Q .by .beat, joined)
 
     other-agrees : x ≡ n
     other-agrees =
-        let g = grows X v (suc (arrival .when)) (A .when) (arrival .before) (omega (arith, A .before)) in
         let o = inside .1 seen-now in
+        let l : A .when ≤ X .end = omega (arith, A .before) in
+        let r : seen-it .0 .when < A .when = omega (arith, seen-it .1, arrival .before) in
         votes-block c v x A now
-        (record { to = o .blocks; from = λ d m. g .view-blocks d (has-blocks Q (suc (arrival .when)) v soon (seen-it .0) (seen-it .1) (A .honest) d m) })
-        (record { to = o .votes; from = λ a m. g .view-votes a (has-votes Q (suc (arrival .when)) v soon (seen-it .0) (seen-it .1) a m) })
+        (record { to = o .blocks; from = λ d m. has-blocks Q (A .when) v l (seen-it .0) r (A .honest) d m })
+        (record { to = o .votes; from = λ a m. has-votes Q (A .when) v l (seen-it .0) r a m (kept-by-both a m) })
 
   -- ---- all voters
 

@@ -1,4 +1,5 @@
--- A voter whose clock says that it has the slot's proposal was brought one, and then has all of the proposer's view. Assumes nothing.
+-- A voter whose clock says that it has the slot's proposal was brought one, and then has all of the proposer's view but old votes.
+-- Assumes nothing.
 use Prim.Native.Nat.{ℕ, zero, suc, _/_, _%_, _≤_, _<_}
 use mathlib.Core.Path.{_≡_, sym, ap, _∙_, subst}
 use mathlib.Core.Logic.{_⊎_, inl, inr}
@@ -19,7 +20,7 @@ use Rattle.protocol.proofs.Chain.Relations.{In}
 use Rattle.protocol.proofs.Filters.Relations.{Cast}
 use Rattle.protocol.proofs.Store.Sound.{start-shown}
 use Rattle.protocol.proofs.Calls.Passed.{Receives}
-use Rattle.protocol.proofs.Calls.Receive.{brings-packet, brings-votes}
+use Rattle.protocol.proofs.Calls.Receive.{brings-packet, brings-votes, stores-votes}
 use Rattle.protocol.proofs.Calls.Brings.{brings-true}
 use Rattle.protocol.proofs.Exchange.Sendable.{store-sendable, sent-cases}
 use Rattle.resilience.specs.Run.{Network, settings, isHonest, sent, given, step}
@@ -28,7 +29,7 @@ use Rattle.resilience.proofs.Steps.Change.{Change, same, receives, prop
 use Rattle.resilience.proofs.Steps.Log.{SentBy}
 use Rattle.resilience.proofs.Steps.Allowed.{truth}
 use Rattle.resilience.proofs.Runs.Trace.{at}
-use Rattle.resilience.proofs.Runs.Execution.{Execution, world, starts-fresh}
+use Rattle.resilience.proofs.Runs.Execution.{Execution, world, storedFrom, starts-fresh}
 use Rattle.resilience.proofs.Runs.History.{from-log}
 use Rattle.resilience.proofs.Runs.Lasting.{grows}
 use Rattle.resilience.proofs.Runs.Premises.{genuine}
@@ -119,9 +120,12 @@ module _ {N : Network} {X : Execution N} {b p n y : ℕ} (Q : Built X b p n y) w
             (brings-packet (settings N v) (N .places v) (world X (r .when) .node v) (world X (r .when) .beat) (r .bytes) (r .tests) (r .shows) c
             (entries-same .0 .to c o)))
 
-    pub has-votes : (a : Vote) → Cast a (votesOf Q) → Cast a (inView (world X k .node v .votes))
-    has-votes a m =
+    -- but for old votes
+    pub has-votes : (a : Vote) → Cast a (votesOf Q) → storedFrom X k v ≤ a .slot → Cast a (inView (world X k .node v .votes))
+    has-votes a m s =
+        let n = entries-same .1 .to a m in
         grows X v (suc (r .when)) k before l .view-votes a
         (subst (λ (x : Node). Cast a (inView (x .votes))) (sym (r .after))
-        (brings-votes (settings N v) (N .places v) (world X (r .when) .node v) (world X (r .when) .beat) (r .bytes) (r .tests) (r .shows) a
-        (entries-same .1 .to a m)))
+        (brings-votes (settings N v) (N .places v) (world X (r .when) .node v) (world X (r .when) .beat) (r .bytes) (r .tests) (r .shows) a n
+        (stores-votes (settings N v) (N .places v) (world X (r .when) .node v) (world X (r .when) .beat) (r .bytes) (r .tests) a n
+        (omega (arith, grows X v (r .when) k (omega arith) l .merged))))) s

@@ -80,7 +80,7 @@ module _ {N : Network} {X : Execution N} {b p n y : ℕ} (Q : Built X b p n y) w
     inside : s .when ≤ X .end
     inside = omega (arith, s .before)
 
-    since : Grows (world X (suc (Q .when)) .node p) (world X (s .when) .node p)
+    since : Grows (settings N p) (world X (suc (Q .when)) .node p) (world X (s .when) .node p)
     since = grows X p (suc (Q .when)) (s .when) (s .after) inside
 
     seen-is : world X (s .when) .node p .clock .seen ≡ b

@@ -24,12 +24,13 @@ use Rattle.resilience.specs.Resilience.{Delivered}
 use Rattle.resilience.proofs.Steps.Effect.{receivedNode}
 use Rattle.resilience.proofs.Steps.Change.{Change, same, receives, proposes, votes, merges, change}
 use Rattle.resilience.proofs.Runs.Trace.{at}
-use Rattle.resilience.proofs.Runs.Execution.{Execution, world, log, starts-fresh}
+use Rattle.resilience.proofs.Runs.Execution.{Execution, world, log, storedFrom, starts-fresh}
 use Rattle.resilience.proofs.Runs.History.{beat-before}
 use Rattle.resilience.proofs.Runs.Lasting.{lasting}
 use Rattle.resilience.proofs.Invariants.Clock.{Merged}
 use Rattle.resilience.proofs.Invariants.Blocks.{OfRun, one-block, stored-of-run}
 use Rattle.resilience.proofs.Invariants.Chains.{above-in-log, above-in-list}
+use Rattle.resilience.proofs.Invariants.Votes.{stored-recent}
 use Rattle.resilience.proofs.Invariants.Proposals.{Built}
 use Rattle.resilience.proofs.Delivery.Arrival.{StoreWithin, gossip-arrives, woken}
 use Rattle.resilience.proofs.Slot.ProposerView.{blockOf, viewOf, votesOf, proposer}
@@ -89,9 +90,10 @@ module _ {N : Network} {X : Execution N} {b p n y : ℕ} (Q : Built X b p n y) w
       brought-vote : (a : Vote) → Cast a (inView (x1 .votes)) → Cast a (votesOf Q)
       brought-vote a m = go (view-votes-from (settings N v) (N .places v) (world X k .node v) (world X k .beat) bytes R a m)
         where
-          go : Cast a (inView (world X k .node v .votes)) ⊎ ((brings (world X k .node v) (world X k .beat) (packetOf bytes) ≡ true) × Cast a (packetOf bytes .votes)) → Cast a (votesOf Q)
+          go : Cast a (inView (world X k .node v .votes)) ⊎ ((brings (world X k .node v) (world X k .beat) (packetOf bytes) ≡ true) × Cast a (entries (x1 .votes))
+              × Cast a (packetOf bytes .votes)) → Cast a (votesOf Q)
           go (inl i) = before .votes a i
-          go (inr i) = entries-same (i .0) .1 .from a (i .1)
+          go (inr i) = entries-same (i .0) .1 .from a (i .2)
 
     inside-step : (k : ℕ) → k < X .end → Inside (world X k .node v) → Inside (world X (suc k) .node v)
     unfolding at receiveInto
@@ -139,16 +141,17 @@ module _ {N : Network} {X : Execution N} {b p n y : ℕ} (Q : Built X b p n y) w
       omega (arith, ap (λ x. x .clock .done) (M .after), M .beat, Q .beat),
       λ s. record {
         blocks = λ c m. Memᴰ·append-left (blockOf Q ∷ []) (arrived .blocks c (view-stored (world X (suc (M .when)) .node v .blocks) c m));
-        votes = λ a m. arrived .votes a (view-stored (world X (suc (M .when)) .node v .votes) a m);
+        votes = λ a m. let n = view-stored (world X (suc (M .when)) .node v .votes) a m in arrived .votes a n (stored-recent X (suc (M .when)) v hv a n);
       },
     )
       where
         late : world X (suc (M .when)) .beat < world X (Q .when) .beat
         late = omega (arith, M .beat-after, Q .beat, Q .by .beat)
 
-        arrived : StoreWithin (world X (suc (M .when)) .node v) (proposer Q)
+        arrived : StoreWithin (storedFrom X (suc (M .when)) v) (world X (suc (M .when)) .node v) (proposer Q)
         arrived =
             gossip-arrives X from del (suc (M .when)) (Q .when) v p (let o = beat-before X (suc (M .when)) (Q .when) late in omega arith)
             (Q .before) hv (M .turn)
             (woken X (Q .when) p (Q .before) (_ ∷ []) (ap (λ o. o .log) (Q .by .result))) (omega (arith, M .beat-after, Q .beat)) late
-            (Q .by .tests .base .within) ne
+            (Q .by .tests .base .within) ne (storedFrom X (suc (M .when)) v)
+            (omega (arith, ap (λ x. x .clock .merged) (M .after), M .beat, Q .beat, Q .by .beat))

@@ -1,22 +1,24 @@
 -- Where an entry comes from that stands in a node's store after a step: it stood there before, a packet had it, or the node made it.
 -- Assumes nothing.
-use Prim.Native.Nat.{ℕ, _/_}
+use Prim.Native.Nat.{ℕ, _/_, _≤_}
 use mathlib.Core.Path.{_≡_, ap, _∙_}
 use mathlib.Core.Logic.{_⊎_, inl, inr}
 use mathlib.Core.Bool.{true}
 use mathlib.Core.List.{List, [], _∷_, List·Memᴰ·eq-of-singleton, List·Memᴰ·append-cases}
 use Rattle.protocol.specs.declared.Block.{Block}
 use Rattle.protocol.specs.declared.Vote.{Vote}
-use Rattle.protocol.specs.Store.{entries}
+use Rattle.protocol.specs.Store.{entries, keptFrom}
 use Rattle.protocol.specs.Packet.{packetOf}
 use Rattle.protocol.specs.Calls.Propose.{baseOf}
 use Rattle.protocol.specs.Calls.Vote.{headOf}
 use Rattle.protocol.proofs.Chain.Relations.{In}
 use Rattle.protocol.proofs.Filters.Relations.{Cast}
+use Rattle.protocol.proofs.Store.Since.{since-in}
 use Rattle.protocol.proofs.Store.Views.{entries-all}
 use Rattle.protocol.proofs.Calls.Receive.{stored-blocks, stored-votes}
 use Rattle.protocol.proofs.Calls.Propose.{newBlock, propose-stored}
 use Rattle.protocol.proofs.Calls.Vote.{ownVote, vote-stored}
+use Rattle.protocol.proofs.Calls.Merge.{merge-votes}
 use Rattle.resilience.specs.Run.{Network, World, settings, Step, Due, Receive, woke, voted, built, given, step}
 use Rattle.resilience.proofs.Steps.Change.{Change, same, receives, proposes, votes, merges, change}
 
@@ -60,9 +62,9 @@ module _ (N : Network) (w : World) (s : Step) (i : ℕ) where
       go (same e) = old-vote (rw e at m)
       go (receives bytes q R e lg) = pick (stored-votes (settings N i) (N .places i) (w .node i) (w .beat) bytes R a (rw e at m))
         where
-          pick : Cast a (entries (w .node i .votes)) ⊎ Cast a (packetOf bytes .votes) → VoteFrom a
+          pick : Cast a (entries (w .node i .votes)) ⊎ (Cast a (packetOf bytes .votes) × (keptFrom (settings N i) (w .node i .clock .merged) ≤ a .slot)) → VoteFrom a
           pick (inl n) = old-vote n
-          pick (inr n) = packet-vote bytes lg n
+          pick (inr n) = packet-vote bytes lg (n .0)
       go (proposes x q P e lg) = old-vote (rw (ap (λ o. entries (o .votes)) e ∙ entries-all (w .node i .votes)) at m)
       go (votes x q P e lg) =
           pick (List·Memᴰ·append-cases (entries (w .node i .votes)) (rw
@@ -71,4 +73,6 @@ module _ (N : Network) (w : World) (s : Step) (i : ℕ) where
           pick : Cast a (entries (w .node i .votes)) ⊎ Cast a (ownVote (settings N i) (N .places i) (w .node i) (w .beat) P ∷ []) → VoteFrom a
           pick (inl n) = old-vote n
           pick (inr n) = own-vote (List·Memᴰ·eq-of-singleton n) lg
-      go (merges x q P e lg tn) = old-vote (rw (ap (λ o. entries (o .votes)) e ∙ entries-all (w .node i .votes)) at m)
+      go (merges x q P e lg tn) =
+          old-vote (since-in (keptFrom (settings N i) (w .beat / 3)) (entries (w .node i .votes)) a
+          (rw (ap (λ o. entries (o .votes)) e ∙ merge-votes (settings N i) (N .places i) (w .node i) (w .beat) P) at m) .0)

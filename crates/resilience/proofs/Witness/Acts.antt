@@ -1,8 +1,9 @@
 -- What happens in a run, each as a list of moves: nodes are awake or propose, and packets arrive. A packet is what the log says was
 -- sent; only those of dishonest nodes are written out. Assumes nothing.
 use Prim.Native.Nat.{ℕ}
+use mathlib.Core.Path.{_≡_, refl, sym, ap, _∙_}
 use mathlib.Core.Bool.{Bool, true, not, _&&_, cond}
-use mathlib.Core.List.{List, [], _∷_, _++_}
+use mathlib.Core.List.{List, [], _∷_, _++_, append-assoc}
 use lib.ListN.{replicate}
 use lib.Dec.{eqb}
 use Rattle.protocol.specs.declared.Block.{Block}
@@ -45,6 +46,11 @@ Act = List Move
 unfoldable pub together : List Act → List Move
 together [] = []
 together (a ∷ rest) = a ++ together rest
+
+pub together-append : (xs ys : List Act) → together (xs ++ ys) ≡ together xs ++ together ys
+unfolding together
+together-append [] ys = refl
+together-append (a ∷ xs) ys = ap (λ ms. a ++ ms) (together-append xs ys) ∙ sym (append-assoc a (together xs) (together ys))
 
 unfoldable pub begin : Act
 begin = (λ w. Begin) ∷ []

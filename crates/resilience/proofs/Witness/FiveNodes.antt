@@ -1,19 +1,20 @@
--- A run of five nodes that meets every premise of reorg resilience, and what the theorem says of it. So the premises do not
--- contradict one another, and the conclusion speaks of votes and blocks that there are. Assumes nothing.
+-- A run of five nodes that meets every premise of reorg resilience and in which old votes leave the tables, and what the theorem says of it. So the premises do
+-- not contradict one another, and the conclusion speaks of votes and blocks that there are. Assumes nothing.
 use Prim.Native.Nat.{ℕ}
-use mathlib.Core.Path.{_≡_, refl}
+use mathlib.Core.Path.{_≡_, refl, ap, _∙_}
 use mathlib.Core.Bool.{true, false, _&&_, cond}
 use mathlib.Core.List.{List, [], _∷_, _++_, List·Memᴰ, List·Memᴰ·head}
 use native.Mathlib.Omega.{arith}
 use lib.Dec.{eqb}
-use Rattle.protocol.specs.Lists.{all}
+use Rattle.protocol.specs.declared.Vote.{Vote}
+use Rattle.protocol.specs.Lists.{all, filter}
 use Rattle.protocol.specs.Filters.{chosen, nothing, kept}
-use Rattle.protocol.specs.Store.{inView}
+use Rattle.protocol.specs.Store.{entries, inView}
 use Rattle.protocol.specs.Packet.{Packet, packetBytes, packetOf}
 use Rattle.resilience.specs.Run.{Network, World, start, Event, voted, built, given}
 use Rattle.resilience.specs.Resilience.{AtOrAbove, Stays}
-use Rattle.resilience.proofs.Witness.Runs.{runs}
-use Rattle.resilience.proofs.Witness.Acts.{network, butOne, ten, Act, together, begin, awake, proposes, lateGossip, gossip, proposal, exchange, packet, blockWith, voteBy, gossipWith, proposalWith}
+use Rattle.resilience.proofs.Witness.Runs.{runs, runs-append}
+use Rattle.resilience.proofs.Witness.Acts.{network, butOne, ten, Act, together, together-append, begin, awake, proposes, lateGossip, gossip, proposal, exchange, packet, blockWith, voteBy, gossipWith, proposalWith}
 use Rattle.resilience.proofs.Witness.Events.{row, occurs, only, only-in}
 use Rattle.resilience.proofs.Witness.Tests.{others, voters}
 use Rattle.resilience.proofs.Witness.Premises.{meetsTest, meets}
@@ -45,6 +46,10 @@ vote-21 = gossipWith [] (voteBy 1 2 21 ∷ [])
 -- one vote of slot 4
 abbrev pub again-12 : Packet
 again-12 = gossipWith [] (voteBy 1 4 12 ∷ [])
+
+-- a proposal of slot 6
+abbrev pub proposal-61 : Packet
+proposal-61 = proposalWith 6 61 (blockWith 61 12 6 ∷ [])
 
 -- a block whose parent nobody knows
 abbrev pub orphan : Packet
@@ -85,7 +90,7 @@ slot-3 =
     ∷ begin ∷ awake 3 ∷ awake 4 ∷ awake 2 ∷ awake 0 ∷ exchange (4 ∷ 3 ∷ 2 ∷ 0 ∷ [])
     ∷ []
 
--- Node 4 proposes block 41, and all four vote for it and merge. Node 1 votes once, for 12.
+-- Node 4 proposes block 41, and all four vote for it and merge, by which the votes of slot 1 leave their tables. Node 1 votes once, for 12.
 slot-4 : List Act
 slot-4 =
     begin ∷ proposes 4 41 ∷ gossip 4 0 ∷ proposal 4 0 ∷ proposal 4 2 ∷ gossip 4 2 ∷ gossip 4 3 ∷ proposal 4 3
@@ -93,36 +98,66 @@ slot-4 =
     ∷ begin ∷ awake 0 ∷ awake 2 ∷ awake 3 ∷ awake 4 ∷ exchange (0 ∷ 2 ∷ 3 ∷ 4 ∷ [])
     ∷ []
 
--- Its two votes of slot 2 are out of the window of slot 5, so that it counts again. Node 0 proposes block 51, all four vote for it, and the vote
--- beat is over.
+-- Its two votes of slot 2 are out of the window of slot 5, so that it counts again. Node 0 proposes block 51, and all four vote for it.
 slot-5 : List Act
 slot-5 =
     begin ∷ proposes 0 51 ∷ gossip 0 2 ∷ proposal 0 2 ∷ proposal 0 3 ∷ gossip 0 3 ∷ gossip 0 4 ∷ proposal 0 4
-    ∷ begin ∷ awake 0 ∷ awake 2 ∷ awake 3 ∷ awake 4
+    ∷ begin ∷ awake 0 ∷ awake 2 ∷ awake 3 ∷ awake 4 ∷ exchange (0 ∷ 2 ∷ 3 ∷ 4 ∷ [])
+    ∷ []
+
+pub earlier : List Act
+unfolding slot-1 slot-2 slot-3 slot-4 slot-5
+earlier = slot-1 ++ (slot-2 ++ (slot-3 ++ (slot-4 ++ slot-5)))
+
+-- Nodes 0, 2 and 3 merge slot 5, and the votes of slot 2 leave their tables. Node 4 sleeps, and receives what they sent. It is awake again in the
+-- propose beat of slot 6. Its gossip holds the votes of slot 2: the others accept it and store none of these. Node 1 proposes block 61, on 12. Nodes 0, 2
+-- and 3 vote for 51, and the vote beat is over.
+pub later : List Act
+later =
+    begin ∷ awake 0 ∷ awake 2 ∷ awake 3 ∷ exchange (0 ∷ 2 ∷ 3 ∷ []) ∷ gossip 0 4 ∷ gossip 2 4 ∷ gossip 3 4
+    ∷ begin ∷ awake 4 ∷ gossip 4 0 ∷ gossip 4 2 ∷ gossip 4 3 ∷ packet proposal-61 0 ∷ packet proposal-61 2 ∷ packet proposal-61 3
+    ∷ begin ∷ awake 0 ∷ awake 2 ∷ awake 3
     ∷ begin
     ∷ []
 
 pub acts : List Act
-unfolding slot-1 slot-2 slot-3 slot-4 slot-5
-acts = slot-1 ++ (slot-2 ++ (slot-3 ++ (slot-4 ++ slot-5)))
+unfolding earlier later
+acts = earlier ++ later
 
 abbrev pub end : World
 end = runs five (start five) (together acts)
 
+-- the world before the merge beat of slot 5
+abbrev pub before : World
+before = runs five (start five) (together earlier)
+
+pub end-from-before : end ≡ runs five before (together later)
+unfolding acts
+end-from-before = ap (runs five (start five)) (together-append earlier later) ∙ runs-append five (start five) (together earlier) (together later)
+
 -- ---- what happens in it
 
--- the kinds of the packets that node j was given at beat b: 0 gossip, 1 proposal
-pub arrivals : ℕ → ℕ → List Event → List ℕ
-arrivals b j [] = []
-arrivals b j (e ∷ log) =
-    cond (eqb (row e .kind) 4 && (eqb (row e .beat) b && eqb (row e .node) j))
-    (packetOf (row e .bytes) .kind ∷ arrivals b j log)
-    (arrivals b j log)
+-- what f reads in the packets that node j accepted at beat b
+pub arrivals : {A : Type 0} → (Packet → List A) → ℕ → ℕ → List Event → List A
+arrivals f b j [] = []
+arrivals f b j (e ∷ log) =
+    cond (eqb (row e .kind) 4 && (row e .accepted && (eqb (row e .beat) b && eqb (row e .node) j)))
+    (f (packetOf (row e .bytes)) ++ arrivals f b j log)
+    (arrivals f b j log)
 
--- In each list the latest comes first.
+-- 0 gossip, 1 proposal
+abbrev pub kinds : Packet → List ℕ
+kinds p = p .kind ∷ []
+
+pub ofSlot : ℕ → List Vote → List Vote
+unfolding filter
+ofSlot t vs = filter (λ a. eqb (a .slot) t) vs
+
+-- In each list of events the latest comes first.
 pub record Happened : Type 0 where
   pub votes : only 1 (end .log)
-      ≡ voted 16 4 51 ∷ voted 16 3 51 ∷ voted 16 2 51 ∷ voted 16 0 51
+      ≡ voted 19 3 51 ∷ voted 19 2 51 ∷ voted 19 0 51
+      ∷ voted 16 4 51 ∷ voted 16 3 51 ∷ voted 16 2 51 ∷ voted 16 0 51
       ∷ voted 13 4 41 ∷ voted 13 3 41 ∷ voted 13 2 41 ∷ voted 13 0 41
       ∷ voted 10 3 31 ∷ voted 10 2 31 ∷ voted 10 0 31
       ∷ voted 7 4 21 ∷ voted 7 3 21 ∷ voted 7 2 21
@@ -132,15 +167,32 @@ pub record Happened : Type 0 where
       (given 2 0 (packetBytes empty) true
       ∷ given 3 2 (packetBytes proposal-12) true ∷ given 3 3 (packetBytes proposal-11) true
       ∷ given 7 2 (packetBytes vote-12) true ∷ given 7 3 (packetBytes vote-21) true
-      ∷ given 9 3 (packetBytes orphan) false ∷ given 13 4 (packetBytes again-12) true ∷ []) ≡ true
-  pub counts-again : (kept (inView (end .node 3 .votes)) 2 4 1 ≡ nothing) × (kept (inView (end .node 3 .votes)) 2 5 1 ≡ chosen 12)
+      ∷ given 9 3 (packetBytes orphan) false ∷ given 13 4 (packetBytes again-12) true
+      ∷ given 18 0 (packetBytes proposal-61) true ∷ []) ≡ true
+  pub counts-again : (kept (inView (before .node 3 .votes)) 2 4 1 ≡ nothing) × (kept (inView (before .node 3 .votes)) 2 5 1 ≡ chosen 12)
+  -- the votes of slot 2, in which block 21 is proposed, leave the table of node 3 with its Merge of slot 5
+  pub votes-removed : (before .node 3 .clock .merged ≡ 4) × (end .node 3 .clock .merged ≡ 5)
+      × (ofSlot 2 (entries (before .node 3 .votes)) ≡ voteBy 2 2 21 ∷ voteBy 3 2 21 ∷ voteBy 1 2 21 ∷ voteBy 4 2 21 ∷ voteBy 1 2 12 ∷ [])
+      × (ofSlot 2 (entries (end .node 3 .votes)) ≡ [])
+  -- and what it accepts after that Merge, in the propose beat of slot 6, holds them all
+  pub removed-arrive : arrivals (λ p. ofSlot 2 (p .votes)) 18 3 (end .log) ≡ voteBy 4 2 21 ∷ voteBy 2 2 21 ∷ voteBy 3 2 21 ∷ voteBy 1 2 21 ∷ voteBy 1 2 12 ∷ []
   pub counts-3 : (others five end 3 ≡ 2) × (voters five end 3 ≡ 3)
-  pub at-node-3 : arrivals 6 3 (end .log) ≡ 0 ∷ 1 ∷ []
-  pub at-node-4 : arrivals 6 4 (end .log) ≡ 1 ∷ 0 ∷ []
+  pub at-node-3 : arrivals kinds 6 3 (end .log) ≡ 0 ∷ 1 ∷ []
+  pub at-node-4 : arrivals kinds 6 4 (end .log) ≡ 1 ∷ 0 ∷ []
 
 pub happened : Happened
-unfolding meetsTest acts arrivals
-happened = record { votes = refl; blocks = refl; lies = refl; counts-again = (refl, refl); counts-3 = (refl, refl); at-node-3 = refl; at-node-4 = refl }
+unfolding meetsTest acts arrivals ofSlot
+happened = record {
+  votes = refl;
+  blocks = refl;
+  lies = refl;
+  counts-again = (refl, refl);
+  votes-removed = (refl, refl, refl, refl);
+  removed-arrive = refl;
+  counts-3 = (refl, refl);
+  at-node-3 = refl;
+  at-node-4 = refl;
+}
 
 -- ---- what the theorem says of it: block 21 stays
 
@@ -149,6 +201,7 @@ pub record Conclusion : Type 0 where
   pub votes-3 : (i x : ℕ) → List·Memᴰ (voted 10 i x) (end .log) → AtOrAbove (end .log) 21 x
   pub votes-4 : (i x : ℕ) → List·Memᴰ (voted 13 i x) (end .log) → AtOrAbove (end .log) 21 x
   pub votes-5 : (i x : ℕ) → List·Memᴰ (voted 16 i x) (end .log) → AtOrAbove (end .log) 21 x
+  pub votes-6 : (i x : ℕ) → List·Memᴰ (voted 19 i x) (end .log) → AtOrAbove (end .log) 21 x
   pub base-3 : (i x y : ℕ) → List·Memᴰ (built 9 i x y) (end .log) → AtOrAbove (end .log) 21 y
   pub base-4 : (i x y : ℕ) → List·Memᴰ (built 12 i x y) (end .log) → AtOrAbove (end .log) 21 y
   pub base-5 : (i x y : ℕ) → List·Memᴰ (built 15 i x y) (end .log) → AtOrAbove (end .log) 21 y
@@ -165,6 +218,7 @@ witness-holds =
       votes-3 = λ i x m. s .1 .0 10 i x m (omega arith);
       votes-4 = λ i x m. s .1 .0 13 i x m (omega arith);
       votes-5 = λ i x m. s .1 .0 16 i x m (omega arith);
+      votes-6 = λ i x m. s .1 .0 19 i x m (omega arith);
       base-3 = λ i x y m. s .1 .1 9 i x y m (omega arith);
       base-4 = λ i x y m. s .1 .1 12 i x y m (omega arith);
       base-5 = λ i x y m. s .1 .1 15 i x y m (omega arith);
@@ -173,4 +227,4 @@ witness-holds =
 -- the last vote is one of those
 pub last-vote : AtOrAbove (end .log) 21 51
 last-vote =
-    witness-holds .votes-5 4 51 (only-in 1 (end .log) (voted 16 4 51) (rw (happened .votes) (List·Memᴰ·head refl)))
+    witness-holds .votes-6 3 51 (only-in 1 (end .log) (voted 19 3 51) (rw (happened .votes) (List·Memᴰ·head refl)))

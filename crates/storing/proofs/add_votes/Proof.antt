@@ -2,9 +2,8 @@
 use borrow.Author.Needs.{needs}
 use native.Mathlib.Omega.{arith}
 use mathlib.Core.Path.{refl}
-use Rattle.protocol.specs.Calls.Receive.{addVotes}
 use Rattle.protocol.proofs.Lent.Rows.{vote-codec}
-use Rattle.protocol.proofs.Store.New.{knowsVote, adding-votes}
+use Rattle.protocol.proofs.Store.Since.{adding-since}
 use Rattle.storing.proofs.Turns.{room-now}
 use Rattle.storing.proofs.add_votes.Statement.{statement}
 use Rattle.storing.proofs.add_votes.Tie as tie
@@ -17,7 +16,7 @@ store-votes-requires c κs =
 index-votes-requires : tie.Need-index-votes-requires
 index-votes-requires c κs =
     let s = c .before .before .before .before .before .before .before .before in
-    (room-now knowsVote addVotes adding-votes vote-codec _ _ _ (s .pre .0), refl)
+    (room-now _ _ (adding-since (s .args .from)) vote-codec _ _ _ (s .pre .0), refl)
 
 store-votes-requires-2 : tie.Need-store-votes-requires-2
 store-votes-requires-2 c κs =

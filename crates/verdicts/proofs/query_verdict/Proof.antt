@@ -30,10 +30,20 @@ returns-3 c =
 returns-4 : tie.Need-returns-4
 unfolding queryTests first nodeOf
 returns-4 c =
-    let e = c .before .before in
+    let f = c .before .before in
+    let e = f .before .before in
     let d = e .before in
     sym (sound-pass _ _ _ (d .before .lent-sound .ensures) (not-false _ (d .if1 .left))
-    ∙ simp (ne-eqb _ _ (e .if2 .left), le-ltb _ _ (c .if3 .left)))
+    ∙ simp (ne-eqb _ _ (e .if2 .left), le-ltb _ _ (f .if3 .left), lt-ltb _ _ (c .if4 .taken)))
+
+returns-5 : tie.Need-returns-5
+unfolding queryTests first nodeOf
+returns-5 c =
+    let f = c .before .before in
+    let e = f .before .before in
+    let d = e .before in
+    sym (sound-pass _ _ _ (d .before .lent-sound .ensures) (not-false _ (d .if1 .left))
+    ∙ simp (ne-eqb _ _ (e .if2 .left), le-ltb _ _ (f .if3 .left), le-ltb _ _ (c .if4 .left)))
 
 pub query-verdict-spec : {M : Type 1} → statement M
-query-verdict-spec = tie.close (tie.spec (λ c κs. search needs) returns returns-2 returns-3 returns-4)
+query-verdict-spec = tie.close (tie.spec (λ c κs. search needs) returns returns-2 returns-3 returns-4 returns-5)

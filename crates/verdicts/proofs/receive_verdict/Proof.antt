@@ -94,20 +94,21 @@ returns-6 c =
 
 sub-if6 : tie.Need-sub-if6
 sub-if6 c =
-    let t = c .before .before .before .before .before .before .before .before .before .before .before .before .before in
+    let t = c .before .before .before .before .before .before .before .before .before .before .before .before .before .before in
     let R = sound-before _ _ _ (t .before .before .beat-verdict .ensures) (t .enum-told2 .given .1) in
     omega (arith, R .fit-votes, c .places-in2 .ensures)
 
 new-votes-requires : tie.Need-new-votes-requires
 new-votes-requires c κs =
-    let t = c .before .before .before .before .before .before .before .before .before .before .before .before .before in
+    let t = c .before .before .before .before .before .before .before .before .before .before .before .before .before .before in
     sound-before _ _ _ (t .before .before .beat-verdict .ensures) (t .enum-told2 .given .1) .memory .vote-words
 
 returns-7 : tie.Need-returns-7
 returns-7 c =
     let k = c .before in
     let q = k .before in
-    let o = q .before in
+    let e = q .before in
+    let o = e .before in
     let n = o .before in
     let p = n .before in
     let g = p .before in
@@ -124,13 +125,14 @@ returns-7 c =
     (header-votes _ (h .header-of .ensures)) (v .first-bad-vote .ensures) (w .if3 .left)
     (a .header-allowed .ensures) (not-false _ (g .if4 .left))
     (p .places-in .ensures) (n .new-blocks .ensures) (o .if5 .left)
-    (q .places-in2 .ensures) (k .new-votes .ensures) (c .if6 .taken)
+    (q .places-in2 .ensures) (e .kept-from .ensures) (k .new-votes .ensures) (c .if6 .taken)
 
 returns-8 : tie.Need-returns-8
 returns-8 c =
     let k = c .before in
     let q = k .before in
-    let o = q .before in
+    let e = q .before in
+    let o = e .before in
     let n = o .before in
     let p = n .before in
     let g = p .before in
@@ -147,7 +149,7 @@ returns-8 c =
     (header-votes _ (h .header-of .ensures)) (v .first-bad-vote .ensures) (w .if3 .left)
     (a .header-allowed .ensures) (not-false _ (g .if4 .left))
     (p .places-in .ensures) (n .new-blocks .ensures) (o .if5 .left)
-    (q .places-in2 .ensures) (k .new-votes .ensures) (c .if6 .left)
+    (q .places-in2 .ensures) (e .kept-from .ensures) (k .new-votes .ensures) (c .if6 .left)
 
 pub receive-verdict-spec : {M : Type 1} → statement M
 receive-verdict-spec =
@@ -170,6 +172,7 @@ receive-verdict-spec =
     sub-if5
     new-blocks-requires
     returns-6
+    (λ c κs. search needs)
     (λ c κs. search needs)
     sub-if6
     new-votes-requires

@@ -1,0 +1,95 @@
+-- A pass over the votes that keeps those of a slot and later, in view and moved up: one turn, the end, and the places freed.
+-- Assumes nothing.
+use Prim.Native.Nat.{ℕ, _+_, _*_, _-_, _≤_, _<_}
+use mathlib.Core.Bool.{Bool, true, false, cond, or-true}
+use mathlib.Core.List.{List, [], _∷_, _++_, append-nil}
+use mathlib.Core.Path.{_≡_, refl, ap, sym, _∙_}
+use native.Mathlib.Omega.{arith}
+use lib.ListN.{length, take, drop, replicate, length-append}
+use lib.Seq.{take-all, take-at, length-take-le}
+use Rattle.protocol.specs.declared.Vote.{Vote}
+use Rattle.protocol.specs.Lists.{filter}
+use Rattle.protocol.specs.Store.{Marked, visible, show, showAll, since, rowsSince}
+use Rattle.protocol.specs.Lent.{rowsOf, wordsOf, stored, makeVote, voteRow, emptied}
+use Rattle.protocol.proofs.Basics.Filter.{filter-append}
+use Rattle.protocol.proofs.Store.Growth.{show-append}
+use Rattle.protocol.proofs.Store.Since.{length-since}
+use Rattle.protocol.proofs.Store.Views.{length-show}
+use Rattle.protocol.proofs.Lent.Rows.{vote-codec, length-rowsOf, length-wordsOf, drop-stored, stored-freed}
+use Rattle.rows.specs.Rows.{rowAt, putRow}
+use Rattle.rows.proofs.Rows.{take-rowsOf}
+use Rattle.rows.proofs.Stored.{put-end, row-after}
+
+length-all : (ms : List (Marked Vote)) → length (showAll ms) ≡ length ms
+unfolding showAll
+length-all ms = length-show (λ a. true) ms
+
+module _ (ws₀ : List ℕ) (n from : ℕ) where
+  abbrev pub rows : List (Marked Vote)
+  rows = rowsOf makeVote ws₀ n
+
+  -- those of the first i rows that stay
+  abbrev pub keptTo : ℕ → List (Marked Vote)
+  keptTo i = rowsSince from (take i rows)
+
+  abbrev pub movedTo : ℕ → List ℕ
+  movedTo i = stored voteRow (showAll (keptTo i)) ws₀
+
+  pub move-begin : (ws₀ ≡ movedTo 0) × (0 ≡ length (keptTo 0))
+  unfolding stored showAll show rowsSince filter wordsOf
+  move-begin = (refl, refl)
+
+  -- no more than i stay
+  pub kept-most : (i : ℕ) → i ≤ n → length (keptTo i) ≤ i
+  kept-most i h = omega (arith, length-since from (take i rows), length-take-le i rows (omega (arith, length-rowsOf makeVote ws₀ n)))
+
+  -- row i was read as a from words in which the rows before it are moved up
+  module _ (i kept : ℕ) {ws : List ℕ} {a : Marked Vote} (h : i < n) (k : kept ≡ length (keptTo i)) (e : ws ≡ movedTo i) (r : a ≡ rowAt makeVote ws i) where
+    was : a ≡ rowAt makeVote ws₀ i
+    was =
+        r ∙ ap (λ (w : List ℕ). rowAt makeVote w i) e
+        ∙ row-after vote-codec (showAll (keptTo i)) ws₀ i (omega (arith, length-all (keptTo i), kept-most i (omega arith)))
+
+    next : keptTo (i + 1) ≡ keptTo i ++ cond (since from (a .entry)) (a ∷ []) []
+    unfolding rowsSince filter
+    next =
+        ap (filter (λ m. since from (m .entry))) (take-rowsOf makeVote ws₀ n i h ∙ ap (λ (x : Marked Vote). take i rows ++ (x ∷ [])) (sym was))
+        ∙ filter-append (λ m. since from (m .entry)) (take i rows) (a ∷ [])
+
+    -- it stays, and is written behind those that stayed
+    pub move-turn : since from (a .entry) ≡ true → {ws′ : List ℕ} → ws′ ≡ putRow ws kept (voteRow (visible (a .entry)))
+        → (ws′ ≡ movedTo (i + 1)) × (kept + 1 ≡ length (keptTo (i + 1)))
+    unfolding showAll show
+    move-turn s f =
+        let m : keptTo (i + 1) ≡ keptTo i ++ (a ∷ []) = next ∙ ap (λ (b : Bool). keptTo i ++ cond b (a ∷ []) []) s in
+        let v : showAll (keptTo i ++ (a ∷ [])) ≡ showAll (keptTo i) ++ (visible (a .entry) ∷ [])
+        = show-append (λ b. true) (keptTo i) (a ∷ []) ∙ ap (λ (b : Bool). showAll (keptTo i) ++ (record { entry = a .entry; shown = b } ∷ [])) (or-true (a .shown)) in (
+          f ∙ ap (λ (w : List ℕ). putRow w kept (voteRow (visible (a .entry)))) e
+              ∙ put-end vote-codec (showAll (keptTo i)) ws₀ (visible (a .entry)) kept (length-all (keptTo i) ∙ sym k)
+              ∙ ap (λ (l : List (Marked Vote)). stored voteRow l ws₀) (sym v ∙ ap showAll (sym m)),
+          omega (arith, ap length m, length-append (keptTo i) (a ∷ []), k),
+        )
+
+    -- it is left out
+    pub move-skip : since from (a .entry) ≡ false → (ws ≡ movedTo (i + 1)) × (kept ≡ length (keptTo (i + 1)))
+    move-skip s =
+        let m : keptTo (i + 1) ≡ keptTo i = next ∙ ap (λ (b : Bool). keptTo i ++ cond b (a ∷ []) []) s ∙ append-nil (keptTo i) in
+        (e ∙ ap (λ (l : List (Marked Vote)). stored voteRow (showAll l) ws₀) (sym m), k ∙ ap length (sym m))
+
+  pub move-end : (i : ℕ) → n ≤ i → keptTo i ≡ rowsSince from rows
+  move-end i h = ap (rowsSince from) (take-all i rows (omega (arith, length-rowsOf makeVote ws₀ n)))
+
+-- zero in the places that are free then
+pub moved-freed : (ws₀ : List ℕ) (n from kept : ℕ) {ws ws′ : List ℕ} → let L = rowsSince from (rowsOf makeVote ws₀ n) in
+    ws ≡ stored voteRow (showAll L) ws₀ → kept ≡ length L → ws′ ≡ take (4 * kept) ws ++ (replicate (4 * n - 4 * kept) 0 ++ drop (4 * n) ws)
+    → ws′ ≡ stored voteRow (showAll L) (emptied n ws₀)
+unfolding stored
+moved-freed ws₀ n from kept {ws} {ws′} e k f =
+    let L = showAll (rowsSince from (rowsOf makeVote ws₀ n)) in
+    let l : length L ≡ kept = length-all (rowsSince from (rowsOf makeVote ws₀ n)) ∙ sym k in
+    let most : kept ≤ n = omega (arith, k, length-since from (rowsOf makeVote ws₀ n), length-rowsOf makeVote ws₀ n) in
+    let t : take (4 * kept) ws ≡ wordsOf voteRow L
+    = ap (take (4 * kept)) e ∙ take-at (wordsOf voteRow L) (drop (4 * length L) ws₀) (4 * kept) (omega (arith, length-wordsOf vote-codec L, l)) in
+    let d : drop (4 * n) ws ≡ drop (4 * n) ws₀ = ap (drop (4 * n)) e ∙ drop-stored vote-codec L ws₀ (4 * n) (omega (arith, l, most)) in
+    let z : 4 * n - 4 * kept ≡ 4 * (n - length L) = omega (arith, l) in
+    f ∙ rw (t, d, z) (sym (stored-freed vote-codec L n ws₀ (omega (arith, l, most))))

@@ -1,0 +1,38 @@
+-- Request 4 of the code: a node, by the promises of its calls alone, beside the node of protocol/specs/Removal that never removes a vote.
+-- Assumes nothing.
+use Prim.Native.Nat.{ℕ}
+use mathlib.Core.Path.{_≡_}
+use mathlib.Core.Bool.{false}
+use Rattle.protocol.specs.declared.Settings.{Settings}
+use Rattle.protocol.specs.Filters.{Choice, chosen}
+use Rattle.protocol.specs.Store.{Node, fresh}
+use Rattle.protocol.specs.Refusal.{done}
+use Rattle.protocol.specs.Calls.Vote.{headOf}
+use Rattle.protocol.specs.Calls.Query.{deepOf, fastOf}
+use Rattle.protocol.specs.Lent.{Lent, placesOf}
+use Rattle.protocol.specs.Removal.{Call, Receive, Propose, Vote, Merge, byTen, madeKeeping}
+use Rattle.answers.specs.declared.Answer.{Answer}
+use Rattle.answers.specs.declared.Reply.{Reply}
+use Rattle.answers.specs.declared.Reply.the-variants as reply
+use Rattle.answers.specs.Answers.{replyOf, answerOf}
+use Rattle.answers.specs.Promises.{Opens, Receives, Proposes, Votes, Merges, IsHead, IsDeep, IsFast}
+
+-- what the code promises of a call, on the memory m
+abbrev pub promised : Settings → Lent → Call → Lent → Reply → Type 0
+promised s m (Receive beat bytes) = Receives s m beat bytes
+promised s m (Propose beat number) = Proposes s m beat number
+promised s m (Vote beat) = Votes s m beat
+promised s m (Merge beat) = Merges s m beat
+
+-- The memory that an Open and then calls of the code left, none of which answered 10; and the node that the same calls leave where no vote
+-- is ever removed.
+pub data CodeCalls (s : Settings) : Lent → Node → Type 0 where
+  opened : (old m : Lent) → Opens s old m reply.Done → CodeCalls s m fresh
+  then : {m : Lent} {y : Node} → CodeCalls s m y → (c : Call) (next : Lent) (r : Reply) → promised s m c next r →
+      byTen (replyOf r) ≡ false → CodeCalls s next (madeKeeping s (placesOf m) y c)
+
+-- What Head, Deep and Fast answer of a slot, where they are not refused, that node finds.
+unfoldable pub CodeRemovalUnseen : Type 0
+CodeRemovalUnseen =
+    (s : Settings) (m : Lent) (y : Node) → CodeCalls s m y → (t : ℕ) (a : Answer) (o : Choice) → answerOf a ≡ done o →
+    (IsHead s m t a → o ≡ chosen (headOf s y t)) × (IsDeep s m t a → o ≡ chosen (deepOf s y t)) × (IsFast s m t a → o ≡ fastOf s y t)

@@ -11,10 +11,10 @@ use Rattle.protocol.specs.Store.{entries, inView}
 use Rattle.protocol.specs.Packet.{packetOf}
 use Rattle.protocol.specs.Calls.Write.{gossipOf, proposalOf, proposedNow, packetOut, lastBlock, afterGenesis}
 use Rattle.protocol.proofs.Calls.Write.{IsProposer, proposer-true, proposer-holds, last-end}
+use Rattle.protocol.proofs.Calls.Keeps.{Keeps}
 use Rattle.resilience.specs.Run.{Network, settings, sent, owes, owesProposal, step}
 use Rattle.resilience.proofs.Steps.Change.{turn-after}
 use Rattle.resilience.proofs.Steps.Log.{SentBy}
-use Rattle.resilience.proofs.Steps.Growth.{Grows}
 use Rattle.resilience.proofs.Runs.Trace.{at}
 use Rattle.resilience.proofs.Runs.Execution.{Execution, world}
 use Rattle.resilience.proofs.Runs.History.{beat-before}
@@ -80,7 +80,7 @@ module _ {N : Network} {X : Execution N} {b p n y : ℕ} (Q : Built X b p n y) w
     inside : s .when ≤ X .end
     inside = omega (arith, s .before)
 
-    since : Grows (settings N p) (world X (suc (Q .when)) .node p) (world X (s .when) .node p)
+    since : Keeps (settings N p) (world X (suc (Q .when)) .node p) (world X (s .when) .node p)
     since = grows X p (suc (Q .when)) (s .when) (s .after) inside
 
     seen-is : world X (s .when) .node p .clock .seen ≡ b

@@ -1,7 +1,9 @@
--- What an answer of the code puts in the log is what the call's own reply puts there in `resilience`. Assumes nothing.
+-- What an answer of the code puts in the log is what the call's own reply puts there in `resilience`; and replies with their values seen as
+-- others. Assumes nothing.
 use Prim.Native.Nat.{ℕ}
 use mathlib.Core.Path.{_≡_, refl, ap, _∙_}
 use mathlib.Core.List.{List, []}
+use native.Mathlib.Omega.{arith}
 use Rattle.protocol.specs.Refusal as rules
 use Rattle.protocol.specs.Calls.Write as writing
 use Rattle.answers.specs.Answers.{Value, nothingMore, received, block, replyOf, writtenOf, mapReply}
@@ -11,6 +13,12 @@ use Rattle.answers.specs.declared.Written.{Written}
 use Rattle.answers.specs.declared.Written.the-variants as written
 use Rattle.resilience.specs.Run.{Event, carried, said, sends}
 use Rattle.conformance.specs.CodeRun.{logged, carriedOut, packetSent}
+
+-- a reply that is done, with its value seen as another
+pub done-mapped : {A B : Type 0} (value : A → B) (o : rules.Reply A) (b : B) → mapReply value o ≡ rules.done b → (a : A) × (o ≡ rules.done a) × (b ≡ value a)
+unfolding mapReply
+done-mapped value (rules.refused k) b e = let z : _≡_ {A = ℕ} 0 1 = cc in absurd (omega arith)
+done-mapped value (rules.done a) b e = (a, refl, cc)
 
 -- what stands in the log for the block that is answered
 abbrev pub ofBlock : (ℕ → List Event) → Value → List Event

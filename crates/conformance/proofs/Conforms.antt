@@ -8,12 +8,12 @@ use Rattle.protocol.specs.Lent.{Lent, nodeOf}
 use Rattle.answers.specs.declared.Reply.the-variants as reply
 use Rattle.answers.specs.Promises.{Opens}
 use Rattle.resilience.specs.Run as model
-use Rattle.resilience.specs.Run.{World, Run, settings, isHonest}
+use Rattle.resilience.specs.Run.{World, Run, Onward, settings, isHonest}
 use Rattle.resilience.specs.Resilience.{Opened, Resilience}
 use Rattle.resilience.proofs.Steps.Allowed.{is-true, truth}
 use Rattle.resilience.proofs.Resilient.{resilient}
 use Rattle.conformance.specs.State.{Deployment, State, network, decoded}
-use Rattle.conformance.specs.CodeRun.{CodeRun, opened, then}
+use Rattle.conformance.specs.CodeRun.{CodeRun, opened, then, CodeOnward, now, next}
 use Rattle.conformance.specs.Conformance.{Conformance, CodeResilience}
 use Rattle.conformance.proofs.Memory.{opened-done, opened-node, opened-healthy}
 use Rattle.conformance.proofs.Steps.{AllHealthy, follows}
@@ -59,6 +59,20 @@ conforming D w (then {w = v} R s a c) = next (conforming D v R)
           run = subst (λ (o : World). Run (network D) o) (F .world) (model.then (C .run) s a);
           healthy = F .healthy;
         }
+
+-- a run of the code goes on as a run of `resilience` does
+pub record Going (D : Deployment) (u w : State) : Type 0 where
+  pub onward : Onward (network D) (decoded D u) (decoded D w)
+  pub healthy : AllHealthy D w
+
+pub going : (D : Deployment) (u w : State) → AllHealthy D u → CodeOnward D u w → Going D u w
+going D u w H now = record { onward = model.now; healthy = H }
+going D u w H (next {w = v} O s a c) = more (going D u v H O)
+  where
+    more : Going D u v → Going D u w
+    more G =
+        let F = follows D v (G .healthy) s w (is-true _ a) c in
+        record { onward = subst (λ (o : World). Onward (network D) (decoded D u) o) (F .world) (model.next (G .onward) s a); healthy = F .healthy }
 
 pub conforms : Conformance
 unfolding Conformance

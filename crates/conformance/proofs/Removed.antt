@@ -3,7 +3,6 @@
 use Prim.Native.Nat.{ℕ}
 use mathlib.Core.Path.{_≡_, refl, sym, ap, _∙_}
 use mathlib.Core.Bool.{true, false}
-use native.Mathlib.Omega.{arith}
 use Rattle.protocol.specs.declared.Settings.{Settings}
 use Rattle.protocol.specs.Lists.{filter}
 use Rattle.protocol.specs.Filters.{Choice, chosen}
@@ -28,6 +27,7 @@ use Rattle.answers.specs.declared.Reply as replies
 use Rattle.answers.specs.Answers.{Value, nothingMore, received, block, replyOf, mapReply}
 use Rattle.answers.specs.Promises.{Leaves}
 use Rattle.conformance.specs.CodeRemoval.{promised, CodeCalls, opened, then, CodeRemovalUnseen}
+use Rattle.conformance.proofs.Answers.{done-mapped}
 use Rattle.conformance.proofs.Memory.{opened-done, opened-node, opened-healthy, Called, called}
 
 -- a reply with its value seen as another
@@ -36,11 +36,6 @@ module _ {A B : Type 0} (value : A → B) where
   unfolding byTen mapReply
   ten-mapped (refused k) = refl
   ten-mapped (done a) = refl
-
-  done-mapped : (o : Reply A) (b : B) → mapReply value o ≡ done b → (a : A) × (o ≡ done a) × (b ≡ value a)
-  unfolding mapReply
-  done-mapped (refused k) b e = let z : _≡_ {A = ℕ} 0 1 = cc in absurd (omega arith)
-  done-mapped (done a) b e = (a, refl, cc)
 
 module _ (s : Settings) where
   -- sound memory that holds y without its old votes

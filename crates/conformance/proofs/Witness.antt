@@ -5,12 +5,9 @@ use mathlib.Core.List.{_∷_}
 use lib.ListN.{replicate}
 use Rattle.protocol.specs.Store.{freshClock}
 use Rattle.protocol.specs.Lent.{rowsOf, placesIn, placesOf, nodeOf}
-use Rattle.protocol.proofs.Basics.Tests.{and-left, and-right}
-use Rattle.resilience.specs.Run.{start, opened}
-use Rattle.resilience.proofs.Witness.Runs.{allowedAll, run-all}
-use Rattle.resilience.proofs.Witness.Acts.{butOne, together}
-use Rattle.resilience.proofs.Witness.Tests.{openedTest, opened-true}
-use Rattle.resilience.proofs.Witness.Premises.{proposedTest, meetsTest}
+use Rattle.protocol.proofs.Basics.Tests.{and-left}
+use Rattle.resilience.proofs.Witness.Acts.{butOne}
+use Rattle.resilience.proofs.Witness.Premises.{proposedTest, proposed-true, meetsTest}
 use Rattle.resilience.proofs.Witness.FiveNodes.{five, acts, end, met}
 use Rattle.conformance.specs.State.{Deployment, State, decoded}
 use Rattle.conformance.specs.CodeRun.{CodeRun}
@@ -23,16 +20,14 @@ deployment =
     record {
       nodes = 5;
       expiry = 2;
-      depth = 1;
+      depth = 2;
       honest = butOne;
       lent = λ i.
           record { blocks = 0 ∷ 0 ∷ 0 ∷ 1 ∷ replicate 36 0; votes = replicate 120 0; blocksUsed = 1; votesUsed = 0; clock = freshClock };
     }
 
 pub five-nodes : (w : State) × CodeRun deployment w × (decoded deployment w ≡ end)
-unfolding Completeness meetsTest proposedTest placesOf placesIn nodeOf rowsOf
+unfolding Completeness meetsTest placesOf placesIn nodeOf rowsOf
 five-nodes =
-    let p = and-left (proposedTest five acts 6 2 21 11) _ met in
-    let r = and-right (openedTest five) _ p in
-    completes deployment (opened-true five (and-left (openedTest five) _ p)) end
-    (run-all five (start five) (together acts) opened (and-left (allowedAll five (start five) (together acts)) _ r))
+    let P = proposed-true five acts 6 2 21 11 (and-left (proposedTest five acts 6 2 21 11) _ met) .started in
+    completes deployment (P .opened) end (P .run)

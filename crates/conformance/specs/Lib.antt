@@ -3,3 +3,4 @@ pub mod State
 pub mod CodeRun
 pub mod Conformance
 pub mod CodeRemoval
+pub mod CodeDeepAgreement

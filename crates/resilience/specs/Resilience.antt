@@ -60,14 +60,18 @@ Enough log = (beat i : ℕ) → List·Memᴰ (lacked beat i) log → ⊥
 
 -- ---- "that honest packets sent from the merge beat of slot t-1 on reach every other honest node before its next waking beat"
 
--- What i sent at beat b, from beat `from` on, was given to j after that and at a beat before the one at which j is awake.
+-- What i sent at beat b was given to j after that and at a beat before the one at which j is awake.
 -- The beat may have begun: nothing is asked before j makes its call.
-unfoldable pub Delivered : ℕ → List Event → Type 0
-Delivered from log =
+unfoldable pub DeliveredAt : ℕ → List Event → Type 0
+DeliveredAt b log =
     (j beat : ℕ) (newer older : List Event) → log ≡ newer ++ (woke beat j ∷ older) →
-    (i b : ℕ) (bytes : List ℕ) (since before : List Event) → older ≡ since ++ (sent b i bytes ∷ before) →
-    from ≤ b → b < beat → (i ≡ j → ⊥) →
+    (i : ℕ) (bytes : List ℕ) (since before : List Event) → older ≡ since ++ (sent b i bytes ∷ before) →
+    b < beat → (i ≡ j → ⊥) →
     (c : ℕ) × ((c < beat) × (ok : Bool) × List·Memᴰ (given c j bytes ok) since)
+
+-- "from the merge beat of slot t-1 on"
+unfoldable pub Delivered : ℕ → List Event → Type 0
+Delivered from log = (b : ℕ) → from ≤ b → DeliveredAt b log
 
 -- ---- "more honest nodes vote than the dishonest nodes together with the honest ones who voted in any of the E - 1 slots before it but not in it"
 
@@ -86,12 +90,15 @@ unfoldable pub votesBefore : ℕ → List Event → ℕ → ℕ → Bool
 votesBefore zero log slot i = false
 votesBefore (suc k) log slot i = (ltb (suc k) slot && votesIn log (slot - suc k) i) || votesBefore k log slot i
 
+-- the count in slot r
+abbrev pub MoreVote : Network → ℕ → List Event → Type 0
+MoreVote N r log =
+    count (λ i. not (N .honest i) || (votesBefore (N .expiry - 1) log r i && not (votesIn log r i))) (N .nodes)
+    < count (λ i. N .honest i && votesIn log r i) (N .nodes)
+
 -- "in each slot from t on whose vote beat is over": the next beat has begun
 unfoldable pub Majority : Network → ℕ → World → Type 0
-Majority N t w =
-    (r : ℕ) → t ≤ r → 3 * r + 1 < w .beat →
-    count (λ i. not (N .honest i) || (votesBefore (N .expiry - 1) (w .log) r i && not (votesIn (w .log) r i))) (N .nodes)
-    < count (λ i. N .honest i && votesIn (w .log) r i) (N .nodes)
+Majority N t w = (r : ℕ) → t ≤ r → 3 * r + 1 < w .beat → MoreVote N r (w .log)
 
 -- ---- the claim
 

@@ -163,3 +163,8 @@ allowed N w (Receive i bytes) = isHonest N i && all (λ b. ltb b 256) bytes
 pub data Run (N : Network) : World → Type 0 where
   opened : Run N (start N)
   then : {w : World} → Run N w → (s : Step) → T (allowed N w s) → Run N (step N w s)
+
+-- A run that stands in u goes on, by steps that are allowed, and stands in w.
+pub data Onward (N : Network) (u : World) : World → Type 0 where
+  now : Onward N u u
+  next : {w : World} → Onward N u w → (s : Step) → T (allowed N w s) → Onward N u (step N w s)

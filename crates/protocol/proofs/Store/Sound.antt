@@ -63,10 +63,11 @@ pub record Ranges (s : Settings) : Type 0 where
   pub few : s .nodes ≤ 64
   pub own : s .own < s .nodes
   pub expiry : 1 ≤ s .expiry
+  pub depth : 1 ≤ s .depth
 
 pub ranges : (s : Settings) → settingsSound s ≡ true → Ranges s
 unfolding settingsSound between
-ranges s e = record { some = search facts; few = search facts; own = search facts; expiry = search facts }
+ranges s e = record { some = search facts; few = search facts; own = search facts; expiry = search facts; depth = search facts }
 
 pub places-few : (pl : Places) → placesSound pl ≡ true → (pl .blocks ≤ 2048) × (pl .votes ≤ 8192)
 unfolding placesSound between

@@ -1,7 +1,7 @@
 -- What an honest node sends, the others have when they next wake: a packet that is sent arrives, and owed gossip brings over the sender's store
 -- but old votes. Assumes nothing.
 use Prim.Native.Nat.{ℕ, suc, _/_, _≤_, _<_}
-use mathlib.Core.Path.{_≡_, sym, ap, _∙_}
+use mathlib.Core.Path.{_≡_, sym, ap, _∙_, subst}
 use mathlib.Core.Logic.{_⊎_, inl, inr}
 use mathlib.Core.Bool.{true, false, false≢true}
 use mathlib.Core.List.{List, _∷_, _++_, List·Memᴰ·cases-cons, append-assoc}
@@ -21,7 +21,7 @@ use Rattle.protocol.proofs.Calls.Passed.{Receives}
 use Rattle.protocol.proofs.Calls.Receive.{stores-blocks, stores-votes}
 use Rattle.protocol.proofs.Exchange.Sendable.{store-sendable}
 use Rattle.resilience.specs.Run.{Network, settings, isHonest, Receive, Event, woke, sent, given, owesGossip, step}
-use Rattle.resilience.specs.Resilience.{Delivered}
+use Rattle.resilience.specs.Resilience.{DeliveredAt}
 use Rattle.resilience.proofs.Steps.Effect.{receivedNode}
 use Rattle.resilience.proofs.Runs.Trace.{at}
 use Rattle.resilience.proofs.Runs.Execution.{Execution, world, log, receiver-honest}
@@ -60,13 +60,13 @@ module _ {N : Network} (X : Execution N) where
     pub is : X .steps when ≡ Receive j bytes
     pub early : world X when .beat < world X m .beat
 
-  module _ (from : ℕ) (del : Delivered from (log X)) where
+  module _ (at-beat : ℕ) (del : DeliveredAt at-beat (log X)) where
     pub arrives : (g m i j : ℕ) (bytes : List ℕ) → g < m → step N (world X g) (X .steps g) .log ≡ sent (world X g .beat) i bytes ∷ world X g .log → Woken m j
-        → from ≤ world X g .beat → world X g .beat < world X m .beat → (i ≡ j → ⊥) → Arrival g m j bytes
-    unfolding at Delivered
+        → world X g .beat ≡ at-beat → world X g .beat < world X m .beat → (i ≡ j → ⊥) → Arrival g m j bytes
+    unfolding at DeliveredAt
     arrives g m i j bytes l e w f b ne =
         let r = log-later X (suc g) m l in
-        let d = del j (world X m .beat) (w .0) (world X m .log) (w .1) i (world X g .beat) bytes (r .0) (world X g .log) (r .1 ∙ ap (λ o. r .0 ++ o) e) f b ne in
+        let d = (subst (λ (z : ℕ). DeliveredAt z (log X)) (sym f) del) j (world X m .beat) (w .0) (world X m .log) (w .1) i bytes (r .0) (world X g .log) (r .1 ∙ ap (λ o. r .0 ++ o) e) b ne in
         let s = since-log X (suc g) m l (r .0) (r .1) (given (d .0) j bytes (d .1 .1)) (d .1 .2) in
         let G = s .3 in
         record { when = s .0; after = s .1; before = s .2; is = G .is; early = omega (arith, G .beat, d .1 .0) }
@@ -105,9 +105,9 @@ module _ {N : Network} (X : Execution N) where
 
   -- ---- gossip that i owes at index a has reached j when it wakes at a later beat
 
-  module _ (from : ℕ) (del : Delivered from (log X)) (a m i j : ℕ) (l : a ≤ m) (lm : m < X .end) (hi : isHonest N i ≡ true)
+  module _ (at-beat : ℕ) (del : DeliveredAt at-beat (log X)) (a m i j : ℕ) (l : a ≤ m) (lm : m < X .end) (hi : isHonest N i ≡ true)
       (o : owesGossip (world X a .turn i) ≡ true)
-      (w : Woken m j) (f : from ≤ world X a .beat) (b : world X a .beat < world X m .beat) (within : world X m .beat / 3 ≤ limits .slot) (ne : i ≡ j → ⊥) where
+      (w : Woken m j) (f : world X a .beat ≡ at-beat) (b : world X a .beat < world X m .beat) (within : world X m .beat / 3 ≤ limits .slot) (ne : i ≡ j → ⊥) where
     s : Sending X i hi false a o m
     s = sends-before X i hi false a o m (omega arith) b l
 
@@ -117,8 +117,8 @@ module _ {N : Network} (X : Execution N) where
     arrival : Arrival (s .when) m j (packetBytes (gossipOf (world X (s .when) .node i)))
     unfolding packetOut
     arrival =
-        arrives from del (s .when) m i j (packetBytes (gossipOf (world X (s .when) .node i))) (s .before)
-        (written X (s .when) (omega (arith, s .before)) false i (s .buffer) (s .is) (λ e. absurd (false≢true e))) w (omega (arith, s .beat))
+        arrives at-beat del (s .when) m i j (packetBytes (gossipOf (world X (s .when) .node i))) (s .before)
+        (written X (s .when) (omega (arith, s .before)) false i (s .buffer) (s .is) (λ e. absurd (false≢true e))) w (s .beat ∙ f)
         (omega (arith, s .beat)) ne
 
     early : world X (s .when) .node i .clock .seen / 3 ≤ world X (arrival .when) .beat / 3

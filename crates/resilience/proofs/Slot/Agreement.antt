@@ -1,5 +1,5 @@
 -- Every honest vote of the slot is for the proposed block: each voter's view has just the members of the proposer's. Assumes nothing.
-use Prim.Native.Nat.{ℕ, zero, suc, _+_, _/_, _≤_, _<_}
+use Prim.Native.Nat.{ℕ, zero, suc, _+_, _-_, _/_, _≤_, _<_}
 use mathlib.Core.Path.{_≡_, refl, sym, ap, _∙_, subst}
 use mathlib.Core.Logic.{_⊎_, inl, inr}
 use mathlib.Core.Bool.{Bool, true, false, cond}
@@ -22,7 +22,7 @@ use Rattle.protocol.proofs.Store.Sound.{view-sound}
 use Rattle.protocol.proofs.Packet.Bytes.{round-trip}
 use Rattle.protocol.proofs.Calls.Brings.{brought-before}
 use Rattle.resilience.specs.Run.{Network, settings}
-use Rattle.resilience.specs.Resilience.{Delivered}
+use Rattle.resilience.specs.Resilience.{DeliveredAt}
 use Rattle.resilience.proofs.Runs.Execution.{Execution, world, log, storedFrom}
 use Rattle.resilience.proofs.Runs.History.{beat-mono, beat-before}
 use Rattle.resilience.proofs.Invariants.Soundness.{sound-tables}
@@ -61,7 +61,7 @@ module _ {N : Network} {X : Execution N} {b p n y : ℕ} (Q : Built X b p n y) w
 
   -- ---- another voter
 
-  module _ (from : ℕ) (del : Delivered from (log X)) (start : from < b) (c v x : ℕ) (A : Ballot X c v x) (now : c / 3 ≡ b / 3) (ne : v ≡ p → ⊥) where
+  module _ (before : DeliveredAt (b - 1) (log X)) (del : DeliveredAt b (log X)) (c v x : ℕ) (A : Ballot X c v x) (now : c / 3 ≡ b / 3) (ne : v ≡ p → ⊥) where
     beat-now : world X (A .when) .beat ≡ b + 1
     beat-now = omega (arith, A .beat, A .by .beat, Q .beat)
 
@@ -77,7 +77,7 @@ module _ {N : Network} {X : Execution N} {b p n y : ℕ} (Q : Built X b p n y) w
         go (suc q) e =
             let r = merged-when X (A .when) v (suc q) (A .honest) (omega arith) e in
             inside-lasts Q v (A .honest) ne (suc (r .0 .when)) (A .when) (r .1) (omega (arith, A .before))
-            (inside-merged Q v (A .honest) ne from del start (suc q) (omega (arith, joined)) (r .0))
+            (inside-merged Q v (A .honest) ne before (suc q) (omega (arith, joined)) (r .0))
 
     -- p's proposal has reached v, at the propose beat
     proposal : SentProposal Q (A .when)
@@ -92,8 +92,8 @@ module _ {N : Network} {X : Execution N} {b p n y : ℕ} (Q : Built X b p n y) w
     arrival : Arrival X (proposal .when) (A .when) v (packetBytes packet)
     unfolding packetOut
     arrival =
-        arrives X from del (proposal .when) (A .when) p v (packetBytes packet) (proposal .before) (proposal .log)
-        (woken X (A .when) v (A .before) (_ ∷ []) (ap (λ o. o .log) (A .by .result))) (omega (arith, proposal .beat))
+        arrives X b del (proposal .when) (A .when) p v (packetBytes packet) (proposal .before) (proposal .log)
+        (woken X (A .when) v (A .before) (_ ∷ []) (ap (λ o. o .log) (A .by .result))) (proposal .beat)
         (omega (arith, proposal .beat, beat-now)) (λ e. ne (sym e))
 
     arrival-beat : world X (arrival .when) .beat ≡ b
@@ -148,9 +148,9 @@ module _ {N : Network} {X : Execution N} {b p n y : ℕ} (Q : Built X b p n y) w
 
   -- ---- all voters
 
-  pub agreement : (from : ℕ) → Delivered from (log X) → from < b → (c v x : ℕ) → Ballot X c v x → c / 3 ≡ b / 3 → x ≡ n
-  agreement from del start c v x A now = go (eqb v p) refl
+  pub agreement : DeliveredAt (b - 1) (log X) → DeliveredAt b (log X) → (c v x : ℕ) → Ballot X c v x → c / 3 ≡ b / 3 → x ≡ n
+  agreement before del c v x A now = go (eqb v p) refl
     where
       go : (o : Bool) → eqb v p ≡ o → x ≡ n
       go true h = own-agrees c x (subst (λ (z : ℕ). Ballot X c z x) (eqb-true v p h) A) now
-      go false h = other-agrees from del start c v x A now (eqb-false v p h)
+      go false h = other-agrees before del c v x A now (eqb-false v p h)

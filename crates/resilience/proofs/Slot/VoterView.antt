@@ -1,5 +1,5 @@
 -- From its last Merge to its vote a voter's view has nothing that the proposer's view has not. Assumes nothing.
-use Prim.Native.Nat.{ℕ, suc, _+_, _/_, _%_, _≤_, _<_}
+use Prim.Native.Nat.{ℕ, suc, _+_, _-_, _/_, _%_, _≤_, _<_}
 use mathlib.Core.Path.{_≡_, refl, sym, ap, _∙_, subst}
 use mathlib.Core.Logic.{_⊎_, inl, inr}
 use mathlib.Core.Bool.{true}
@@ -20,7 +20,7 @@ use Rattle.protocol.proofs.Calls.Brings.{brings-true}
 use Rattle.protocol.proofs.Calls.Vote.{vote-view}
 use Rattle.protocol.proofs.Calls.Write.{others-in}
 use Rattle.resilience.specs.Run.{Network, settings, isHonest, given, step}
-use Rattle.resilience.specs.Resilience.{Delivered}
+use Rattle.resilience.specs.Resilience.{DeliveredAt}
 use Rattle.resilience.proofs.Steps.Effect.{receivedNode}
 use Rattle.resilience.proofs.Steps.Change.{Change, same, receives, proposes, votes, merges, change}
 use Rattle.resilience.proofs.Runs.Trace.{at}
@@ -135,9 +135,9 @@ module _ {N : Network} {X : Execution N} {b p n y : ℕ} (Q : Built X b p n y) w
         )
 
     -- for a later slot, after the Merge of the slot before: v sent its store, and p had it at Propose
-    pub inside-merged : (from : ℕ) → Delivered from (log X) → from < b → (q : ℕ) → q + 1 ≡ b / 3 → (M : Merged X v q)
+    pub inside-merged : DeliveredAt (b - 1) (log X) → (q : ℕ) → q + 1 ≡ b / 3 → (M : Merged X v q)
         → Inside (world X (suc (M .when)) .node v)
-    inside-merged from del start q e M = (
+    inside-merged del q e M = (
       omega (arith, ap (λ x. x .clock .done) (M .after), M .beat, Q .beat),
       λ s. record {
         blocks = λ c m. Memᴰ·append-left (blockOf Q ∷ []) (arrived .blocks c (view-stored (world X (suc (M .when)) .node v .blocks) c m));
@@ -150,7 +150,7 @@ module _ {N : Network} {X : Execution N} {b p n y : ℕ} (Q : Built X b p n y) w
 
         arrived : StoreWithin (storedFrom X (suc (M .when)) v) (world X (suc (M .when)) .node v) (proposer Q)
         arrived =
-            gossip-arrives X from del (suc (M .when)) (Q .when) v p (let o = beat-before X (suc (M .when)) (Q .when) late in omega arith)
+            gossip-arrives X (b - 1) del (suc (M .when)) (Q .when) v p (let o = beat-before X (suc (M .when)) (Q .when) late in omega arith)
             (Q .before) hv (M .turn)
             (woken X (Q .when) p (Q .before) (_ ∷ []) (ap (λ o. o .log) (Q .by .result))) (omega (arith, M .beat-after, Q .beat)) late
             (Q .by .tests .base .within) ne (storedFrom X (suc (M .when)) v)

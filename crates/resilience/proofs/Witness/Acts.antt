@@ -16,13 +16,13 @@ use Rattle.resilience.proofs.Witness.Events.{row}
 
 -- ---- networks
 
--- n nodes with expiry period E; node i has places for so many blocks, and for 30 votes
-abbrev pub network : ℕ → ℕ → (ℕ → Bool) → (ℕ → ℕ) → Network
-network n E honest blocks =
+-- n nodes with expiry period E and depth K; node i has places for so many blocks, and for 30 votes
+abbrev pub network : ℕ → ℕ → ℕ → (ℕ → Bool) → (ℕ → ℕ) → Network
+network n E K honest blocks =
     record {
       nodes = n;
       expiry = E;
-      depth = 1;
+      depth = K;
       honest = honest;
       places = λ i. record { blocks = blocks i; votes = 30 };
       before = λ i. fresh;

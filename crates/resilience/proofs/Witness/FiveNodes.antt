@@ -19,9 +19,9 @@ use Rattle.resilience.proofs.Witness.Events.{row, occurs, only, only-in
 use Rattle.resilience.proofs.Witness.Tests.{others, voters}
 use Rattle.resilience.proofs.Witness.Premises.{meetsTest, meets}
 
--- Node 1 is dishonest. Votes expire after two slots.
+-- Node 1 is dishonest. Votes expire after two slots, and a block is deep after two.
 abbrev pub five : Network
-five = network 5 2 butOne ten
+five = network 5 2 2 butOne ten
 
 -- ---- the dishonest packets
 
@@ -60,7 +60,7 @@ orphan = gossipWith (blockWith 14 13 1 ∷ []) []
 -- Before the first beat node 0 receives an empty gossip. Then it sleeps until the merge beat of slot 2.
 -- In slot 1 node 1 proposes block 12 to node 2 and block 11 to nodes 3 and 4. Each votes for the block that it saw, and of these packets
 -- none arrives. At the merge beat the three hear of one another's blocks and votes.
-slot-1 : List Act
+unfoldable slot-1 : List Act
 slot-1 =
     packet empty 0
     ∷ begin ∷ packet proposal-12 2 ∷ packet proposal-11 3 ∷ packet proposal-11 4
@@ -72,7 +72,7 @@ slot-1 =
 -- node 3 after it received node 2's vote. In the same beat node 1 votes for 12 at node 2 and for 21 at node 3.
 -- Node 0, asleep, receives the proposal at once, and in the vote beat all else that was sent since the merge beat, the latest first. It
 -- wakes for the merge. Node 4 falls asleep before it.
-slot-2 : List Act
+unfoldable slot-2 : List Act
 slot-2 =
     begin ∷ proposes 2 21 ∷ proposal 2 3 ∷ gossip 2 3 ∷ gossip 2 4 ∷ proposal 2 4 ∷ proposal 2 0
     ∷ begin ∷ awake 2 ∷ gossip 2 3 ∷ awake 3 ∷ packet vote-12 2 ∷ packet vote-21 3 ∷ awake 4 ∷ exchange (4 ∷ 3 ∷ 2 ∷ [])
@@ -82,7 +82,7 @@ slot-2 =
 
 -- Node 3 refuses the orphan block and proposes block 31. Node 4 receives what it missed and is awake again for the vote, but it is not joined:
 -- its Vote is refused, and its vote of slot 2 makes it one of the two against whom the three are counted. Nodes 0, 2 and 3 vote for 31, and all four merge.
-slot-3 : List Act
+unfoldable slot-3 : List Act
 slot-3 =
     begin ∷ packet orphan 3 ∷ proposes 3 31 ∷ proposal 3 0 ∷ gossip 3 0 ∷ gossip 3 2 ∷ proposal 3 2
     ∷ proposal 3 4 ∷ gossip 3 4 ∷ lateGossip 8 0 4 ∷ lateGossip 8 2 4 ∷ lateGossip 8 3 4
@@ -91,7 +91,7 @@ slot-3 =
     ∷ []
 
 -- Node 4 proposes block 41, and all four vote for it and merge, by which the votes of slot 1 leave their tables. Node 1 votes once, for 12.
-slot-4 : List Act
+unfoldable slot-4 : List Act
 slot-4 =
     begin ∷ proposes 4 41 ∷ gossip 4 0 ∷ proposal 4 0 ∷ proposal 4 2 ∷ gossip 4 2 ∷ gossip 4 3 ∷ proposal 4 3
     ∷ begin ∷ awake 0 ∷ awake 2 ∷ awake 3 ∷ awake 4 ∷ packet again-12 4 ∷ exchange (0 ∷ 2 ∷ 3 ∷ 4 ∷ [])
@@ -99,20 +99,20 @@ slot-4 =
     ∷ []
 
 -- Its two votes of slot 2 are out of the window of slot 5, so that it counts again. Node 0 proposes block 51, and all four vote for it.
-slot-5 : List Act
+unfoldable slot-5 : List Act
 slot-5 =
     begin ∷ proposes 0 51 ∷ gossip 0 2 ∷ proposal 0 2 ∷ proposal 0 3 ∷ gossip 0 3 ∷ gossip 0 4 ∷ proposal 0 4
     ∷ begin ∷ awake 0 ∷ awake 2 ∷ awake 3 ∷ awake 4 ∷ exchange (0 ∷ 2 ∷ 3 ∷ 4 ∷ [])
     ∷ []
 
-pub earlier : List Act
+unfoldable pub earlier : List Act
 unfolding slot-1 slot-2 slot-3 slot-4 slot-5
 earlier = slot-1 ++ (slot-2 ++ (slot-3 ++ (slot-4 ++ slot-5)))
 
 -- Nodes 0, 2 and 3 merge slot 5, and the votes of slot 2 leave their tables. Node 4 sleeps, and receives what they sent. It is awake again in the
 -- propose beat of slot 6. Its gossip holds the votes of slot 2: the others accept it and store none of these. Node 1 proposes block 61, on 12. Nodes 0, 2
 -- and 3 vote for 51, and the vote beat is over.
-pub later : List Act
+unfoldable pub later : List Act
 later =
     begin ∷ awake 0 ∷ awake 2 ∷ awake 3 ∷ exchange (0 ∷ 2 ∷ 3 ∷ []) ∷ gossip 0 4 ∷ gossip 2 4 ∷ gossip 3 4
     ∷ begin ∷ awake 4 ∷ gossip 4 0 ∷ gossip 4 2 ∷ gossip 4 3 ∷ packet proposal-61 0 ∷ packet proposal-61 2 ∷ packet proposal-61 3
@@ -120,7 +120,7 @@ later =
     ∷ begin
     ∷ []
 
-pub acts : List Act
+unfoldable pub acts : List Act
 unfolding earlier later
 acts = earlier ++ later
 

@@ -20,7 +20,7 @@ use Rattle.protocol.proofs.Basics.Tests.{facts, both, and-left, and-right, clas
 use Rattle.protocol.proofs.Basics.Members.{any-true, all-true}
 use Rattle.protocol.proofs.Store.Views.{block-same, vote-same}
 use Rattle.resilience.specs.Run.{Network, World, Event, woke, voted, built, sent, given, lacked, isHonest, settings, below, carried}
-use Rattle.resilience.specs.Resilience.{Opened, Gives, by-packet, by-proposer, OneBlock, AtOrAbove, here, up, Unforged, Enough, Delivered, Majority, votesIn, votesBefore}
+use Rattle.resilience.specs.Resilience.{Opened, Gives, by-packet, by-proposer, OneBlock, AtOrAbove, here, up, Unforged, Enough, Delivered, DeliveredAt, Majority, votesIn, votesBefore}
 use Rattle.resilience.proofs.Witness.Events.{row, is-kind, sameBytes, bytes-same, only, only-in}
 
 -- ---- "if a then b" as a test
@@ -50,15 +50,15 @@ below-true p (suc m) h i l = go (eqb i m) refl (λ k. below-true p m (and-right 
 unfoldable pub openedTest : Network → Bool
 openedTest N = below (λ i. implies (isHonest N i) (carried (openNode (settings N i) (N .places i) (N .before i) .reply))) (N .nodes)
 
-carried-done : (r : Reply Unit) → carried r ≡ true → r ≡ done tt
+pub carried-done : {A : Type 0} (r : Reply A) → carried r ≡ true → (a : A) × (r ≡ done a)
 carried-done (refused k) h = absurd (false≢true h)
-carried-done (done tt) h = refl
+carried-done (done a) h = (a, refl)
 
 pub opened-true : (N : Network) → openedTest N ≡ true → Opened N
 unfolding openedTest Opened
 opened-true N h i honest =
     let b = holds-true (isHonest N i) honest in
-    carried-done _ (implied (isHonest N i) _ (below-true _ (N .nodes) h i (ltb-true i (N .nodes) (and-left _ _ b))) b)
+    carried-done _ (implied (isHonest N i) _ (below-true _ (N .nodes) h i (ltb-true i (N .nodes) (and-left _ _ b))) b) .1
 
 -- ---- nothing forged
 
@@ -207,19 +207,6 @@ proposal-true N earlier p h kind honest =
       members-true sameVote vote-same (z .votes) (p .votes) vs,
     )
 
-unfoldable pub unforgedTest : Network → List Event → Bool
-unforgedTest N log = acceptedTest (blocksTest N) log && (acceptedTest (votesTest N) log && acceptedTest (proposalTest N) log)
-
-pub unforged-true : (N : Network) (log : List Event) → unforgedTest N log ≡ true → Unforged N log
-unfolding unforgedTest
-unforged-true N log h =
-    let b = acceptedTest (blocksTest N) log in
-    let v = acceptedTest (votesTest N) log in
-    let r = and-right b _ h in
-    unforged N log (accepted-true (blocksTest N) (GenuineBlocks N) (blocks-true N) log (and-left b _ h))
-    (accepted-true (votesTest N) (GenuineVotes N) (votes-true N) log (and-left v _ r))
-    (accepted-true (proposalTest N) (GenuineProposal N) (proposal-true N) log (and-right v _ r))
-
 -- ---- want of places or buffer
 
 unfoldable pub enoughTest : List Event → Bool
@@ -234,9 +221,10 @@ enough-true log h beat i m = false≢true (all-true _ h (lacked beat i) m)
 -- Delivered, with the words "before its next waking beat" left open: in time is what InTime says of the beat of arrival and the waking beat.
 abbrev pub Arrived : (ℕ → ℕ → Type 0) → ℕ → List Event → Type 0
 Arrived InTime from log =
+    (b : ℕ) → from ≤ b →
     (j beat : ℕ) (newer older : List Event) → log ≡ newer ++ (woke beat j ∷ older) →
-    (i b : ℕ) (bytes : List ℕ) (since before : List Event) → older ≡ since ++ (sent b i bytes ∷ before) →
-    from ≤ b → b < beat → (i ≡ j → ⊥) →
+    (i : ℕ) (bytes : List ℕ) (since before : List Event) → older ≡ since ++ (sent b i bytes ∷ before) →
+    b < beat → (i ≡ j → ⊥) →
     (c : ℕ) × (InTime c beat × (ok : Bool) × List·Memᴰ (given c j bytes ok) since)
 
 -- e is a packet that another node sent from beat `from` on and before `beat`
@@ -289,7 +277,7 @@ module _ (inTime : ℕ → ℕ → Bool) where
 
   pub arrived-true : (InTime : ℕ → ℕ → Type 0) → ((c beat : ℕ) → inTime c beat ≡ true → InTime c beat) →
       (from : ℕ) (log : List Event) → arrivedTest from log ≡ true → Arrived InTime from log
-  arrived-true InTime t from log h j beat newer older e i b bytes since before f l k ne =
+  arrived-true InTime t from log h b l j beat newer older e i bytes since before f k ne =
       let u = arrived-at from newer older j beat (ap (arrivedTest from) (sym e) ∙ h) in
       let r = reached-at from beat j [] since before b i bytes (ap (reachedTest from beat j []) (sym f) ∙ u) l k ne in
       let g = r .0 in
@@ -306,7 +294,7 @@ unfolding arrivedTest
 deliveredTest from log = arrivedTest ltb from log
 
 pub delivered-true : (from : ℕ) (log : List Event) → deliveredTest from log ≡ true → Delivered from log
-unfolding deliveredTest Delivered
+unfolding deliveredTest Delivered DeliveredAt
 delivered-true from log h = arrived-true ltb _<_ ltb-true from log h
 
 -- ---- one block for a number

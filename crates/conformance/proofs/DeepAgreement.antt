@@ -1,0 +1,127 @@
+-- Deep blocks agree, said of what the code answers: a Vote of the code is a vote of `resilience`, and Deep answers its deep block. Assumes nothing.
+use Prim.Native.Nat.{ℕ, _%_}
+use mathlib.Core.Path.{_≡_, sym, ap, _∙_, subst}
+use mathlib.Core.Bool.{true, cond}
+use native.Mathlib.Omega.{arith}
+use Rattle.protocol.specs.Filters.{chosen}
+use Rattle.protocol.specs.Store.{Places, Node}
+use Rattle.protocol.specs.Refusal.{Reply, done}
+use Rattle.protocol.specs.Calls.Vote.{vote}
+use Rattle.protocol.specs.Calls.Query.{deepOf, deepQuery}
+use Rattle.protocol.specs.Lent.{nodeOf, askLent}
+use Rattle.protocol.proofs.Lent.Calls.{vote-lawful, ask-lent}
+use Rattle.answers.specs.Answers.{block, answerOf, mapReply}
+use Rattle.answers.specs.declared.Reply.the-variants as reply
+use Rattle.answers.specs.declared.Answer.{Answer}
+use Rattle.answers.specs.declared.Answer.the-variants as answer
+use Rattle.resilience.specs.Run as model
+use Rattle.resilience.specs.Run.{Network, settings, isHonest, Due}
+use Rattle.resilience.specs.DeepAgreement.{Agree, JustVoted, DeepAfterVote, DeepAgreement, DeepAnswered}
+use Rattle.resilience.proofs.Steps.Allowed.{is-true, due-honest}
+use Rattle.resilience.proofs.DeepAgreement.{deep-agreement, deep-answered}
+use Rattle.conformance.specs.State.{Deployment, State, network, decoded}
+use Rattle.conformance.specs.CodeRun.{votes}
+use Rattle.conformance.specs.CodeDeepAgreement.{CodeJustVoted, CodeDeepAfterVote, CodeDeepAgreement, CodeDeepAnswered}
+use Rattle.conformance.proofs.Answers.{done-mapped}
+use Rattle.conformance.proofs.Memory.{called}
+use Rattle.conformance.proofs.Steps.{AllHealthy, Follows, follows}
+use Rattle.conformance.proofs.Conforms.{Conforming, conforming, going}
+
+-- ---- a question to an honest node
+
+module _ (D : Deployment) (u : State) (H : AllHealthy D u) (i : ℕ) (h : isHonest (network D) i ≡ true) where
+  abbrev N : Network
+  N = network D
+
+  pub holds : decoded D u .node i ≡ nodeOf (u .memory i)
+  holds = ap (λ b. cond b (nodeOf (u .memory i)) (model.start N .node i)) h
+
+  pub asked : {A : Type 0} (ask : Places → Node → Reply A) → askLent (settings N i) ask (u .memory i) ≡ ask (N .places i) (decoded D u .node i)
+  asked ask = ask-lent (settings N i) ask (u .memory i) (H i h .sound) ∙ (λ k. ask (H i h .places k) (sym holds k))
+
+-- ---- a Vote of the code
+
+module _ (D : Deployment) (i a : ℕ) (u : State) (A : CodeJustVoted D i a u) where
+  C : Conforming D (A .before)
+  C = conforming D (A .before) (A .run)
+
+  honest : isHonest (network D) i ≡ true
+  honest = due-honest (network D) (decoded D (A .before)) i (A .number) (is-true _ (A .due)) .0
+
+  phase : A .before .beat % 3 ≡ 1
+  phase = omega (arith, A .beat)
+
+  F : Follows D (A .before) (Due i (A .number)) u
+  F =
+      subst (λ (o : State). Follows D (A .before) (Due i (A .number)) o) (sym (A .left))
+      (follows D (A .before) (C .healthy) (Due i (A .number)) _ (is-true _ (A .due)) (votes i (A .number) (A .memory) (reply.Block (A .head)) phase (A .vote)))
+
+  replied : vote (settings (network D) i) (network D .places i) (decoded D (A .before) .node i) (A .before .beat) .reply ≡ done (A .head)
+  replied =
+      let s = settings (network D) i in
+      let K = called s (network D .places i) (decoded D (A .before) .node i) (A .before .memory i) (C .healthy i honest)
+      (holds D (A .before) (C .healthy) i honest) block (λ p x. vote s p x (A .before .beat)) (vote-lawful s (A .before .beat)) (A .memory) (reply.Block (A .head)) (A .vote) in
+      let r = done-mapped block _ (block (A .head)) (sym (K .reply)) in
+      let e : r .0 ≡ A .head = cc in
+      r .1 ∙ ap done e
+
+  just-voted : JustVoted (network D) i a (decoded D u)
+  just-voted = record {
+    before = decoded D (A .before);
+    run = C .run;
+    number = A .number;
+    due = A .due;
+    beat = A .beat;
+    head = A .head;
+    carriedOut = replied;
+    left = sym (F .world);
+  }
+
+  -- what Deep promises there
+  deep-asked : askLent (settings (network D) i) (λ p x. deepQuery (settings (network D) i) p x a) (u .memory i)
+      ≡ deepQuery (settings (network D) i) (network D .places i) (decoded D u .node i) a
+  deep-asked = asked D u (F .healthy) i honest (λ p x. deepQuery (settings (network D) i) p x a)
+
+-- ---- the claims
+
+answers-block : (r : Answer) (d : ℕ) → answerOf r ≡ done (chosen d) → (e : ℕ) × (r ≡ answer.Block e)
+answers-block (answer.Block b) d e = (b, λ i. answer.Block b)
+answers-block answer.Nothing d e = let z : _≡_ {A = ℕ} 0 1 = cc in absurd (omega arith)
+answers-block (answer.Refused k) d e = let z : _≡_ {A = ℕ} 0 1 = cc in absurd (omega arith)
+
+pub code-deep-answered : CodeDeepAnswered
+unfolding CodeDeepAnswered DeepAnswered mapReply
+code-deep-answered D i a u A r P =
+    answers-block r (deepOf (settings (network D) i) (decoded D u .node i) a)
+    (P ∙ ap (mapReply chosen) (deep-asked D i a u A ∙ deep-answered (network D) i a (decoded D u) (just-voted D i a u A)))
+
+decoded-deep : (D : Deployment) (w : State) (i a d : ℕ) → CodeDeepAfterVote D w i a d → DeepAfterVote (network D) (decoded D w) i a d
+decoded-deep D w i a d H =
+    let A = H .voted in
+    let u = H .after in
+    let r = done-mapped chosen _ (chosen d) (sym (H .deep)) in
+    let e : r .0 ≡ d = cc in
+    record {
+      after = decoded D u;
+      voted = just-voted D i a u A;
+      deep = sym (deep-asked D i a u A) ∙ r .1 ∙ ap done e;
+      onward = going D u w (F D i a u A .healthy) (H .onward) .onward;
+    }
+
+-- who had a deep block was opened
+claim : (D : Deployment) (w : State) (i a d : ℕ) → CodeDeepAfterVote D w i a d → Agree (network D) (decoded D w) (DeepAfterVote (network D) (decoded D w))
+unfolding DeepAgreement
+claim D w i a d H = deep-agreement (network D) (C D i a (H .after) (H .voted) .opened) (decoded D w)
+
+pub code-deep-agreement : CodeDeepAgreement
+unfolding CodeDeepAgreement
+code-deep-agreement D w s conditions unforged oneBlock enough = (
+  λ every a b i j d e far l H G.
+      claim D w i a d H s conditions unforged oneBlock enough .0 every a b i j d e far l (decoded-deep D w i a d H) (decoded-deep D w j b e G),
+  (
+    λ every a i j d e far H G.
+        claim D w i a d H s conditions unforged oneBlock enough .1 .0 every a i j d e far (decoded-deep D w i a d H) (decoded-deep D w j a e G),
+    λ beat p B parent b j e m from far G.
+        claim D w j b e G s conditions unforged oneBlock enough .1 .1 beat p B parent b j e m from far (decoded-deep D w j b e G),
+  ),
+)

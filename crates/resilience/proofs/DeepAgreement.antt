@@ -1,0 +1,327 @@
+-- Deep blocks agree: one of the K slots before slot a has an honest block B. The deep block for a is at or below B by its slot, and B is under every
+-- later head. Assumes nothing.
+use Prim.Native.Nat.{ℕ, _+_, _*_, _-_, _/_, _%_, _≤_, _<_}
+use mathlib.Core.Path.{_≡_, refl, sym, ap, _∙_, subst}
+use mathlib.Core.Logic.{_⊎_, inl, inr}
+use mathlib.Core.Bool.{true, cond}
+use mathlib.Core.List.{List, List·Memᴰ}
+use native.Mathlib.Nat.{le-refl}
+use native.Mathlib.Omega.{arith}
+use borrow.Author.Tests.{eq-eqb, ne-eqb, le-ltb}
+use Rattle.protocol.specs.declared.Block.{Block}
+use Rattle.protocol.specs.Chain.{genesis}
+use Rattle.protocol.specs.Store.{Node, inView}
+use Rattle.protocol.specs.Refusal.{first, pass, done, answer}
+use Rattle.protocol.specs.Calls.Vote.{voteTests, voteInto, vote, headOf}
+use Rattle.protocol.specs.Calls.Query.{queryTests, deepOf, deepQuery}
+use Rattle.protocol.proofs.Chain.Above.{above-trans, above-antisym, above-compare, above-level, above-start, known-down}
+use Rattle.protocol.proofs.Chain.Relations.{In, Known, Sound, Above}
+use Rattle.protocol.proofs.Confirm.Deep.{IsDeep, deep-is}
+use Rattle.protocol.proofs.Walk.Ends.{head-early}
+use Rattle.protocol.proofs.Store.Sound.{view-sound, ranges, sound-holds}
+use Rattle.protocol.proofs.Store.Views.{view-stored}
+use Rattle.protocol.proofs.Calls.Passed.{Votes, votes}
+use Rattle.protocol.proofs.Calls.Refusal.{answer-done, unless-done}
+use Rattle.protocol.proofs.Calls.Vote.{vote-sound}
+use Rattle.resilience.specs.Run.{Network, World, Run, then, settings, isHonest, built, step, dueAt}
+use Rattle.resilience.specs.Resilience.{Opened, Gives, by-proposer, OneBlock, AtOrAbove, here, Unforged, Enough, Delivered, Majority}
+use Rattle.resilience.specs.DeepAgreement.{ConditionsFrom, BlockEvery, JustVoted, DeepAfterVote, DeepAnswered, DeepAgreement, DeepWhileJoined, JoinedAgreement}
+use Rattle.resilience.proofs.Steps.Allowed.{is-true, truth, due-honest}
+use Rattle.resilience.proofs.Runs.Execution.{Execution, world, log, settings-sound, by-passage}
+use Rattle.resilience.proofs.Runs.History.{beat-mono}
+use Rattle.resilience.proofs.Invariants.Soundness.{sound-tables}
+use Rattle.resilience.proofs.Invariants.Clock.{seen-beat}
+use Rattle.resilience.proofs.Invariants.Blocks.{OfRun, one-block, stored-of-run}
+use Rattle.resilience.proofs.Invariants.Chains.{above-in-log, above-in-list}
+use Rattle.resilience.proofs.Invariants.Proposals.{Built, built-of}
+use Rattle.resilience.proofs.Slot.ProposerView.{blockOf}
+use Rattle.resilience.proofs.Resilient.{under-head}
+
+-- the third demand's premises from slot s on are such conditions
+pub conditions-from : (N : Network) (w : World) (s : ℕ) → Delivered (3 * s - 1) (w .log) → Majority N s w → ConditionsFrom N s w
+unfolding Delivered Majority ConditionsFrom
+conditions-from N w s del maj q l o = record { arrive = λ b from to. del b (omega arith); more = maj q l o }
+
+-- x names a block of the log, or block 0, that is early enough to be the deep block for slot a and is at or below an honest block of a slot from s
+-- on and before a
+record Backed (N : Network) (s : ℕ) (w : World) (a x : ℕ) : Type 0 where
+  beat : ℕ
+  proposer : ℕ
+  number : ℕ
+  parent : ℕ
+  mem : List·Memᴰ (built beat proposer number parent) (w .log)
+  from : s ≤ beat / 3
+  past : beat / 3 < a
+  block : Block
+  of : (block ≡ genesis) ⊎ Gives (w .log) block
+  is : block .number ≡ x
+  early : (block .slot + N .depth ≤ a) ⊎ (block .number ≡ 0)
+  under : AtOrAbove (w .log) (block .number) number
+
+-- also for later slots
+later : {N : Network} {s : ℕ} {w : World} {a b x : ℕ} → a ≤ b → Backed N s w a x → Backed N s w b x
+later {N} {a = a} {b = b} l K = record {
+  beat = K .beat;
+  proposer = K .proposer;
+  number = K .number;
+  parent = K .parent;
+  mem = K .mem;
+  from = K .from;
+  past = omega (arith, K .past);
+  block = K .block;
+  of = K .of;
+  is = K .is;
+  early = go (K .early);
+  under = K .under;
+}
+  where
+    go : (K .block .slot + N .depth ≤ a) ⊎ (K .block .number ≡ 0) → (K .block .slot + N .depth ≤ b) ⊎ (K .block .number ≡ 0)
+    go (inl e) = inl (omega arith)
+    go (inr z) = inr z
+
+-- ---- at a point of an execution: node i is joined for slot a, or has merged it
+
+module _ {N : Network} (X : Execution N) (k : ℕ) (l : k ≤ X .end) (i : ℕ) (h : isHonest N i ≡ true) (a : ℕ)
+    (since : a ≤ world X k .node i .clock .merged + 1) (until : world X k .node i .clock .merged ≤ a) where
+  -- the merge beat of the slot before has begun
+  begun : 3 * a ≤ world X (X .end) .beat + 1
+  begun = let t = sound-tables X k i h .time in omega (arith, seen-beat X k i h, t .done-seen, t .merged-done, beat-mono X k (X .end) l)
+
+  abbrev bs : List Block
+  bs = inView (world X k .node i .blocks)
+
+  abbrev deepNow : ℕ
+  deepNow = deepOf (settings N i) (world X k .node i) a
+
+  abbrev headNow : ℕ
+  headNow = headOf (settings N i) (world X k .node i) a
+
+  S : Sound bs
+  S = view-sound (sound-tables X k i h)
+
+  of-run : (c : Block) → In c bs → OfRun X c
+  of-run c n = stored-of-run X k l i h c (view-stored (world X k .node i .blocks) c n)
+
+  head-known : Known bs headNow
+  unfolding headOf
+  head-known = let c = head-early S (inView (world X k .node i .votes)) (N .nodes) (N .expiry) a in (c .0, c .1, c .2)
+
+  deepest : (d : Block) × IsDeep bs headNow (N .depth) a d × (d .number ≡ deepNow)
+  unfolding headOf deepOf
+  deepest = deep-is S (inView (world X k .node i .votes)) (N .nodes) (N .expiry) (N .depth) a
+
+  -- a block of the run with the number of one in view is in view
+  in-view : (c : Block) → OfRun X c → Known bs (c .number) → In c bs
+  in-view c o n = rw (one-block X (n .0) c (of-run (n .0) (n .1)) o (n .2)) at (n .1)
+
+  -- what is at or below the deep block and at or above it is the deep block
+  both-ways : (x : ℕ) → AtOrAbove (log X) x deepNow → AtOrAbove (log X) deepNow x → x ≡ deepNow
+  both-ways x p q =
+      let known : Known bs deepNow = (deepest .0, deepest .1 .mem, deepest .2) in
+      let under = above-in-list X bs of-run S known p in
+      above-antisym S under (above-in-list X bs of-run S (known-down S known under) q)
+
+  -- an honest block of slot a - K or an earlier one is backed
+  block-backed : (s beat p B parent : ℕ) → List·Memᴰ (built beat p B parent) (log X) → s ≤ beat / 3 → beat / 3 + N .depth ≤ a
+      → Backed N s (world X (X .end)) a B
+  block-backed s beat p B parent m from far = record {
+    beat = beat;
+    proposer = p;
+    number = B;
+    parent = parent;
+    mem = m;
+    from = from;
+    past = omega (arith, ranges (settings N i) (settings-sound X i h) .depth);
+    block = record { number = B; parent = parent; slot = beat / 3 };
+    of = inr (by-proposer beat p m refl);
+    is = refl;
+    early = inl far;
+    under = here;
+  }
+
+  module _ (s : ℕ) (conditions : ConditionsFrom N s (world X (X .end))) where
+    -- an honest block of a slot from s on and before a
+    module _ (beat p B parent : ℕ) (m : List·Memᴰ (built beat p B parent) (log X)) (from : s ≤ beat / 3) (past : beat / 3 < a) where
+      Q : Built X beat p B parent
+      Q = built-of X beat p B parent m
+
+      -- is under the head
+      on-head : Above bs B headNow
+      unfolding ConditionsFrom
+      on-head =
+          let c = conditions (beat / 3) from (omega (arith, begun)) in
+          above-in-list X bs of-run S head-known
+          (under-head X beat p B parent m (c .arrive (beat - 1) (omega (arith, Q .beat)) (omega arith)) (c .arrive beat (omega (arith, Q .beat)) (omega (arith, Q .beat)))
+          (λ q o e. let d = conditions q (omega arith) e in (d .arrive (3 * q + 1) (omega arith) (le-refl (3 * q + 1)), d .more))
+          a past begun k l i h (omega arith) until)
+
+      B-known : Known bs B
+      B-known = known-down S head-known on-head
+
+      B-in : In (blockOf Q) bs
+      B-in = in-view (blockOf Q) (inr (by-proposer beat p m refl)) B-known
+
+      -- and at or above the deep block, unless its slot is too low
+      deep-under : a ≤ beat / 3 + N .depth → Above bs (deepest .0 .number) B
+      deep-under near = go (deepest .1 .early) (above-compare S (deepest .1 .under) on-head)
+        where
+          go : (deepest .0 .slot + N .depth ≤ a) ⊎ (deepest .0 .number ≡ 0) → Above bs (deepest .0 .number) B ⊎ Above bs B (deepest .0 .number)
+              → Above bs (deepest .0 .number) B
+          go e (inl o) = o
+          go (inr z) (inr o) = rw z (above-start S (blockOf Q) B-in)
+          go (inl e) (inr o) = above-level S (deepest .0) (blockOf Q) (deepest .1 .mem) B-in o (omega arith)
+
+      deep-backed : a ≤ beat / 3 + N .depth → Backed N s (world X (X .end)) a deepNow
+      deep-backed near = record {
+        beat = beat;
+        proposer = p;
+        number = B;
+        parent = parent;
+        mem = m;
+        from = from;
+        past = past;
+        block = deepest .0;
+        of = of-run (deepest .0) (deepest .1 .mem);
+        is = deepest .2;
+        early = deepest .1 .early;
+        under = above-in-log X bs of-run (deep-under near);
+      }
+
+    -- what is backed is at or below the deep block
+    backed-under : (x : ℕ) → Backed N s (world X (X .end)) a x → AtOrAbove (log X) x deepNow
+    backed-under x K = rw (← K .is, ← deepest .2) (above-in-log X bs of-run (go (K .early)))
+      where
+        under : Above bs (K .block .number) (K .number)
+        under = above-in-list X bs of-run S (B-known (K .beat) (K .proposer) (K .number) (K .parent) (K .mem) (K .from) (K .past)) (K .under)
+
+        under-head-too : Above bs (K .block .number) headNow
+        under-head-too = above-trans (on-head (K .beat) (K .proposer) (K .number) (K .parent) (K .mem) (K .from) (K .past)) under
+
+        go : (K .block .slot + N .depth ≤ a) ⊎ (K .block .number ≡ 0) → Above bs (K .block .number) (deepest .0 .number)
+        go (inl e) = deepest .1 .top (K .block) (in-view (K .block) (K .of) (known-down S head-known under-head-too)) under-head-too e
+        go (inr z) = rw z (above-start S (deepest .0) (deepest .1 .mem))
+
+-- ---- in a run: what holds at every such point holds of a deep block that a node had while it was joined
+
+module _ {N : Network} (opened : Opened N) (w : World) (unforged : Unforged N (w .log)) (oneBlock : OneBlock (w .log)) (enough : Enough (w .log)) where
+  at-point : {i a d : ℕ} → DeepWhileJoined N w i a d → (P : World → ℕ → Type 0)
+      → ((X : Execution N) (k : ℕ) → k ≤ X .end → isHonest N i ≡ true → a ≤ world X k .node i .clock .merged + 1 → world X k .node i .clock .merged ≤ a
+      → P (world X (X .end)) (deepOf (settings N i) (world X k .node i) a))
+      → P w d
+  at-point {i} {a} {d} H P f =
+      subst (P w) (H .deep)
+      (by-passage (H .point) w (H .run) (H .onward) opened unforged oneBlock enough
+      (λ (o p : World). a ≤ o .node i .clock .merged + 1 → o .node i .clock .merged ≤ a → P p (deepOf (settings N i) (o .node i) a))
+      (λ X k l. f X k l (is-true _ (H .honest))) (H .since) (H .until))
+
+pub joined-agreement : JoinedAgreement
+unfolding JoinedAgreement BlockEvery
+joined-agreement N opened w s conditions unforged oneBlock enough = (
+  λ every a b i j d e far l H G. agree every a b i j d e (omega arith) l H G,
+  (
+    λ every a i j d e far H G. same every a i j d e (omega arith) H G,
+    λ beat p B parent b j e m from far G. under b j e B G (own beat p B parent b j e m from (omega arith) G),
+  ),
+)
+  where
+    backed : BlockEvery N s w → (a i d : ℕ) → s + N .depth ≤ a → DeepWhileJoined N w i a d → Backed N s w a d
+    backed every a i d far H =
+        at-point opened w unforged oneBlock enough H (λ (p : World) d. ConditionsFrom N s p → BlockEvery N s p → Backed N s p a d)
+        (λ X k l h f g c v.
+        let o = begun X k l i h a f g in
+        let z = ranges (settings N i) (settings-sound X i h) .depth in
+        let r = v (a - N .depth) (omega arith) (λ q m n. omega arith) in
+        deep-backed X k l i h a f g s c (r .0) (r .1) (r .2) (r .3) (r .6) (omega (arith, r .4)) (omega (arith, r .5)) (omega (arith, r .4)))
+        conditions every
+
+    under : (b j e x : ℕ) → DeepWhileJoined N w j b e → Backed N s w b x → AtOrAbove (w .log) x e
+    under b j e x G K =
+        at-point opened w unforged oneBlock enough G (λ (p : World) e. ConditionsFrom N s p → Backed N s p b x → AtOrAbove (p .log) x e)
+        (λ X k l h f g c. backed-under X k l j h b f g s c x) conditions K
+
+    agree : BlockEvery N s w → (a b i j d e : ℕ) → s + N .depth ≤ a → a ≤ b → DeepWhileJoined N w i a d → DeepWhileJoined N w j b e → AtOrAbove (w .log) d e
+    agree every a b i j d e far l H G = under b j e d G (later l (backed every a i d far H))
+
+    same : BlockEvery N s w → (a i j d e : ℕ) → s + N .depth ≤ a → DeepWhileJoined N w i a d → DeepWhileJoined N w j a e → d ≡ e
+    same every a i j d e far H G =
+        at-point opened w unforged oneBlock enough G (λ (p : World) e. AtOrAbove (p .log) d e → AtOrAbove (p .log) e d → d ≡ e)
+        (λ X k l h f g. both-ways X k l j h a f g d)
+        (agree every a a i j d e far (le-refl a) H G) (agree every a a j i e d far (le-refl a) G H)
+
+    own : (beat p B parent b j e : ℕ) → List·Memᴰ (built beat p B parent) (w .log) → s ≤ beat / 3 → beat / 3 + N .depth ≤ b → DeepWhileJoined N w j b e
+        → Backed N s w b B
+    own beat p B parent b j e m from far G =
+        at-point opened w unforged oneBlock enough G (λ (o : World) e. List·Memᴰ (built beat p B parent) (o .log) → Backed N s o b B)
+        (λ X k l h f g m. block-backed X k l j h b f g s beat p B parent m from far) m
+
+-- ---- what the customer asks for: right after a vote a node is joined, and Deep is answered
+
+module _ (N : Network) (i a : ℕ) (u : World) (A : JustVoted N i a u) where
+  abbrev x : World
+  x = A .before
+
+  passes : (first (voteTests (settings N i) (N .places i) (x .node i) (x .beat)) ≡ pass) × (headOf (settings N i) (x .node i) (x .beat / 3) ≡ A .head)
+      × (vote (settings N i) (N .places i) (x .node i) (x .beat) .node ≡ voteInto (settings N i) (x .node i) (x .beat))
+  unfolding vote
+  passes = unless-done (first (voteTests (settings N i) (N .places i) (x .node i) (x .beat))) _ _ _ (A .head) (A .carriedOut)
+
+  tests : Votes (settings N i) (N .places i) (x .node i) (x .beat)
+  tests = votes (settings N i) (N .places i) (x .node i) (x .beat) (passes .0)
+
+  abbrev y : Node
+  y = voteInto (settings N i) (x .node i) (x .beat)
+
+  phase : x .beat % 3 ≡ 1
+  phase = omega (arith, A .beat)
+
+  node : u .node i ≡ y
+  unfolding step dueAt
+  node =
+      ap (λ (o : World). o .node i) (A .left) ∙ ap (λ m. dueAt m N x i (A .number) .node i) phase
+      ∙ ap (λ b. cond b (vote (settings N i) (N .places i) (x .node i) (x .beat) .node) (x .node i)) (eq-eqb i i refl)
+      ∙ passes .2
+
+  query : deepQuery (settings N i) (N .places i) y a ≡ done (deepOf (settings N i) y a)
+  unfolding deepQuery queryTests first answer
+  query = rw (
+    sound-holds (vote-sound (settings N i) (N .places i) (x .node i) (x .beat) tests),
+    ne-eqb a 0 (λ e. omega (arith, tests .joined, A .beat)),
+    le-ltb (x .beat / 3) a (omega (arith, A .beat)),
+    le-ltb a (x .node i .clock .merged) (omega (arith, tests .joined, A .beat)),
+  )
+
+  answers : deepQuery (settings N i) (N .places i) (u .node i) a ≡ done (deepOf (settings N i) (u .node i) a)
+  answers = rw node query
+
+  merged : u .node i .clock .merged + 1 ≡ a
+  merged = omega (arith, ap (λ o. o .clock .merged) node, tests .joined, A .beat)
+
+pub deep-answered : DeepAnswered
+unfolding DeepAnswered
+deep-answered N i a u A = answers N i a u A
+
+while-joined : (N : Network) (w : World) (i a d : ℕ) → DeepAfterVote N w i a d → DeepWhileJoined N w i a d
+unfolding deepQuery
+while-joined N w i a d H =
+    let A = H .voted in
+    let u = H .after in
+    record {
+      point = u;
+      run = subst (λ (o : World). Run N o) (sym (A .left)) (then (A .run) _ (A .due));
+      honest = truth (due-honest N (A .before) i (A .number) (is-true _ (A .due)) .0);
+      since = omega (arith, merged N i a u A);
+      until = omega (arith, merged N i a u A);
+      deep = answer-done (first (queryTests (settings N i) (N .places i) (u .node i) a)) _ d (H .deep) .1;
+      onward = H .onward;
+    }
+
+pub deep-agreement : DeepAgreement
+unfolding DeepAgreement JoinedAgreement
+deep-agreement N opened w s conditions unforged oneBlock enough =
+    let r = joined-agreement N opened w s conditions unforged oneBlock enough in (
+      λ every a b i j d e far l H G. r .0 every a b i j d e far l (while-joined N w i a d H) (while-joined N w j b e G),
+      (
+        λ every a i j d e far H G. r .1 .0 every a i j d e far (while-joined N w i a d H) (while-joined N w j a e G),
+        λ beat p B parent b j e m from far G. r .1 .1 beat p B parent b j e m from far (while-joined N w j b e G),
+      ),
+    )

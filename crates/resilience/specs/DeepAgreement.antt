@@ -1,0 +1,92 @@
+-- Request 7, "Two corrections in force must agree": the deep blocks of honest nodes stand on one chain. Each part quotes the customer's words
+-- that it stands for. Assumes nothing.
+use mathlib.Core.Path.{_≡_}
+use Prim.Native.Nat.{ℕ, _+_, _*_, _/_, _≤_, _<_}
+use mathlib.Core.List.{List·Memᴰ}
+use lib.Dec.{T}
+use Rattle.protocol.specs.Refusal.{done}
+use Rattle.protocol.specs.Calls.Vote.{vote}
+use Rattle.protocol.specs.Calls.Query.{deepOf, deepQuery}
+use Rattle.resilience.specs.Run.{Network, World, Run, Onward, Due, built, isHonest, settings, step, allowed}
+use Rattle.resilience.specs.Resilience.{Opened, OneBlock, Unforged, Enough, DeliveredAt, MoreVote, AtOrAbove}
+
+-- ---- "let every slot from a slot s on whose vote beat is over meet the conditions that let an honest block last"
+
+-- What the third demand asks of slot q: the packets that honest nodes sent at the merge beat before it, at its propose beat and at its vote beat
+-- arrive, and its count of voters holds.
+pub record Conditions (N : Network) (q : ℕ) (w : World) : Type 0 where
+  pub arrive : (b : ℕ) → 3 * q ≤ b + 1 → b ≤ 3 * q + 1 → DeliveredAt b (w .log)
+  pub more : MoreVote N q (w .log)
+
+unfoldable pub ConditionsFrom : Network → ℕ → World → Type 0
+ConditionsFrom N s w = (q : ℕ) → s ≤ q → 3 * q + 1 < w .beat → Conditions N q w
+
+-- ---- "let every K consecutive ones of these slots hold at least one honest joined proposer who makes a block"
+
+-- of slots r to r + K - 1, from s on and with all their vote beats over, one has a Propose that was carried out
+unfoldable pub BlockEvery : Network → ℕ → World → Type 0
+BlockEvery N s w =
+    (r : ℕ) → s ≤ r → ((q : ℕ) → r ≤ q → q < r + N .depth → 3 * q + 1 < w .beat) →
+    (beat p B parent : ℕ) × (r ≤ beat / 3) × (beat / 3 < r + N .depth) × List·Memᴰ (built beat p B parent) (w .log)
+
+-- ---- the claim
+
+-- `Had i a d` says of which deep block d of node i for slot a, at an earlier point of the run that stands in w, the claim speaks.
+abbrev pub Agree : Network → World → (ℕ → ℕ → ℕ → Type 0) → Type 0
+Agree N w Had =
+    -- "let every slot from a slot s on whose vote beat is over meet the conditions that let an honest block last"
+    (s : ℕ) → ConditionsFrom N s w → Unforged N (w .log) → OneBlock (w .log) → Enough (w .log) →
+    -- "and let every K consecutive ones of these slots hold at least one honest joined proposer who makes a block. Then the deep block ..
+    -- with a at least s + K, is the same as or below the one that any honest joined node has .. for b from a on"
+    (BlockEvery N s w → (a b i j d e : ℕ) → s + N .depth ≤ a → a ≤ b → Had i a d → Had j b e → AtOrAbove (w .log) d e)
+    -- so in one slot all have the same
+    × ((BlockEvery N s w → (a i j d e : ℕ) → s + N .depth ≤ a → Had i a d → Had j a e → d ≡ e)
+    -- "An honest block of slot p, from s on, is at or below the deep block after every honest vote from slot p + K on"; this does not ask for
+    -- a block in every K slots
+    × ((beat p B parent b j e : ℕ) → List·Memᴰ (built beat p B parent) (w .log) → s ≤ beat / 3 → beat / 3 + N .depth ≤ b → Had j b e →
+    AtOrAbove (w .log) B e))
+
+-- "right after its vote in slot a": in a world of a run the Vote of node i was due, in slot a, and was carried out; this step left the world u
+pub record JustVoted (N : Network) (i a : ℕ) (u : World) : Type 0 where
+  pub before : World
+  pub run : Run N before
+  pub number : ℕ
+  pub due : T (allowed N before (Due i number))
+  pub beat : before .beat ≡ 3 * a + 1
+  pub head : ℕ
+  pub carriedOut : vote (settings N i) (N .places i) (before .node i) (before .beat) .reply ≡ done head
+  pub left : u ≡ step N before (Due i number)
+
+-- "the deep block that an honest joined node has right after its vote in slot a": what its Deep for a answers there; and the run went on from there
+-- and stands in w
+pub record DeepAfterVote (N : Network) (w : World) (i a d : ℕ) : Type 0 where
+  pub after : World
+  pub voted : JustVoted N i a after
+  pub deep : deepQuery (settings N i) (N .places i) (after .node i) a ≡ done d
+  pub onward : Onward N after w
+
+-- "At whatever point a run stands": in w
+unfoldable pub DeepAgreement : Type 0
+DeepAgreement = (N : Network) → Opened N → (w : World) → Agree N w (DeepAfterVote N w)
+
+-- It has one there: Deep for a is answered.
+unfoldable pub DeepAnswered : Type 0
+DeepAnswered =
+    (N : Network) (i a : ℕ) (u : World) → JustVoted N i a u →
+    deepQuery (settings N i) (N .places i) (u .node i) a ≡ done (deepOf (settings N i) (u .node i) a)
+
+-- ---- wider
+
+-- The deep block for a of an honest node that is joined for slot a, before its vote or after it and whether it votes or not, or that has
+-- merged slot a: the slot that it merged last is a - 1 or a.
+pub record DeepWhileJoined (N : Network) (w : World) (i a d : ℕ) : Type 0 where
+  pub point : World
+  pub run : Run N point
+  pub honest : T (isHonest N i)
+  pub since : a ≤ point .node i .clock .merged + 1
+  pub until : point .node i .clock .merged ≤ a
+  pub deep : deepOf (settings N i) (point .node i) a ≡ d
+  pub onward : Onward N point w
+
+unfoldable pub JoinedAgreement : Type 0
+JoinedAgreement = (N : Network) → Opened N → (w : World) → Agree N w (DeepWhileJoined N w)

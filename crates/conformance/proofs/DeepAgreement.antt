@@ -18,7 +18,8 @@ use Rattle.resilience.specs.Run as model
 use Rattle.resilience.specs.Run.{Network, settings, isHonest, Due}
 use Rattle.resilience.specs.DeepAgreement.{Agree, JustVoted, DeepAfterVote, DeepAgreement, DeepAnswered}
 use Rattle.resilience.proofs.Steps.Allowed.{is-true, due-honest}
-use Rattle.resilience.proofs.DeepAgreement.{deep-agreement, deep-answered}
+use Rattle.resilience.proofs.DeepAgreement.{deep-agreement}
+use Rattle.resilience.proofs.JustVoted.{deep-answered}
 use Rattle.conformance.specs.State.{Deployment, State, network, decoded}
 use Rattle.conformance.specs.CodeRun.{votes}
 use Rattle.conformance.specs.CodeDeepAgreement.{CodeJustVoted, CodeDeepAfterVote, CodeDeepAgreement, CodeDeepAnswered}
@@ -54,15 +55,15 @@ module _ (D : Deployment) (i a : ℕ) (u : State) (A : CodeJustVoted D i a u) wh
   F : Follows D (A .before) (Due i (A .number)) u
   F =
       subst (λ (o : State). Follows D (A .before) (Due i (A .number)) o) (sym (A .left))
-      (follows D (A .before) (C .healthy) (Due i (A .number)) _ (is-true _ (A .due)) (votes i (A .number) (A .memory) (reply.Block (A .head)) phase (A .vote)))
+      (follows D (A .before) (C .healthy) (Due i (A .number)) _ (is-true _ (A .due)) (votes i (A .number) (A .memory) (reply.Block (A .block)) phase (A .vote)))
 
-  replied : vote (settings (network D) i) (network D .places i) (decoded D (A .before) .node i) (A .before .beat) .reply ≡ done (A .head)
+  replied : vote (settings (network D) i) (network D .places i) (decoded D (A .before) .node i) (A .before .beat) .reply ≡ done (A .block)
   replied =
       let s = settings (network D) i in
       let K = called s (network D .places i) (decoded D (A .before) .node i) (A .before .memory i) (C .healthy i honest)
-      (holds D (A .before) (C .healthy) i honest) block (λ p x. vote s p x (A .before .beat)) (vote-lawful s (A .before .beat)) (A .memory) (reply.Block (A .head)) (A .vote) in
-      let r = done-mapped block _ (block (A .head)) (sym (K .reply)) in
-      let e : r .0 ≡ A .head = cc in
+      (holds D (A .before) (C .healthy) i honest) block (λ p x. vote s p x (A .before .beat)) (vote-lawful s (A .before .beat)) (A .memory) (reply.Block (A .block)) (A .vote) in
+      let r = done-mapped block _ (block (A .block)) (sym (K .reply)) in
+      let e : r .0 ≡ A .block = cc in
       r .1 ∙ ap done e
 
   just-voted : JustVoted (network D) i a (decoded D u)
@@ -72,8 +73,8 @@ module _ (D : Deployment) (i a : ℕ) (u : State) (A : CodeJustVoted D i a u) wh
     number = A .number;
     due = A .due;
     beat = A .beat;
-    head = A .head;
-    carriedOut = replied;
+    block = A .block;
+    reply = replied;
     left = sym (F .world);
   }
 
@@ -97,13 +98,13 @@ code-deep-answered D i a u A r P =
 
 decoded-deep : (D : Deployment) (w : State) (i a d : ℕ) → CodeDeepAfterVote D w i a d → DeepAfterVote (network D) (decoded D w) i a d
 decoded-deep D w i a d H =
-    let A = H .voted in
-    let u = H .after in
+    let A = H .justVoted in
+    let u = H .state in
     let r = done-mapped chosen _ (chosen d) (sym (H .deep)) in
     let e : r .0 ≡ d = cc in
     record {
-      after = decoded D u;
-      voted = just-voted D i a u A;
+      world = decoded D u;
+      justVoted = just-voted D i a u A;
       deep = sym (deep-asked D i a u A) ∙ r .1 ∙ ap done e;
       onward = going D u w (F D i a u A .healthy) (H .onward) .onward;
     }
@@ -111,7 +112,7 @@ decoded-deep D w i a d H =
 -- who had a deep block was opened
 claim : (D : Deployment) (w : State) (i a d : ℕ) → CodeDeepAfterVote D w i a d → Agree (network D) (decoded D w) (DeepAfterVote (network D) (decoded D w))
 unfolding DeepAgreement
-claim D w i a d H = deep-agreement (network D) (C D i a (H .after) (H .voted) .opened) (decoded D w)
+claim D w i a d H = deep-agreement (network D) (C D i a (H .state) (H .justVoted) .opened) (decoded D w)
 
 pub code-deep-agreement : CodeDeepAgreement
 unfolding CodeDeepAgreement

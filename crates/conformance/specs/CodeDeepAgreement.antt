@@ -22,17 +22,17 @@ pub record CodeJustVoted (D : Deployment) (i a : ℕ) (u : State) : Type 0 where
   pub number : ℕ
   pub due : T (allowed (network D) (decoded D before) (Due i number))
   pub beat : before .beat ≡ 3 * a + 1
-  pub head : ℕ
+  pub block : ℕ
   pub memory : Lent
-  pub vote : Votes (settings (network D) i) (before .memory i) (before .beat) memory (reply.Block head)
-  pub left : u ≡ after before i memory (owes true false) (voted (before .beat) i head ∷ woke (before .beat) i ∷ [])
+  pub vote : Votes (settings (network D) i) (before .memory i) (before .beat) memory (reply.Block block)
+  pub left : u ≡ after before i memory (owes true false) (voted (before .beat) i block ∷ woke (before .beat) i ∷ [])
 
 -- what Deep for a answers there; and the run went on from there and stands in w
 pub record CodeDeepAfterVote (D : Deployment) (w : State) (i a d : ℕ) : Type 0 where
-  pub after : State
-  pub voted : CodeJustVoted D i a after
-  pub deep : IsDeep (settings (network D) i) (after .memory i) a (answer.Block d)
-  pub onward : CodeOnward D after w
+  pub state : State
+  pub justVoted : CodeJustVoted D i a state
+  pub deep : IsDeep (settings (network D) i) (state .memory i) a (answer.Block d)
+  pub onward : CodeOnward D state w
 
 unfoldable pub CodeDeepAgreement : Type 0
 CodeDeepAgreement = (D : Deployment) (w : State) → Agree (network D) (decoded D w) (CodeDeepAfterVote D w)

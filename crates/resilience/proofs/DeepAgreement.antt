@@ -1,32 +1,28 @@
 -- Deep blocks agree: one of the K slots before slot a has an honest block B. The deep block for a is at or below B by its slot, and B is under every
 -- later head. Assumes nothing.
-use Prim.Native.Nat.{ℕ, _+_, _*_, _-_, _/_, _%_, _≤_, _<_}
-use mathlib.Core.Path.{_≡_, refl, sym, ap, _∙_, subst}
+use Prim.Native.Nat.{ℕ, _+_, _*_, _-_, _/_, _≤_, _<_}
+use mathlib.Core.Path.{_≡_, refl, subst}
 use mathlib.Core.Logic.{_⊎_, inl, inr}
-use mathlib.Core.Bool.{true, cond}
+use mathlib.Core.Bool.{true}
 use mathlib.Core.List.{List, List·Memᴰ}
 use native.Mathlib.Nat.{le-refl}
 use native.Mathlib.Omega.{arith}
-use borrow.Author.Tests.{eq-eqb, ne-eqb, le-ltb}
 use Rattle.protocol.specs.declared.Block.{Block}
 use Rattle.protocol.specs.Chain.{genesis}
-use Rattle.protocol.specs.Store.{Node, inView}
-use Rattle.protocol.specs.Refusal.{first, pass, done, answer}
-use Rattle.protocol.specs.Calls.Vote.{voteTests, voteInto, vote, headOf}
-use Rattle.protocol.specs.Calls.Query.{queryTests, deepOf, deepQuery}
+use Rattle.protocol.specs.Store.{inView}
+use Rattle.protocol.specs.Calls.Vote.{headOf}
+use Rattle.protocol.specs.Calls.Query.{deepOf}
 use Rattle.protocol.proofs.Chain.Above.{above-trans, above-antisym, above-compare, above-level, above-start, known-down}
 use Rattle.protocol.proofs.Chain.Relations.{In, Known, Sound, Above}
 use Rattle.protocol.proofs.Confirm.Deep.{IsDeep, deep-is}
 use Rattle.protocol.proofs.Walk.Ends.{head-early}
-use Rattle.protocol.proofs.Store.Sound.{view-sound, ranges, sound-holds}
+use Rattle.protocol.proofs.Store.Sound.{view-sound, ranges}
 use Rattle.protocol.proofs.Store.Views.{view-stored}
-use Rattle.protocol.proofs.Calls.Passed.{Votes, votes}
-use Rattle.protocol.proofs.Calls.Refusal.{answer-done, unless-done}
-use Rattle.protocol.proofs.Calls.Vote.{vote-sound}
-use Rattle.resilience.specs.Run.{Network, World, Run, then, settings, isHonest, built, step, dueAt}
+use Rattle.protocol.proofs.Calls.Passed.{votes}
+use Rattle.resilience.specs.Run.{Network, World, settings, isHonest, built}
 use Rattle.resilience.specs.Resilience.{Opened, Gives, by-proposer, OneBlock, AtOrAbove, here, Unforged, Enough, Delivered, Majority}
-use Rattle.resilience.specs.DeepAgreement.{ConditionsFrom, BlockEvery, JustVoted, DeepAfterVote, DeepAnswered, DeepAgreement, DeepWhileJoined, JoinedAgreement}
-use Rattle.resilience.proofs.Steps.Allowed.{is-true, truth, due-honest}
+use Rattle.resilience.specs.DeepAgreement.{ConditionsFrom, BlockEvery, DeepAgreement, DeepWhileJoined, JoinedAgreement}
+use Rattle.resilience.proofs.Steps.Allowed.{is-true}
 use Rattle.resilience.proofs.Runs.Execution.{Execution, world, log, settings-sound, by-passage}
 use Rattle.resilience.proofs.Runs.History.{beat-mono}
 use Rattle.resilience.proofs.Invariants.Soundness.{sound-tables}
@@ -36,6 +32,7 @@ use Rattle.resilience.proofs.Invariants.Chains.{above-in-log, above-in-
 use Rattle.resilience.proofs.Invariants.Proposals.{Built, built-of}
 use Rattle.resilience.proofs.Slot.ProposerView.{blockOf}
 use Rattle.resilience.proofs.Resilient.{under-head}
+use Rattle.resilience.proofs.JustVoted.{while-joined}
 
 -- the third demand's premises from slot s on are such conditions
 pub conditions-from : (N : Network) (w : World) (s : ℕ) → Delivered (3 * s - 1) (w .log) → Majority N s w → ConditionsFrom N s w
@@ -210,7 +207,7 @@ module _ {N : Network} (opened : Opened N) (w : World) (unforged : Unforged N (w
       → P w d
   at-point {i} {a} {d} H P f =
       subst (P w) (H .deep)
-      (by-passage (H .point) w (H .run) (H .onward) opened unforged oneBlock enough
+      (by-passage (H .world) w (H .run) (H .onward) opened unforged oneBlock enough
       (λ (o p : World). a ≤ o .node i .clock .merged + 1 → o .node i .clock .merged ≤ a → P p (deepOf (settings N i) (o .node i) a))
       (λ X k l. f X k l (is-true _ (H .honest))) (H .since) (H .until))
 
@@ -254,66 +251,7 @@ joined-agreement N opened w s conditions unforged oneBlock enough = (
         at-point opened w unforged oneBlock enough G (λ (o : World) e. List·Memᴰ (built beat p B parent) (o .log) → Backed N s o b B)
         (λ X k l h f g m. block-backed X k l j h b f g s beat p B parent m from far) m
 
--- ---- what the customer asks for: right after a vote a node is joined, and Deep is answered
-
-module _ (N : Network) (i a : ℕ) (u : World) (A : JustVoted N i a u) where
-  abbrev x : World
-  x = A .before
-
-  passes : (first (voteTests (settings N i) (N .places i) (x .node i) (x .beat)) ≡ pass) × (headOf (settings N i) (x .node i) (x .beat / 3) ≡ A .head)
-      × (vote (settings N i) (N .places i) (x .node i) (x .beat) .node ≡ voteInto (settings N i) (x .node i) (x .beat))
-  unfolding vote
-  passes = unless-done (first (voteTests (settings N i) (N .places i) (x .node i) (x .beat))) _ _ _ (A .head) (A .carriedOut)
-
-  tests : Votes (settings N i) (N .places i) (x .node i) (x .beat)
-  tests = votes (settings N i) (N .places i) (x .node i) (x .beat) (passes .0)
-
-  abbrev y : Node
-  y = voteInto (settings N i) (x .node i) (x .beat)
-
-  phase : x .beat % 3 ≡ 1
-  phase = omega (arith, A .beat)
-
-  node : u .node i ≡ y
-  unfolding step dueAt
-  node =
-      ap (λ (o : World). o .node i) (A .left) ∙ ap (λ m. dueAt m N x i (A .number) .node i) phase
-      ∙ ap (λ b. cond b (vote (settings N i) (N .places i) (x .node i) (x .beat) .node) (x .node i)) (eq-eqb i i refl)
-      ∙ passes .2
-
-  query : deepQuery (settings N i) (N .places i) y a ≡ done (deepOf (settings N i) y a)
-  unfolding deepQuery queryTests first answer
-  query = rw (
-    sound-holds (vote-sound (settings N i) (N .places i) (x .node i) (x .beat) tests),
-    ne-eqb a 0 (λ e. omega (arith, tests .joined, A .beat)),
-    le-ltb (x .beat / 3) a (omega (arith, A .beat)),
-    le-ltb a (x .node i .clock .merged) (omega (arith, tests .joined, A .beat)),
-  )
-
-  answers : deepQuery (settings N i) (N .places i) (u .node i) a ≡ done (deepOf (settings N i) (u .node i) a)
-  answers = rw node query
-
-  merged : u .node i .clock .merged + 1 ≡ a
-  merged = omega (arith, ap (λ o. o .clock .merged) node, tests .joined, A .beat)
-
-pub deep-answered : DeepAnswered
-unfolding DeepAnswered
-deep-answered N i a u A = answers N i a u A
-
-while-joined : (N : Network) (w : World) (i a d : ℕ) → DeepAfterVote N w i a d → DeepWhileJoined N w i a d
-unfolding deepQuery
-while-joined N w i a d H =
-    let A = H .voted in
-    let u = H .after in
-    record {
-      point = u;
-      run = subst (λ (o : World). Run N o) (sym (A .left)) (then (A .run) _ (A .due));
-      honest = truth (due-honest N (A .before) i (A .number) (is-true _ (A .due)) .0);
-      since = omega (arith, merged N i a u A);
-      until = omega (arith, merged N i a u A);
-      deep = answer-done (first (queryTests (settings N i) (N .places i) (u .node i) a)) _ d (H .deep) .1;
-      onward = H .onward;
-    }
+-- ---- what the customer asks for
 
 pub deep-agreement : DeepAgreement
 unfolding DeepAgreement JoinedAgreement

@@ -31,7 +31,7 @@ BlockEvery N s w =
 
 -- ---- the claim
 
--- `Had i a d` says of which deep block d of node i for slot a, at an earlier point of the run that stands in w, the claim speaks.
+-- `Had i a d`: before the run stood in w, node i had the deep block d for slot a, at such a point as the claims below say.
 abbrev pub Agree : Network → World → (ℕ → ℕ → ℕ → Type 0) → Type 0
 Agree N w Had =
     -- "let every slot from a slot s on whose vote beat is over meet the conditions that let an honest block last"
@@ -53,17 +53,17 @@ pub record JustVoted (N : Network) (i a : ℕ) (u : World) : Type 0 where
   pub number : ℕ
   pub due : T (allowed N before (Due i number))
   pub beat : before .beat ≡ 3 * a + 1
-  pub head : ℕ
-  pub carriedOut : vote (settings N i) (N .places i) (before .node i) (before .beat) .reply ≡ done head
+  pub block : ℕ
+  pub reply : vote (settings N i) (N .places i) (before .node i) (before .beat) .reply ≡ done block
   pub left : u ≡ step N before (Due i number)
 
 -- "the deep block that an honest joined node has right after its vote in slot a": what its Deep for a answers there; and the run went on from there
 -- and stands in w
 pub record DeepAfterVote (N : Network) (w : World) (i a d : ℕ) : Type 0 where
-  pub after : World
-  pub voted : JustVoted N i a after
-  pub deep : deepQuery (settings N i) (N .places i) (after .node i) a ≡ done d
-  pub onward : Onward N after w
+  pub world : World
+  pub justVoted : JustVoted N i a world
+  pub deep : deepQuery (settings N i) (N .places i) (world .node i) a ≡ done d
+  pub onward : Onward N world w
 
 -- "At whatever point a run stands": in w
 unfoldable pub DeepAgreement : Type 0
@@ -80,13 +80,13 @@ DeepAnswered =
 -- The deep block for a of an honest node that is joined for slot a, before its vote or after it and whether it votes or not, or that has
 -- merged slot a: the slot that it merged last is a - 1 or a.
 pub record DeepWhileJoined (N : Network) (w : World) (i a d : ℕ) : Type 0 where
-  pub point : World
-  pub run : Run N point
+  pub world : World
+  pub run : Run N world
   pub honest : T (isHonest N i)
-  pub since : a ≤ point .node i .clock .merged + 1
-  pub until : point .node i .clock .merged ≤ a
-  pub deep : deepOf (settings N i) (point .node i) a ≡ d
-  pub onward : Onward N point w
+  pub since : a ≤ world .node i .clock .merged + 1
+  pub until : world .node i .clock .merged ≤ a
+  pub deep : deepOf (settings N i) (world .node i) a ≡ d
+  pub onward : Onward N world w
 
 unfoldable pub JoinedAgreement : Type 0
 JoinedAgreement = (N : Network) → Opened N → (w : World) → Agree N w (DeepWhileJoined N w)

@@ -90,11 +90,15 @@ unfoldable pub votesBefore : ℕ → List Event → ℕ → ℕ → Bool
 votesBefore zero log slot i = false
 votesBefore (suc k) log slot i = (ltb (suc k) slot && votesIn log (slot - suc k) i) || votesBefore k log slot i
 
--- the count in slot r
+-- of the nodes below n: those who vote in slot r, and those against whom they are counted
+abbrev pub voters : Network → List Event → ℕ → ℕ → Bool
+voters N log r i = N .honest i && votesIn log r i
+
+abbrev pub opposed : Network → List Event → ℕ → ℕ → Bool
+opposed N log r i = not (N .honest i) || (votesBefore (N .expiry - 1) log r i && not (votesIn log r i))
+
 abbrev pub MoreVote : Network → ℕ → List Event → Type 0
-MoreVote N r log =
-    count (λ i. not (N .honest i) || (votesBefore (N .expiry - 1) log r i && not (votesIn log r i))) (N .nodes)
-    < count (λ i. N .honest i && votesIn log r i) (N .nodes)
+MoreVote N r log = count (opposed N log r) (N .nodes) < count (voters N log r) (N .nodes)
 
 -- "in each slot from t on whose vote beat is over": the next beat has begun
 unfoldable pub Majority : Network → ℕ → World → Type 0

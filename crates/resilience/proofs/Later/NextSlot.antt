@@ -23,7 +23,7 @@ use Rattle.protocol.proofs.Walk.Reorg.{stays}
 use Rattle.protocol.proofs.Store.Sound.{store-sound, view-sound}
 use Rattle.protocol.proofs.Store.Views.{view-stored}
 use Rattle.resilience.specs.Run.{Network, settings, isHonest, voted, built}
-use Rattle.resilience.specs.Resilience.{AtOrAbove, DeliveredAt, votesIn, votesBefore, MoreVote}
+use Rattle.resilience.specs.Resilience.{AtOrAbove, DeliveredAt, votesIn, voters, opposed, MoreVote}
 use Rattle.resilience.proofs.Runs.Execution.{Execution, world, log}
 use Rattle.resilience.proofs.Runs.History.{log-has}
 use Rattle.resilience.proofs.Invariants.Soundness.{sound-tables}
@@ -32,7 +32,7 @@ use Rattle.resilience.proofs.Invariants.Chains.{above-in-log, above-in-
 use Rattle.resilience.proofs.Invariants.Votes.{stored-cast, ballot-of, once}
 use Rattle.resilience.proofs.Invariants.Proposals.{built-of}
 use Rattle.resilience.proofs.Delivery.MergedVotes.{ballot-in-view}
-use Rattle.resilience.proofs.Later.Ballots.{ballotIn, ballot-voted, ballot-votes, voted-votes, some-ballot, no-ballot, voters, opposed}
+use Rattle.resilience.proofs.Later.Ballots.{ballotIn, ballot-voted, ballot-votes, voted-votes, some-ballot, no-ballot}
 
 module _ {N : Network} (X : Execution N) where
   -- ---- the ballots of a run
@@ -87,8 +87,7 @@ module _ {N : Network} (X : Execution N) where
           let o = neither (not (N .honest v)) _ k in
           let g = not-false (N .honest v) (o .0) in
           let now : votesIn (log X) s v ≡ false = not-passes (λ e. clashing (both g e) h) in
-          let old : votesBefore (N .expiry - 1) (log X) s v ≡ false = not-passes (λ e. clashing (both e (ap not now)) (o .1)) in
-          (g, no-ballot (log X) (N .expiry) s v now old)
+          (g, no-ballot (log X) (N .expiry) _ s v (omega arith) now (not-passes (λ e. clashing (both e (ap not now)) (o .1))))
 
   -- B leads after slot g, whose gossip arrives; s is a later slot, up to E later, and the honest votes of the slots between are on B
   module _ (g : ℕ) (del : DeliveredAt (3 * g + 1) (log X)) (B : Block) (of-B : OfRun X B) (early : B .slot ≤ g) (L : Leads (B .number) g)

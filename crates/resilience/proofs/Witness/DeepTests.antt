@@ -60,15 +60,15 @@ voted-true {N} {u} i a d M = go (M .by) refl (M .passes)
         let c = carried-done _ (and-left (carried (vote (settings N i) (N .places i) (w .node i) (w .beat) .reply)) _ r2) in
         let by : M .by ≡ Due i number = e ∙ ap (λ o. Due o number) is in
         record {
-          after = step N w (M .by);
-          voted = record {
+          world = step N w (M .by);
+          justVoted = record {
             before = w;
             run = M .run;
             number = number;
             due = subst (λ (s : Step). T (allowed N w s)) by (M .allowed);
             beat = eqb-true _ _ (and-left (eqb (w .beat) (3 * a + 1)) _ r1);
-            head = c .0;
-            carriedOut = c .1;
+            block = c .0;
+            reply = c .1;
             left = ap (step N w) by;
           };
           deep = rw e (answers-true _ d (and-right (carried (vote (settings N i) (N .places i) (w .node i) (w .beat) .reply)) _ r2));

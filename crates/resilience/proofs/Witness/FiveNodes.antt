@@ -16,7 +16,7 @@ use Rattle.resilience.specs.Resilience.{AtOrAbove, Stays}
 use Rattle.resilience.proofs.Witness.Runs.{runs, runs-append}
 use Rattle.resilience.proofs.Witness.Acts.{network, butOne, ten, Act, together, together-append, begin, awake, proposes, lateGossip, gossip, proposal, exchange, packet, blockWith, voteBy, gossipWith, proposalWith}
 use Rattle.resilience.proofs.Witness.Events.{row, occurs, only, only-in}
-use Rattle.resilience.proofs.Witness.Tests.{others, voters}
+use Rattle.resilience.proofs.Witness.Tests.{countOpposed, countVoters}
 use Rattle.resilience.proofs.Witness.Premises.{meetsTest, meets}
 
 -- Node 1 is dishonest. Votes expire after two slots, and a block is deep after two.
@@ -176,7 +176,7 @@ pub record Happened : Type 0 where
       × (ofSlot 2 (entries (end .node 3 .votes)) ≡ [])
   -- and what it accepts after that Merge, in the propose beat of slot 6, holds them all
   pub removed-arrive : arrivals (λ p. ofSlot 2 (p .votes)) 18 3 (end .log) ≡ voteBy 4 2 21 ∷ voteBy 2 2 21 ∷ voteBy 3 2 21 ∷ voteBy 1 2 21 ∷ voteBy 1 2 12 ∷ []
-  pub counts-3 : (others five end 3 ≡ 2) × (voters five end 3 ≡ 3)
+  pub counts-3 : (countOpposed five end 3 ≡ 2) × (countVoters five end 3 ≡ 3)
   pub at-node-3 : arrivals kinds 6 3 (end .log) ≡ 0 ∷ 1 ∷ []
   pub at-node-4 : arrivals kinds 6 4 (end .log) ≡ 1 ∷ 0 ∷ []
 

@@ -20,7 +20,7 @@ use Rattle.protocol.proofs.Basics.Tests.{facts, both, and-left, and-right, clas
 use Rattle.protocol.proofs.Basics.Members.{any-true, all-true}
 use Rattle.protocol.proofs.Store.Views.{block-same, vote-same}
 use Rattle.resilience.specs.Run.{Network, World, Event, woke, voted, built, sent, given, lacked, isHonest, settings, below, carried}
-use Rattle.resilience.specs.Resilience.{Opened, Gives, by-packet, by-proposer, OneBlock, AtOrAbove, here, up, Unforged, Enough, Delivered, DeliveredAt, Majority, votesIn, votesBefore}
+use Rattle.resilience.specs.Resilience.{Opened, Gives, by-packet, by-proposer, OneBlock, AtOrAbove, here, up, Unforged, Enough, Delivered, DeliveredAt, Majority, voters, opposed}
 use Rattle.resilience.proofs.Witness.Events.{row, is-kind, sameBytes, bytes-same, only, only-in}
 
 -- ---- "if a then b" as a test
@@ -382,13 +382,11 @@ apart-true log B chain h x m (up c g a) =
 
 -- ---- the counts of voters
 
--- the dishonest nodes and the honest ones who voted shortly before slot r and not in it
-abbrev pub others : Network → World → ℕ → ℕ
-others N w r =
-    count (λ i. not (N .honest i) || (votesBefore (N .expiry - 1) (w .log) r i && not (votesIn (w .log) r i))) (N .nodes)
+abbrev pub countOpposed : Network → World → ℕ → ℕ
+countOpposed N w r = count (opposed N (w .log) r) (N .nodes)
 
-abbrev pub voters : Network → World → ℕ → ℕ
-voters N w r = count (λ i. N .honest i && votesIn (w .log) r i) (N .nodes)
+abbrev pub countVoters : Network → World → ℕ → ℕ
+countVoters N w r = count (voters N (w .log) r) (N .nodes)
 
 -- each slot from t on whose vote beat is over passes
 unfoldable pub slotsTest : (ℕ → Bool) → ℕ → World → Bool
@@ -400,7 +398,7 @@ slots-true p t w h r l k =
     implied (leb t r && ltb (3 * r + 1) (w .beat)) (p r) (below-true _ (w .beat) h r (omega arith)) (both (le-leb t r l) (lt-ltb _ _ k))
 
 unfoldable pub majorityTest : Network → ℕ → World → Bool
-majorityTest N t w = slotsTest (λ r. ltb (others N w r) (voters N w r)) t w
+majorityTest N t w = slotsTest (λ r. ltb (countOpposed N w r) (countVoters N w r)) t w
 
 pub majority-true : (N : Network) (t : ℕ) (w : World) → majorityTest N t w ≡ true → Majority N t w
 unfolding majorityTest Majority

@@ -16,9 +16,9 @@ use Rattle.answers.specs.declared.Answer.{Answer}
 use Rattle.answers.specs.declared.Answer.the-variants as answer
 use Rattle.resilience.specs.Run as model
 use Rattle.resilience.specs.Run.{Network, settings, isHonest, Due}
-use Rattle.resilience.specs.DeepAgreement.{Agree, JustVoted, DeepAfterVote, DeepAgreement, DeepAnswered}
+use Rattle.resilience.specs.DeepAgreement.{JustVoted, DeepAfterVote, DeepAgreement, DeepAnswered}
 use Rattle.resilience.proofs.Steps.Allowed.{is-true, due-honest}
-use Rattle.resilience.proofs.DeepAgreement.{deep-agreement}
+use Rattle.resilience.proofs.DeepAgreement.{agree-by, deep-agreement}
 use Rattle.resilience.proofs.JustVoted.{deep-answered}
 use Rattle.conformance.specs.State.{Deployment, State, network, decoded}
 use Rattle.conformance.specs.CodeRun.{votes}
@@ -109,20 +109,8 @@ decoded-deep D w i a d H =
       onward = going D u w (F D i a u A .healthy) (H .onward) .onward;
     }
 
--- who had a deep block was opened
-claim : (D : Deployment) (w : State) (i a d : ℕ) → CodeDeepAfterVote D w i a d → Agree (network D) (decoded D w) (DeepAfterVote (network D) (decoded D w))
-unfolding DeepAgreement
-claim D w i a d H = deep-agreement (network D) (C D i a (H .state) (H .justVoted) .opened) (decoded D w)
-
 pub code-deep-agreement : CodeDeepAgreement
-unfolding CodeDeepAgreement
-code-deep-agreement D w s conditions unforged oneBlock enough = (
-  λ every a b i j d e far l H G.
-      claim D w i a d H s conditions unforged oneBlock enough .0 every a b i j d e far l (decoded-deep D w i a d H) (decoded-deep D w j b e G),
-  (
-    λ every a i j d e far H G.
-        claim D w i a d H s conditions unforged oneBlock enough .1 .0 every a i j d e far (decoded-deep D w i a d H) (decoded-deep D w j a e G),
-    λ beat p B parent b j e m from far G.
-        claim D w j b e G s conditions unforged oneBlock enough .1 .1 beat p B parent b j e m from far (decoded-deep D w j b e G),
-  ),
-)
+unfolding CodeDeepAgreement DeepAgreement
+code-deep-agreement D w =
+    agree-by (network D) (decoded D w) (CodeDeepAfterVote D w) (DeepAfterVote (network D) (decoded D w)) (decoded-deep D w)
+    (λ i a d H. deep-agreement (network D) (C D i a (H .state) (H .justVoted) .opened) (decoded D w))

@@ -21,7 +21,7 @@ use Rattle.protocol.proofs.Store.Views.{view-stored}
 use Rattle.protocol.proofs.Calls.Passed.{votes}
 use Rattle.resilience.specs.Run.{Network, World, settings, isHonest, built}
 use Rattle.resilience.specs.Resilience.{Opened, Gives, by-proposer, OneBlock, AtOrAbove, here, Unforged, Enough, Delivered, Majority}
-use Rattle.resilience.specs.DeepAgreement.{ConditionsFrom, BlockEvery, DeepAgreement, DeepWhileJoined, JoinedAgreement}
+use Rattle.resilience.specs.DeepAgreement.{ConditionsFrom, BlockEvery, Agree, DeepAfterVote, DeepAgreement, DeepWhileJoined, JoinedAgreement}
 use Rattle.resilience.proofs.Steps.Allowed.{is-true}
 use Rattle.resilience.proofs.Runs.Execution.{Execution, world, log, settings-sound, by-passage}
 use Rattle.resilience.proofs.Runs.History.{beat-mono}
@@ -253,13 +253,17 @@ joined-agreement N opened w s conditions unforged oneBlock enough = (
 
 -- ---- what the customer asks for
 
+-- the claim on some deep blocks, from the claim on more of them
+pub agree-by : (N : Network) (w : World) (Had More : ℕ → ℕ → ℕ → Type 0) → ((i a d : ℕ) → Had i a d → More i a d) → ((i a d : ℕ) → Had i a d → Agree N w More)
+    → Agree N w Had
+agree-by N w Had More f claim s conditions unforged oneBlock enough = (
+  λ every a b i j d e far l H G. claim i a d H s conditions unforged oneBlock enough .0 every a b i j d e far l (f i a d H) (f j b e G),
+  (
+    λ every a i j d e far H G. claim i a d H s conditions unforged oneBlock enough .1 .0 every a i j d e far (f i a d H) (f j a e G),
+    λ beat p B parent b j e m from far G. claim j b e G s conditions unforged oneBlock enough .1 .1 beat p B parent b j e m from far (f j b e G),
+  ),
+)
+
 pub deep-agreement : DeepAgreement
 unfolding DeepAgreement JoinedAgreement
-deep-agreement N opened w s conditions unforged oneBlock enough =
-    let r = joined-agreement N opened w s conditions unforged oneBlock enough in (
-      λ every a b i j d e far l H G. r .0 every a b i j d e far l (while-joined N w i a d H) (while-joined N w j b e G),
-      (
-        λ every a i j d e far H G. r .1 .0 every a i j d e far (while-joined N w i a d H) (while-joined N w j a e G),
-        λ beat p B parent b j e m from far G. r .1 .1 beat p B parent b j e m from far (while-joined N w j b e G),
-      ),
-    )
+deep-agreement N opened w = agree-by N w (DeepAfterVote N w) (DeepWhileJoined N w) (while-joined N w) (λ i a d H. joined-agreement N opened w)

@@ -122,10 +122,11 @@ module _ {N : Network} (X : Execution N) where
       positive : 0 < g
       positive = let c = ballot-voted (log X) (voter .0) g (voter .1) (voter .2) in votes-real (voter .0) g (voted-votes (log X) (c .0) (voter .0) (voter .1) g (c .2) (c .1))
 
-      -- an honest vote of a slot between g and s is on B
+      -- honest votes among them were cast
       genuine : (a : Vote) → Cast a vs → N .honest (a .voter) ≡ true → ballotIn (log X) (a .voter) (a .slot) ≡ chosen (a .number)
       genuine a m = stored-ballot k l i h a (stored a m)
 
+      -- and are on B if their slot is between g and s
       between-on : (a : Vote) → Cast a vs → N .honest (a .voter) ≡ true → g < a .slot → a .slot < s → above bs (a .number) (B .number) ≡ true
       between-on a m o p q =
           let c = ballot-voted (log X) (a .voter) (a .slot) (a .number) (genuine a m o) in

@@ -19,6 +19,7 @@ use Rattle.protocol.proofs.Walk.Ends.{head-early}
 use Rattle.protocol.proofs.Store.Sound.{view-sound, ranges}
 use Rattle.protocol.proofs.Store.Views.{view-stored}
 use Rattle.protocol.proofs.Calls.Passed.{votes}
+use Rattle.protocol.proofs.Calls.Open.{open-settings}
 use Rattle.resilience.specs.Run.{Network, World, settings, isHonest, built}
 use Rattle.resilience.specs.Resilience.{Opened, Gives, by-proposer, OneBlock, AtOrAbove, here, Unforged, Enough, Delivered, Majority}
 use Rattle.resilience.specs.DeepAgreement.{ConditionsFrom, BlockEvery, Agree, DeepAfterVote, DeepAgreement, DeepWhileJoined, JoinedAgreement}
@@ -39,9 +40,8 @@ pub conditions-from : (N : Network) (w : World) (s : ℕ) → Delivered (3 * s -
 unfolding Delivered Majority ConditionsFrom
 conditions-from N w s del maj q l o = record { arrive = λ b from to. del b (omega arith); more = maj q l o }
 
--- x names a block of the log, or block 0, that is early enough to be the deep block for slot a and is at or below an honest block of a slot from s
--- on and before a
-record Backed (N : Network) (s : ℕ) (w : World) (a x : ℕ) : Type 0 where
+-- an honest block of a slot from s on and before a
+record Between (s a : ℕ) (w : World) : Type 0 where
   beat : ℕ
   proposer : ℕ
   number : ℕ
@@ -49,32 +49,43 @@ record Backed (N : Network) (s : ℕ) (w : World) (a x : ℕ) : Type 0 where
   mem : List·Memᴰ (built beat proposer number parent) (w .log)
   from : s ≤ beat / 3
   past : beat / 3 < a
+
+-- x names a block of the log, or block 0, that is early enough to be the deep block for slot a and is at or below such a block
+record Backed (N : Network) (s : ℕ) (w : World) (a x : ℕ) : Type 0 where
+  by : Between s a w
   block : Block
   of : (block ≡ genesis) ⊎ Gives (w .log) block
   is : block .number ≡ x
   early : (block .slot + N .depth ≤ a) ⊎ (block .number ≡ 0)
-  under : AtOrAbove (w .log) (block .number) number
+  under : AtOrAbove (w .log) (block .number) (by .number)
 
 -- also for later slots
 later : {N : Network} {s : ℕ} {w : World} {a b x : ℕ} → a ≤ b → Backed N s w a x → Backed N s w b x
-later {N} {a = a} {b = b} l K = record {
-  beat = K .beat;
-  proposer = K .proposer;
-  number = K .number;
-  parent = K .parent;
-  mem = K .mem;
-  from = K .from;
-  past = omega (arith, K .past);
-  block = K .block;
-  of = K .of;
-  is = K .is;
-  early = go (K .early);
-  under = K .under;
-}
+later {N} {a = a} {b = b} l K =
+    let B = K .by in
+    record {
+      by = record { beat = B .beat; proposer = B .proposer; number = B .number; parent = B .parent; mem = B .mem; from = B .from; past = omega (arith, B .past) };
+      block = K .block;
+      of = K .of;
+      is = K .is;
+      early = go (K .early);
+      under = K .under;
+    }
   where
     go : (K .block .slot + N .depth ≤ a) ⊎ (K .block .number ≡ 0) → (K .block .slot + N .depth ≤ b) ⊎ (K .block .number ≡ 0)
     go (inl e) = inl (omega arith)
     go (inr z) = inr z
+
+-- an honest block is itself backed, K slots later
+block-backed : (N : Network) (s : ℕ) (w : World) (a : ℕ) (B : Between s a w) → B .beat / 3 + N .depth ≤ a → Backed N s w a (B .number)
+block-backed N s w a B far = record {
+  by = B;
+  block = record { number = B .number; parent = B .parent; slot = B .beat / 3 };
+  of = inr (by-proposer (B .beat) (B .proposer) (B .mem) refl);
+  is = refl;
+  early = inl far;
+  under = here;
+}
 
 -- ---- at a point of an execution: node i is joined for slot a, or has merged it
 
@@ -118,65 +129,42 @@ module _ {N : Network} (X : Execution N) (k : ℕ) (l : k ≤ X .end) (i : ℕ) 
       let under = above-in-list X bs of-run S known p in
       above-antisym S under (above-in-list X bs of-run S (known-down S known under) q)
 
-  -- an honest block of slot a - K or an earlier one is backed
-  block-backed : (s beat p B parent : ℕ) → List·Memᴰ (built beat p B parent) (log X) → s ≤ beat / 3 → beat / 3 + N .depth ≤ a
-      → Backed N s (world X (X .end)) a B
-  block-backed s beat p B parent m from far = record {
-    beat = beat;
-    proposer = p;
-    number = B;
-    parent = parent;
-    mem = m;
-    from = from;
-    past = omega (arith, ranges (settings N i) (settings-sound X i h) .depth);
-    block = record { number = B; parent = parent; slot = beat / 3 };
-    of = inr (by-proposer beat p m refl);
-    is = refl;
-    early = inl far;
-    under = here;
-  }
-
   module _ (s : ℕ) (conditions : ConditionsFrom N s (world X (X .end))) where
     -- an honest block of a slot from s on and before a
-    module _ (beat p B parent : ℕ) (m : List·Memᴰ (built beat p B parent) (log X)) (from : s ≤ beat / 3) (past : beat / 3 < a) where
-      Q : Built X beat p B parent
-      Q = built-of X beat p B parent m
+    module _ (B : Between s a (world X (X .end))) where
+      Q : Built X (B .beat) (B .proposer) (B .number) (B .parent)
+      Q = built-of X (B .beat) (B .proposer) (B .number) (B .parent) (B .mem)
 
       -- is under the head
-      on-head : Above bs B headNow
+      on-head : Above bs (B .number) headNow
       unfolding ConditionsFrom
       on-head =
-          let c = conditions (beat / 3) from (omega (arith, begun)) in
+          let c = conditions (B .beat / 3) (B .from) (omega (arith, begun, B .past)) in
           above-in-list X bs of-run S head-known
-          (under-head X beat p B parent m (c .arrive (beat - 1) (omega (arith, Q .beat)) (omega arith)) (c .arrive beat (omega (arith, Q .beat)) (omega (arith, Q .beat)))
-          (λ q o e. let d = conditions q (omega arith) e in (d .arrive (3 * q + 1) (omega arith) (le-refl (3 * q + 1)), d .more))
-          a past begun k l i h (omega arith) until)
+          (under-head X (B .beat) (B .proposer) (B .number) (B .parent) (B .mem)
+          (c .arrive (B .beat - 1) (omega (arith, Q .beat)) (omega arith)) (c .arrive (B .beat) (omega (arith, Q .beat)) (omega (arith, Q .beat)))
+          (λ q o e. let d = conditions q (omega (arith, B .from)) e in (d .arrive (3 * q + 1) (omega arith) (le-refl (3 * q + 1)), d .more))
+          a (B .past) begun k l i h (omega arith) until)
 
-      B-known : Known bs B
+      B-known : Known bs (B .number)
       B-known = known-down S head-known on-head
 
       B-in : In (blockOf Q) bs
-      B-in = in-view (blockOf Q) (inr (by-proposer beat p m refl)) B-known
+      B-in = in-view (blockOf Q) (inr (by-proposer (B .beat) (B .proposer) (B .mem) refl)) B-known
 
       -- and at or above the deep block, unless its slot is too low
-      deep-under : a ≤ beat / 3 + N .depth → Above bs (deepest .0 .number) B
+      deep-under : a ≤ B .beat / 3 + N .depth → Above bs (deepest .0 .number) (B .number)
       deep-under near = go (deepest .1 .early) (above-compare S (deepest .1 .under) on-head)
         where
-          go : (deepest .0 .slot + N .depth ≤ a) ⊎ (deepest .0 .number ≡ 0) → Above bs (deepest .0 .number) B ⊎ Above bs B (deepest .0 .number)
-              → Above bs (deepest .0 .number) B
+          go : (deepest .0 .slot + N .depth ≤ a) ⊎ (deepest .0 .number ≡ 0)
+              → Above bs (deepest .0 .number) (B .number) ⊎ Above bs (B .number) (deepest .0 .number) → Above bs (deepest .0 .number) (B .number)
           go e (inl o) = o
           go (inr z) (inr o) = rw z (above-start S (blockOf Q) B-in)
           go (inl e) (inr o) = above-level S (deepest .0) (blockOf Q) (deepest .1 .mem) B-in o (omega arith)
 
-      deep-backed : a ≤ beat / 3 + N .depth → Backed N s (world X (X .end)) a deepNow
+      deep-backed : a ≤ B .beat / 3 + N .depth → Backed N s (world X (X .end)) a deepNow
       deep-backed near = record {
-        beat = beat;
-        proposer = p;
-        number = B;
-        parent = parent;
-        mem = m;
-        from = from;
-        past = past;
+        by = B;
         block = deepest .0;
         of = of-run (deepest .0) (deepest .1 .mem);
         is = deepest .2;
@@ -188,14 +176,11 @@ module _ {N : Network} (X : Execution N) (k : ℕ) (l : k ≤ X .end) (i : ℕ) 
     backed-under : (x : ℕ) → Backed N s (world X (X .end)) a x → AtOrAbove (log X) x deepNow
     backed-under x K = rw (← K .is, ← deepest .2) (above-in-log X bs of-run (go (K .early)))
       where
-        under : Above bs (K .block .number) (K .number)
-        under = above-in-list X bs of-run S (B-known (K .beat) (K .proposer) (K .number) (K .parent) (K .mem) (K .from) (K .past)) (K .under)
-
-        under-head-too : Above bs (K .block .number) headNow
-        under-head-too = above-trans (on-head (K .beat) (K .proposer) (K .number) (K .parent) (K .mem) (K .from) (K .past)) under
+        under : Above bs (K .block .number) headNow
+        under = above-trans (on-head (K .by)) (above-in-list X bs of-run S (B-known (K .by)) (K .under))
 
         go : (K .block .slot + N .depth ≤ a) ⊎ (K .block .number ≡ 0) → Above bs (K .block .number) (deepest .0 .number)
-        go (inl e) = deepest .1 .top (K .block) (in-view (K .block) (K .of) (known-down S head-known under-head-too)) under-head-too e
+        go (inl e) = deepest .1 .top (K .block) (in-view (K .block) (K .of) (known-down S head-known under)) under e
         go (inr z) = rw z (above-start S (deepest .0) (deepest .1 .mem))
 
 -- ---- in a run: what holds at every such point holds of a deep block that a node had while it was joined
@@ -212,12 +197,14 @@ module _ {N : Network} (opened : Opened N) (w : World) (unforged : Unforged N (w
       (λ X k l. f X k l (is-true _ (H .honest))) (H .since) (H .until))
 
 pub joined-agreement : JoinedAgreement
-unfolding JoinedAgreement BlockEvery
+unfolding JoinedAgreement BlockEvery Opened
 joined-agreement N opened w s conditions unforged oneBlock enough = (
   λ every a b i j d e far l H G. agree every a b i j d e (omega arith) l H G,
   (
     λ every a i j d e far H G. same every a i j d e (omega arith) H G,
-    λ beat p B parent b j e m from far G. under b j e B G (own beat p B parent b j e m from (omega arith) G),
+    λ beat p B parent b j e m from far G.
+        under b j e B G (block-backed N s w b
+        (record { beat = beat; proposer = p; number = B; parent = parent; mem = m; from = from; past = omega (arith, deep j b e G) }) (omega arith)),
   ),
 )
   where
@@ -228,7 +215,15 @@ joined-agreement N opened w s conditions unforged oneBlock enough = (
         let o = begun X k l i h a f g in
         let z = ranges (settings N i) (settings-sound X i h) .depth in
         let r = v (a - N .depth) (omega arith) (λ q m n. omega arith) in
-        deep-backed X k l i h a f g s c (r .0) (r .1) (r .2) (r .3) (r .6) (omega (arith, r .4)) (omega (arith, r .5)) (omega (arith, r .4)))
+        deep-backed X k l i h a f g s c (record {
+          beat = r .0;
+          proposer = r .1;
+          number = r .2;
+          parent = r .3;
+          mem = r .6;
+          from = omega (arith, r .4);
+          past = omega (arith, r .5);
+        }) (omega (arith, r .4)))
         conditions every
 
     under : (b j e x : ℕ) → DeepWhileJoined N w j b e → Backed N s w b x → AtOrAbove (w .log) x e
@@ -245,11 +240,9 @@ joined-agreement N opened w s conditions unforged oneBlock enough = (
         (λ X k l h f g. both-ways X k l j h a f g d)
         (agree every a a i j d e far (le-refl a) H G) (agree every a a j i e d far (le-refl a) G H)
 
-    own : (beat p B parent b j e : ℕ) → List·Memᴰ (built beat p B parent) (w .log) → s ≤ beat / 3 → beat / 3 + N .depth ≤ b → DeepWhileJoined N w j b e
-        → Backed N s w b B
-    own beat p B parent b j e m from far G =
-        at-point opened w unforged oneBlock enough G (λ (o : World) e. List·Memᴰ (built beat p B parent) (o .log) → Backed N s o b B)
-        (λ X k l h f g m. block-backed X k l j h b f g s beat p B parent m from far) m
+    -- K is not 0
+    deep : (j b e : ℕ) → DeepWhileJoined N w j b e → 0 < N .depth
+    deep j b e G = ranges (settings N j) (open-settings (settings N j) (N .places j) (N .before j) (opened j (G .honest))) .depth
 
 -- ---- what the customer asks for
 

@@ -1,5 +1,5 @@
 -- Right after its vote in slot a an honest node is joined for a, and its Deep for a is answered. Assumes nothing.
-use Prim.Native.Nat.{ℕ, _+_, _-_, _/_, _%_}
+use Prim.Native.Nat.{ℕ, _+_, _/_, _%_}
 use mathlib.Core.Path.{_≡_, refl, sym, ap, _∙_, subst}
 use mathlib.Core.Bool.{cond}
 use native.Mathlib.Omega.{arith}
@@ -15,7 +15,6 @@ use Rattle.protocol.proofs.Calls.Vote.{vote-sound}
 use Rattle.resilience.specs.Run.{Network, World, Run, then, settings, step, dueAt}
 use Rattle.resilience.specs.DeepAgreement.{JustVoted, DeepAfterVote, DeepAnswered, DeepWhileJoined}
 use Rattle.resilience.proofs.Steps.Allowed.{is-true, truth, due-honest}
-use Rattle.resilience.proofs.Runs.Execution.{world}
 
 module _ (N : Network) (i a : ℕ) (u : World) (A : JustVoted N i a u) where
   abbrev x : World

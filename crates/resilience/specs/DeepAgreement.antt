@@ -1,5 +1,5 @@
--- Request 7, "Two corrections in force must agree": the deep blocks of honest nodes stand on one chain. Each part quotes the customer's words
--- that it stands for. Assumes nothing.
+-- Request 7, "Two corrections in force must agree": the deep blocks that honest nodes have right after their votes stand on one chain. Each part
+-- quotes the customer's words that it stands for. Assumes nothing.
 use mathlib.Core.Path.{_≡_}
 use Prim.Native.Nat.{ℕ, _+_, _*_, _/_, _≤_, _<_}
 use mathlib.Core.List.{List·Memᴰ}

@@ -1,6 +1,6 @@
 -- Right after its vote in slot a an honest node is joined for a, and its Deep for a is answered. Assumes nothing.
 use Prim.Native.Nat.{ℕ, _+_, _/_, _%_}
-use mathlib.Core.Path.{_≡_, refl, sym, ap, _∙_, subst}
+use mathlib.Core.Path.{_≡_, refl, ap, _∙_}
 use mathlib.Core.Bool.{cond}
 use native.Mathlib.Omega.{arith}
 use borrow.Author.Tests.{eq-eqb, ne-eqb, le-ltb}
@@ -12,18 +12,19 @@ use Rattle.protocol.proofs.Store.Sound.{sound-holds}
 use Rattle.protocol.proofs.Calls.Passed.{Votes, votes}
 use Rattle.protocol.proofs.Calls.Refusal.{answer-done, unless-done}
 use Rattle.protocol.proofs.Calls.Vote.{vote-sound}
-use Rattle.resilience.specs.Run.{Network, World, Run, then, settings, step, dueAt}
+use Rattle.resilience.specs.Run.{Network, World, settings, step, dueAt}
 use Rattle.resilience.specs.DeepAgreement.{JustVoted, DeepAfterVote, DeepAnswered, DeepWhileJoined}
-use Rattle.resilience.proofs.Steps.Allowed.{is-true, truth, due-honest}
+use Rattle.resilience.proofs.Steps.Allowed.{truth}
+use Rattle.resilience.proofs.Runs.Onward.{carried-honest, carried-run}
 
 module _ (N : Network) (i a : ℕ) (u : World) (A : JustVoted N i a u) where
   abbrev x : World
   x = A .before
 
-  passes : (first (voteTests (settings N i) (N .places i) (x .node i) (x .beat)) ≡ pass) × (headOf (settings N i) (x .node i) (x .beat / 3) ≡ A .block)
+  passes : (first (voteTests (settings N i) (N .places i) (x .node i) (x .beat)) ≡ pass) × (headOf (settings N i) (x .node i) (x .beat / 3) ≡ A .value)
       × (vote (settings N i) (N .places i) (x .node i) (x .beat) .node ≡ voteInto (settings N i) (x .node i) (x .beat))
   unfolding vote
-  passes = unless-done (first (voteTests (settings N i) (N .places i) (x .node i) (x .beat))) _ _ _ (A .block) (A .reply)
+  passes = unless-done (first (voteTests (settings N i) (N .places i) (x .node i) (x .beat))) _ _ _ (A .value) (A .reply)
 
   tests : Votes (settings N i) (N .places i) (x .node i) (x .beat)
   tests = votes (settings N i) (N .places i) (x .node i) (x .beat) (passes .0)
@@ -67,8 +68,8 @@ while-joined N w i a d H =
     let u = H .world in
     record {
       world = u;
-      run = subst (λ (o : World). Run N o) (sym (A .left)) (then (A .run) _ (A .due));
-      honest = truth (due-honest N (A .before) i (A .number) (is-true _ (A .due)) .0);
+      run = carried-run A;
+      honest = truth (carried-honest A);
       since = omega (arith, merged N i a u A);
       until = omega (arith, merged N i a u A);
       deep = answer-done (first (queryTests (settings N i) (N .places i) (u .node i) a)) _ d (H .deep) .1;

@@ -7,7 +7,7 @@ use lib.Dec.{T}
 use Rattle.protocol.specs.Refusal.{done}
 use Rattle.protocol.specs.Calls.Vote.{vote}
 use Rattle.protocol.specs.Calls.Query.{deepOf, deepQuery}
-use Rattle.resilience.specs.Run.{Network, World, Run, Onward, Due, built, isHonest, settings, step, allowed}
+use Rattle.resilience.specs.Run.{Network, World, Run, Onward, CarriedOut, built, isHonest, settings}
 use Rattle.resilience.specs.Resilience.{Opened, OneBlock, Unforged, Enough, DeliveredAt, MoreVote, AtOrAbove}
 
 -- ---- "let every slot from a slot s on whose vote beat is over meet the conditions that let an honest block last"
@@ -46,16 +46,9 @@ Agree N w Had =
     × ((beat p B parent b j e : ℕ) → List·Memᴰ (built beat p B parent) (w .log) → s ≤ beat / 3 → beat / 3 + N .depth ≤ b → Had j b e →
     AtOrAbove (w .log) B e))
 
--- "right after its vote in slot a": in a world of a run the Vote of node i was due, in slot a, and was carried out; this step left the world u
-pub record JustVoted (N : Network) (i a : ℕ) (u : World) : Type 0 where
-  pub before : World
-  pub run : Run N before
-  pub number : ℕ
-  pub due : T (allowed N before (Due i number))
-  pub beat : before .beat ≡ 3 * a + 1
-  pub block : ℕ
-  pub reply : vote (settings N i) (N .places i) (before .node i) (before .beat) .reply ≡ done block
-  pub left : u ≡ step N before (Due i number)
+-- "right after its vote in slot a"
+abbrev pub JustVoted : Network → ℕ → ℕ → World → Type 0
+JustVoted N i a u = CarriedOut N vote i (3 * a + 1) u
 
 -- "the deep block that an honest joined node has right after its vote in slot a": what its Deep for a answers there; and the run went on from there
 -- and stands in w

@@ -106,15 +106,21 @@ Majority N t w = (r : ℕ) → t ≤ r → 3 * r + 1 < w .beat → MoreVote N r 
 
 -- ---- the claim
 
+-- B stays in the slots after t
+abbrev pub StaysAfter : ℕ → ℕ → World → Type 0
+StaysAfter t B w =
+    -- "in every later slot every honest vote"
+    ((b i x : ℕ) → List·Memᴰ (voted b i x) (w .log) → t < b / 3 → AtOrAbove (w .log) B x)
+    -- "and every block an honest proposer builds on is B or stands above B"
+    × ((b i x y : ℕ) → List·Memᴰ (built b i x y) (w .log) → t < b / 3 → AtOrAbove (w .log) B y)
+
 -- the block B, proposed at this beat, stays
 abbrev pub Stays : ℕ → ℕ → World → Type 0
 Stays beat B w =
     -- "every honest vote of slot t is for B"
     ((b i x : ℕ) → List·Memᴰ (voted b i x) (w .log) → b / 3 ≡ beat / 3 → x ≡ B)
-    -- "and in every later slot every honest vote"
-    × (((b i x : ℕ) → List·Memᴰ (voted b i x) (w .log) → beat / 3 < b / 3 → AtOrAbove (w .log) B x)
-    -- "and every block an honest proposer builds on is B or stands above B"
-    × ((b i x y : ℕ) → List·Memᴰ (built b i x y) (w .log) → beat / 3 < b / 3 → AtOrAbove (w .log) B y))
+    -- "and in every later slot .."
+    × StaysAfter (beat / 3) B w
 
 unfoldable pub Resilience : Type 0
 Resilience =

@@ -1,5 +1,6 @@
 -- Runs (document 01, "The run behind the third demand"): lists of calls of honest nodes, and the log of what happened in them.
 -- Assumes nothing.
+use mathlib.Core.Path.{_≡_}
 use Prim.Native.Nat.{ℕ, zero, suc, _+_, _/_, _%_, _^_}
 use mathlib.Core.Bool.{Bool, true, false, not, _&&_, _||_, cond}
 use mathlib.Core.List.{List, [], _∷_, _++_}
@@ -8,7 +9,7 @@ use lib.Dec.{eqb, leb, ltb, T}
 use Rattle.protocol.specs.declared.Settings.{Settings}
 use Rattle.protocol.specs.Lists.{all}
 use Rattle.protocol.specs.Store.{Places, Node}
-use Rattle.protocol.specs.Refusal.{refusalNumber, Reply, refused, done}
+use Rattle.protocol.specs.Refusal.{refusalNumber, Reply, refused, done, Outcome}
 use Rattle.protocol.specs.Calls.Open.{openNode}
 use Rattle.protocol.specs.Calls.Receive.{receive}
 use Rattle.protocol.specs.Calls.Propose.{propose}
@@ -168,3 +169,14 @@ pub data Run (N : Network) : World → Type 0 where
 pub data Onward (N : Network) (u : World) : World → Type 0 where
   now : Onward N u u
   next : {w : World} → Onward N u w → (s : Step) → T (allowed N w s) → Onward N u (step N w s)
+
+-- At beat b a call of node i was carried out: in a world of a run it was due, and this is its reply. The step left the world u.
+pub record CarriedOut {A : Type 0} (N : Network) (call : Settings → Places → Node → ℕ → Outcome A) (i b : ℕ) (u : World) : Type 0 where
+  pub before : World
+  pub run : Run N before
+  pub number : ℕ
+  pub due : T (allowed N before (Due i number))
+  pub beat : before .beat ≡ b
+  pub value : A
+  pub reply : call (settings N i) (N .places i) (before .node i) (before .beat) .reply ≡ done value
+  pub left : u ≡ step N before (Due i number)

@@ -11,7 +11,7 @@ use borrow.Author.Tests.{eqb-true, eqb-false}
 use Rattle.protocol.specs.declared.Block.{Block}
 use Rattle.protocol.specs.Calls.Vote.{headOf}
 use Rattle.resilience.specs.Run.{Network, settings, isHonest, voted, built}
-use Rattle.resilience.specs.Resilience.{AtOrAbove, DeliveredAt, MoreVote}
+use Rattle.resilience.specs.Resilience.{AtOrAbove, DeliveredAt, MoreVote, StaysAfter}
 use Rattle.resilience.proofs.Runs.Execution.{Execution, world, log}
 use Rattle.resilience.proofs.Runs.History.{beat-mono}
 use Rattle.resilience.proofs.Invariants.Blocks.{OfRun}
@@ -40,11 +40,11 @@ module _ {N : Network} (X : Execution N) where
   GoodFrom t = (s : ℕ) → t < s → 3 * s ≤ world X (X .end) .beat + 1 → GoodBefore t s
 
   -- where every slot from t on is good, the one before serves
-  pub each-good : (t : ℕ) → ((q : ℕ) → t ≤ q → 3 * q + 1 < world X (X .end) .beat → DeliveredAt (3 * q + 1) (log X) × MoreVote N q (log X))
+  pub each-good : (t : ℕ) → ((q : ℕ) → t ≤ q → 3 * q + 1 < world X (X .end) .beat → DeliveredAt (3 * q + 1) (log X) × (t < q → MoreVote N q (log X)))
       → 0 < N .expiry → GoodFrom t
   each-good t each some s l o =
       let G = each (s - 1) (omega arith) (omega arith) in
-      record { slot = s - 1; since = omega arith; before = omega arith; near = omega arith; arrive = G .0; more = λ k. G .1 }
+      record { slot = s - 1; since = omega arith; before = omega arith; near = omega arith; arrive = G .0; more = G .1 }
 
   -- B leads after slot t, once its vote beat is over
   module _ (B : Block) (of-B : OfRun X B) (t : ℕ) (early : B .slot ≤ t) (lead : 3 * t + 1 < world X (X .end) .beat → Leads X (B .number) t)
@@ -98,11 +98,11 @@ module _ {N : Network} (X : Execution N) where
             let ne : q ≢ s = eqb-false q s e in
             rec q l (omega arith)
 
-    pub every-vote : (q : ℕ) → t < q → AllOn X (B .number) q
-    every-vote q l = every-before (suc q) q l (le-refl (suc q))
-
-    pub every-base : (b i x y : ℕ) → List·Memᴰ (built b i x y) (log X) → t < b / 3 → AtOrAbove (log X) (B .number) y
-    every-base b i x y m l = bases-of (b / 3) (every-before (b / 3)) l (omega (arith, build-beat b i x y m)) b i x y m refl
+    pub stays-after : StaysAfter t (B .number) (world X (X .end))
+    stays-after = (
+      λ b i x m l. every-before (suc (b / 3)) (b / 3) l (le-refl (suc (b / 3))) b i x m refl,
+      λ b i x y m l. bases-of (b / 3) (every-before (b / 3)) l (omega (arith, build-beat b i x y m)) b i x y m refl,
+    )
 
     pub every-head : (s : ℕ) → t < s → 3 * s ≤ world X (X .end) .beat + 1 → (k : ℕ) → k ≤ X .end → (i : ℕ) → isHonest N i ≡ true
         → s ≤ suc (world X k .node i .clock .merged) → world X k .node i .clock .merged ≤ s

@@ -9,8 +9,8 @@ use Rattle.resilience.specs.Resilience.{AtOrAbove}
 use Rattle.resilience.specs.DeepAgreement.{Agree, BlockEvery, DeepAfterVote, DeepAgreement}
 use Rattle.resilience.proofs.DeepAgreement.{conditions-from, deep-agreement}
 use Rattle.resilience.proofs.Witness.Events.{only-in}
-use Rattle.resilience.proofs.Witness.Tests.{unforged, apart-true}
-use Rattle.resilience.proofs.Witness.Premises.{Premise, delivery, unforged-blocks, unforged-votes, unforged-proposals, one-block, enough, majority, Holds, runTest, run-true, proposedTest, premises-true, meetsTest, neededTest}
+use Rattle.resilience.proofs.Witness.Tests.{apart-true}
+use Rattle.resilience.proofs.Witness.Premises.{Premise, delivery, one-block, enough, majority, Holds, unforged-by, runTest, run-true, proposedTest, premises-true, meetsTest, neededTest}
 use Rattle.resilience.proofs.Witness.DeepTests.{deepTest, deep-true, everyTest, every-true}
 use Rattle.resilience.proofs.Witness.FiveNodes.{five, acts, end, happened, met}
 
@@ -18,9 +18,9 @@ starts : runTest five acts ≡ true
 unfolding meetsTest proposedTest
 starts = and-left (runTest five acts) _ (and-left (proposedTest five acts 6 2 21 11) _ met)
 
-premises : (q : Premise) → Holds q five 6 end
+premises : (q : Premise) → Holds q five 5 2 end
 unfolding meetsTest
-premises = premises-true five acts 6 (and-right (proposedTest five acts 6 2 21 11) _ met)
+premises = premises-true five acts 5 2 (and-right (proposedTest five acts 6 2 21 11) _ met)
 
 -- From slot 2 on every two slots have an honest block. Slot 6 has none: node 1 proposes there, against the chain.
 pub blocks : BlockEvery five 2 end
@@ -52,7 +52,7 @@ pub holds : Conclusion
 unfolding neededTest acts
 holds =
     let r = claim 2 (conditions-from five end 2 (premises delivery) (premises majority))
-    (unforged five (end .log) (premises unforged-blocks) (premises unforged-votes) (premises unforged-proposals)) (premises one-block) (premises enough) in
+    (unforged-by five 5 2 end premises) (premises one-block) (premises enough) in
     record {
       agree = r .0 blocks 4 6 0 3 21 41 (omega arith) (omega arith) deep-4 deep-6;
       block = r .1 .1 9 3 31 21 6 3 41 (only-in 2 (end .log) (built 9 3 31 21) (rw (happened .blocks) (List·Memᴰ·tail (List·Memᴰ·tail (List·Memᴰ·head refl))))) (omega arith) (omega arith) deep-6;

@@ -1,18 +1,18 @@
 -- Request 7's numbers of slots cannot be weakened: a run in which two nodes have different deep blocks in one slot, and which meets all else. Assumes
 -- nothing.
-use Prim.Native.Nat.{ℕ, suc, _+_, _*_, _-_, _/_, _≤_}
-use mathlib.Core.Path.{_≡_, refl, subst}
+use Prim.Native.Nat.{ℕ, suc, _+_, _*_, _-_, _≤_}
+use mathlib.Core.Path.{_≡_, refl}
 use mathlib.Core.Bool.{true}
 use mathlib.Core.List.{List, [], _∷_}
 use native.Mathlib.Omega.{arith}
 use Rattle.resilience.specs.Run.{Network, World, start}
-use Rattle.resilience.specs.Resilience.{Opened, Unforged, OneBlock, Enough, Majority, AtOrAbove}
+use Rattle.resilience.specs.Resilience.{Opened, Unforged, OneBlock, Enough, AtOrAbove}
 use Rattle.resilience.specs.DeepAgreement.{ConditionsFrom, BlockEvery, DeepAfterVote}
 use Rattle.resilience.proofs.DeepAgreement.{conditions-from}
 use Rattle.resilience.proofs.Witness.Runs.{runs}
 use Rattle.resilience.proofs.Witness.Acts.{network, butOne, ten, Act, together, begin, awake, exchange, packet, blockWith, voteBy, gossipWith, proposalWith}
-use Rattle.resilience.proofs.Witness.Tests.{unforged, apart-true}
-use Rattle.resilience.proofs.Witness.Premises.{Premise, delivery, unforged-blocks, unforged-votes, unforged-proposals, one-block, enough, majority, Holds, runTest, run-true, premisesTest, premises-true, neededTest}
+use Rattle.resilience.proofs.Witness.Tests.{apart-true}
+use Rattle.resilience.proofs.Witness.Premises.{Premise, delivery, one-block, enough, majority, Holds, unforged-by, runTest, run-true, premisesTest, premises-true, neededTest}
 use Rattle.resilience.proofs.Witness.DeepTests.{deepTest, deep-true, everyTest, every-true}
 
 -- In a run that meets the premises from slot `since` on, but for `every` in place of the one on K slots, two nodes have in one slot, from
@@ -80,19 +80,16 @@ apart : AtOrAbove (end .log) 12 11 → ⊥
 unfolding neededTest acts
 apart = apart-true (end .log) 12 (11 ∷ 0 ∷ []) refl 11 refl
 
-third : (s : ℕ) → 3 * s / 3 ≡ s
-third s = omega arith
-
-differ : (every : Network → ℕ → World → Type 0) (gap : ℕ → ℕ) (s : ℕ) → premisesTest N acts (3 * s) ≡ true → every N s end → s + gap 2 ≤ 3 → Differ every gap
+differ : (every : Network → ℕ → World → Type 0) (gap : ℕ → ℕ) (s : ℕ) → premisesTest N acts (3 * s - 1) s ≡ true → every N s end → s + gap 2 ≤ 3 → Differ every gap
 differ every gap s h blocks far =
-    let p : (q : Premise) → Holds q N (3 * s) end = premises-true N acts (3 * s) h in
+    let p : (q : Premise) → Holds q N (3 * s - 1) s end = premises-true N acts (3 * s - 1) s h in
     record {
       network = N;
       opened = run-true N acts starts .opened;
       world = end;
       since = s;
-      conditions = conditions-from N end s (p delivery) (subst (λ (t : ℕ). Majority N t end) (third s) (p majority));
-      unforged = unforged N (end .log) (p unforged-blocks) (p unforged-votes) (p unforged-proposals);
+      conditions = conditions-from N end s (p delivery) (p majority);
+      unforged = unforged-by N (3 * s - 1) s end p;
       oneBlock = p one-block;
       enough = p enough;
       blocks = blocks;

@@ -1,25 +1,26 @@
 -- Tests on computed runs for what request 7 speaks of: the deep block right after a vote, and an honest block in every K slots. Assumes nothing.
 use Prim.Native.Nat.{ℕ, _+_, _*_, _-_, _/_, _<_}
-use mathlib.Core.Path.{_≡_, refl, sym, ap, _∙_, subst}
+use mathlib.Core.Path.{_≡_, sym, ap}
 use mathlib.Core.Bool.{Bool, true, false, _&&_, false≢true}
 use mathlib.Core.List.{List}
 use native.Mathlib.Omega.{arith}
-use lib.Dec.{eqb, leb, ltb, T}
+use lib.Dec.{eqb, leb, ltb}
 use borrow.Author.Tests.{eqb-true, le-leb, lt-ltb}
 use Rattle.protocol.specs.Lists.{any}
 use Rattle.protocol.specs.Confirm.{deepGo, deepStep, deepIn, deepFrom, deep}
 use Rattle.protocol.specs.Refusal.{Reply, refused, done, answer}
 use Rattle.protocol.specs.Calls.Vote.{vote}
 use Rattle.protocol.specs.Calls.Query.{queryTests, deepOf, deepQuery}
-use Rattle.protocol.proofs.Basics.Tests.{facts, and-left, and-right, both}
+use Rattle.protocol.proofs.Basics.Tests.{facts, and-left, both}
 use Rattle.protocol.proofs.Basics.Members.{any-true}
-use Rattle.resilience.specs.Run.{Network, World, Event, start, opened, Step, Begin, Due, Gossip, Proposal, Receive, settings, below, step, carried, allowed}
+use Rattle.resilience.specs.Run.{Network, World, Event, start, settings, below}
 use Rattle.resilience.specs.DeepAgreement.{BlockEvery, DeepAfterVote}
-use Rattle.resilience.proofs.Witness.Runs.{runs, anyStep, Made, step-made}
+use Rattle.resilience.proofs.Witness.Runs.{runs, anyStep}
 use Rattle.resilience.proofs.Witness.Acts.{Act, together}
 use Rattle.resilience.proofs.Witness.Events.{row, is-kind}
-use Rattle.resilience.proofs.Witness.Tests.{implies, implied, below-true, openedTest, carried-done}
+use Rattle.resilience.proofs.Witness.Tests.{implies, implied, below-true}
 use Rattle.resilience.proofs.Witness.Premises.{runTest}
+use Rattle.resilience.proofs.Witness.Calls.{calledTest, called-true}
 
 -- ---- the deep block right after a vote
 
@@ -31,59 +32,20 @@ answers-true : (o : Reply ℕ) (d : ℕ) → answers o d ≡ true → o ≡ done
 answers-true (refused k) d h = absurd (false≢true h)
 answers-true (done x) d h = ap done (eqb-true x d h)
 
--- the step is the Vote of node i in slot a, it is carried out, and Deep for a then answers d
-unfoldable pub votesTest : Network → ℕ → ℕ → ℕ → World → Step → Bool
-votesTest N i a d w Begin = false
-votesTest N i a d w (Due j number) =
-    eqb j i
-    && (eqb (w .beat) (3 * a + 1)
-    && (carried (vote (settings N i) (N .places i) (w .node i) (w .beat) .reply)
-    && answers (deepQuery (settings N i) (N .places i) (step N w (Due j number) .node i) a) d))
-votesTest N i a d w (Gossip j buffer) = false
-votesTest N i a d w (Proposal j buffer) = false
-votesTest N i a d w (Receive j bytes) = false
-
-voted-true : {N : Network} {u : World} (i a d : ℕ) (M : Made (votesTest N i a d) N u) → DeepAfterVote N u i a d
-unfolding votesTest
-voted-true {N} {u} i a d M = go (M .by) refl (M .passes)
-  where
-    go : (s : Step) → M .by ≡ s → votesTest N i a d (M .before) s ≡ true → DeepAfterVote N u i a d
-    go Begin e h = absurd (false≢true h)
-    go (Gossip j buffer) e h = absurd (false≢true h)
-    go (Proposal j buffer) e h = absurd (false≢true h)
-    go (Receive j bytes) e h = absurd (false≢true h)
-    go (Due j number) e h =
-        let w = M .before in
-        let is = eqb-true j i (and-left (eqb j i) _ h) in
-        let r1 = and-right (eqb j i) _ h in
-        let r2 = and-right (eqb (w .beat) (3 * a + 1)) _ r1 in
-        let c = carried-done _ (and-left (carried (vote (settings N i) (N .places i) (w .node i) (w .beat) .reply)) _ r2) in
-        let by : M .by ≡ Due i number = e ∙ ap (λ o. Due o number) is in
-        record {
-          world = step N w (M .by);
-          justVoted = record {
-            before = w;
-            run = M .run;
-            number = number;
-            due = subst (λ (s : Step). T (allowed N w s)) by (M .allowed);
-            beat = eqb-true _ _ (and-left (eqb (w .beat) (3 * a + 1)) _ r1);
-            block = c .0;
-            reply = c .1;
-            left = ap (step N w) by;
-          };
-          deep = rw e (answers-true _ d (and-right (carried (vote (settings N i) (N .places i) (w .node i) (w .beat) .reply)) _ r2));
-          onward = M .onward;
-        }
+-- node i's Deep for a answers d
+abbrev hasDeep : Network → ℕ → ℕ → ℕ → World → Bool
+hasDeep N i a d u = answers (deepQuery (settings N i) (N .places i) (u .node i) a) d
 
 unfoldable pub deepTest : Network → List Act → ℕ → ℕ → ℕ → Bool
-unfolding runTest anyStep votesTest deepQuery queryTests deepOf deep deepFrom deepIn deepStep deepGo answer
-deepTest N acts i a d = anyStep (votesTest N i a d) N (start N) (together acts)
+unfolding runTest anyStep calledTest deepQuery queryTests deepOf deep deepFrom deepIn deepStep deepGo answer
+deepTest N acts i a d = anyStep (calledTest N vote i (3 * a + 1) (hasDeep N i a d)) N (start N) (together acts)
 
 pub deep-true : (N : Network) (acts : List Act) → runTest N acts ≡ true → (i a d : ℕ) → deepTest N acts i a d ≡ true
     → DeepAfterVote N (runs N (start N) (together acts)) i a d
-unfolding deepTest runTest
+unfolding deepTest
 deep-true N acts r i a d h =
-    voted-true i a d (step-made (votesTest N i a d) N (start N) (together acts) opened (and-right (openedTest N) _ r) h)
+    let C = called-true N vote i (3 * a + 1) (hasDeep N i a d) acts r h in
+    record { world = C .world; justVoted = C .carriedOut; deep = answers-true _ d (C .passes); onward = C .onward }
 
 -- ---- an honest block in every K slots
 

@@ -1,0 +1,146 @@
+-- A fast block stays: more than half of all nodes are honest and voted for it or above it in its slot, so it leads after that slot. Assumes nothing.
+use Prim.Native.Nat.{ℕ, suc, _+_, _*_, _≤_, _<_}
+use mathlib.Core.Path.{_≡_, refl, sym, ap, _∙_, subst}
+use mathlib.Core.Bool.{Bool, true, false, not, false≢true}
+use mathlib.Core.List.{List}
+use native.Mathlib.Omega.{arith}
+use borrow.Author.Tests.{not-false}
+use Rattle.protocol.specs.declared.Block.{Block}
+use Rattle.protocol.specs.declared.Vote.{Vote}
+use Rattle.protocol.specs.Filters.{Choice, chosen, nothing}
+use Rattle.protocol.specs.Walk.{count, supports}
+use Rattle.protocol.specs.Confirm.{validVote}
+use Rattle.protocol.specs.Store.{inView}
+use Rattle.protocol.specs.Refusal.{first}
+use Rattle.protocol.specs.Calls.Query.{queryTests, fastOf, fastQuery}
+use Rattle.protocol.proofs.Basics.Counting.{count-witness}
+use Rattle.protocol.proofs.Basics.Tests.{and-left, and-right, clashing}
+use Rattle.protocol.proofs.Chain.Above.{above-true, above-slot}
+use Rattle.protocol.proofs.Chain.Relations.{In, Sound, Above}
+use Rattle.protocol.proofs.Confirm.Fast.{FastIs, fast-is}
+use Rattle.protocol.proofs.Confirm.Quorum.{honestFor, quorum-honest}
+use Rattle.protocol.proofs.Confirm.Votes.{Voted, valid-is}
+use Rattle.protocol.proofs.Store.Sound.{IsSound, store-sound, view-sound, ranges}
+use Rattle.protocol.proofs.Store.Views.{view-stored}
+use Rattle.protocol.proofs.Calls.Refusal.{answer-done}
+use Rattle.resilience.specs.Run.{Network, World, settings, isHonest}
+use Rattle.resilience.specs.Resilience.{Delivered, Majority, StaysAfter}
+use Rattle.resilience.specs.FastHolds.{dishonest, FoundStays, FoundAfterMerge, FastHolds, HasFast, FastHoldsAlways}
+use Rattle.resilience.proofs.Steps.Allowed.{is-true, truth}
+use Rattle.resilience.proofs.Runs.Onward.{run-on, carried-honest, carried-run}
+use Rattle.resilience.proofs.Runs.Execution.{Execution, world, log, settings-sound, by-passage}
+use Rattle.resilience.proofs.Invariants.Soundness.{sound-tables}
+use Rattle.resilience.proofs.Invariants.Blocks.{OfRun, stored-of-run}
+use Rattle.resilience.proofs.Invariants.Chains.{above-in-log}
+use Rattle.resilience.proofs.Later.NextSlot.{Leads, stored-ballot}
+use Rattle.resilience.proofs.Later.EverySlot.{GoodFrom, each-good, stays-after}
+
+-- ---- at a point of an execution: node i has the fast block F for slot t
+
+module _ {N : Network} (X : Execution N) (few : 4 * dishonest N < N .nodes) (t k : ℕ) (l : k ≤ X .end) (i : ℕ) (h : isHonest N i ≡ true) (F : ℕ)
+    (found : fastOf (settings N i) (world X k .node i) t ≡ chosen F) where
+  abbrev bs : List Block
+  bs = inView (world X k .node i .blocks)
+
+  abbrev vs : List Vote
+  vs = inView (world X k .node i .votes)
+
+  good : IsSound (settings N i) (N .places i) (world X k .node i)
+  good = sound-tables X k i h
+
+  S : Sound bs
+  S = view-sound good
+
+  of-run : (c : Block) → In c bs → OfRun X c
+  of-run c n = stored-of-run X k l i h c (view-stored (world X k .node i .blocks) c n)
+
+  is : FastIs bs vs (N .nodes) t (chosen F)
+  unfolding fastOf
+  is = subst (FastIs bs vs (N .nodes) t) found (fast-is bs vs (N .nodes) t)
+
+  abbrev B : Block
+  B = is .0
+
+  -- the honest voters of slot t whom i sees at or above it
+  abbrev for : ℕ → Bool
+  for = honestFor bs vs (N .honest) t (B .number)
+
+  -- are more than all others
+  more : count (λ v. not (for v)) (N .nodes) < count for (N .nodes)
+  unfolding dishonest
+  more = quorum-honest bs vs (N .honest) (N .nodes) t (B .number) (omega arith) (is .1 .share)
+
+  vote-of : (v : ℕ) → for v ≡ true → (x : ℕ) × Voted vs t v x × Above bs (B .number) x
+  unfolding supports
+  vote-of v f = go (validVote vs t v) refl (and-right (N .honest v) _ f)
+    where
+      go : (o : Choice) → validVote vs t v ≡ o → supports bs o (B .number) ≡ true → (x : ℕ) × Voted vs t v x × Above bs (B .number) x
+      go nothing e q = absurd (false≢true q)
+      go (chosen x) e q = (x, valid-is vs t v x e .1, above-true S x (B .number) q)
+
+  -- so it leads after slot t
+  leads : Leads X (B .number) t
+  leads = record {
+    for = for;
+    against = λ v. not (for v);
+    on = λ v o f.
+        let r = vote-of v f in
+        let g = and-left (N .honest v) _ f in (
+          g,
+          r .0,
+          stored-ballot X k l i h (record { voter = v; slot = t; number = r .0 }) (view-stored (world X k .node i .votes) _ (r .1)) g,
+          above-in-log X bs of-run (r .2),
+        );
+    silent = λ v o f g. absurd (clashing (not-false (for v) g) f);
+    more = more;
+  }
+
+  -- its slot is t or an earlier one, since a vote is for such a block
+  early : B .slot ≤ t
+  early =
+      let u = count-witness (λ v. not (for v)) for (N .nodes) more in
+      let r = vote-of (u .0) (u .2) in
+      let c = good .closed-votes _ (r .1) in
+      let b = good .votes _ (view-stored (world X k .node i .votes) _ (r .1)) .on in
+      let e = store-sound good .unique (c .0) (b .0) (view-stored (world X k .node i .blocks) (c .0) (c .1)) (b .1) (c .2 ∙ sym (b .2)) in
+      omega (arith, above-slot S (c .0) B (c .1) (is .1 .mem) (c .2) refl (r .2), ap (λ o. o .slot) e, b .3)
+
+  pub found-stays : GoodFrom X t → StaysAfter t F (world X (X .end))
+  found-stays from =
+      subst (λ (x : ℕ). StaysAfter t x (world X (X .end))) (is .2)
+      (stays-after X B (of-run B (is .1 .mem)) t early (λ o. leads) from)
+
+-- ---- in a run
+
+pub fast-holds-always : FastHoldsAlways
+unfolding FastHoldsAlways Delivered Majority
+fast-holds-always N opened w few t del unforged oneBlock enough maj i F H =
+    by-passage (H .world) w (H .run) (H .onward) opened unforged oneBlock enough
+    (λ (o p : World). fastOf (settings N i) (o .node i) t ≡ chosen F → Delivered (3 * t + 1) (p .log) → Majority N (suc t) p → StaysAfter t F p)
+    (λ X k l e del maj.
+    let h = is-true _ (H .honest) in
+    found-stays X few t k l i h F e
+    (each-good X t (λ q l o. (del (3 * q + 1) (omega arith), λ m. maj q (omega arith) o)) (ranges (settings N i) (settings-sound X i h) .expiry)))
+    (H .fast) del maj
+
+-- ---- what the customer asks for
+
+-- the claim on some fast blocks, from the claim on more of them
+pub stays-by : (N : Network) (w : World) (Found More : ℕ → ℕ → ℕ → Type 0) → ((i t F : ℕ) → Found i t F → More i t F)
+    → ((i t F : ℕ) → Found i t F → FoundStays N w More) → FoundStays N w Found
+stays-by N w Found More f claim few t del unforged oneBlock enough maj i F H =
+    claim i t F H few t del unforged oneBlock enough maj i F (f i t F H)
+
+has-fast : (N : Network) (w : World) (i t F : ℕ) → FoundAfterMerge N w i t F → HasFast N w i t F
+unfolding fastQuery
+has-fast N w i t F H = record {
+  world = H .world;
+  run = run-on (carried-run (H .justMerged)) (H .since);
+  honest = truth (carried-honest (H .justMerged));
+  fast = answer-done (first (queryTests (settings N i) (N .places i) (H .world .node i) t)) _ _ (H .fast) .1;
+  onward = H .onward;
+}
+
+pub fast-holds : FastHolds
+unfolding FastHolds FastHoldsAlways
+fast-holds N opened w = stays-by N w (FoundAfterMerge N w) (HasFast N w) (has-fast N w) (λ i t F H. fast-holds-always N opened w)

@@ -1,21 +1,20 @@
 -- Deep blocks agree, said of what the code answers: a Vote of the code is a vote of `resilience`, and Deep answers its deep block. Assumes nothing.
 use Prim.Native.Nat.{ℕ, _%_}
 use mathlib.Core.Path.{_≡_, sym, ap, _∙_, subst}
-use mathlib.Core.Bool.{true, cond}
+use mathlib.Core.Bool.{true}
 use native.Mathlib.Omega.{arith}
 use Rattle.protocol.specs.Filters.{chosen}
-use Rattle.protocol.specs.Store.{Places, Node}
-use Rattle.protocol.specs.Refusal.{Reply, done}
+use Rattle.protocol.specs.Refusal.{done}
 use Rattle.protocol.specs.Calls.Vote.{vote}
 use Rattle.protocol.specs.Calls.Query.{deepOf, deepQuery}
-use Rattle.protocol.specs.Lent.{nodeOf, askLent}
-use Rattle.protocol.proofs.Lent.Calls.{vote-lawful, ask-lent}
+use Rattle.protocol.specs.Lent.{askLent}
+use Rattle.protocol.proofs.Lent.Calls.{vote-lawful}
 use Rattle.answers.specs.Answers.{block, answerOf, mapReply}
 use Rattle.answers.specs.declared.Reply.the-variants as reply
 use Rattle.answers.specs.declared.Answer.{Answer}
 use Rattle.answers.specs.declared.Answer.the-variants as answer
 use Rattle.resilience.specs.Run as model
-use Rattle.resilience.specs.Run.{Network, settings, isHonest, Due}
+use Rattle.resilience.specs.Run.{settings, isHonest, Due}
 use Rattle.resilience.specs.DeepAgreement.{JustVoted, DeepAfterVote, DeepAgreement, DeepAnswered}
 use Rattle.resilience.proofs.Steps.Allowed.{is-true, due-honest}
 use Rattle.resilience.proofs.DeepAgreement.{agree-by, deep-agreement}
@@ -25,20 +24,9 @@ use Rattle.conformance.specs.CodeRun.{votes}
 use Rattle.conformance.specs.CodeDeepAgreement.{CodeJustVoted, CodeDeepAfterVote, CodeDeepAgreement, CodeDeepAnswered}
 use Rattle.conformance.proofs.Answers.{done-mapped}
 use Rattle.conformance.proofs.Memory.{called}
-use Rattle.conformance.proofs.Steps.{AllHealthy, Follows, follows}
+use Rattle.conformance.proofs.Steps.{Follows, follows}
 use Rattle.conformance.proofs.Conforms.{Conforming, conforming, going}
-
--- ---- a question to an honest node
-
-module _ (D : Deployment) (u : State) (H : AllHealthy D u) (i : ℕ) (h : isHonest (network D) i ≡ true) where
-  abbrev N : Network
-  N = network D
-
-  pub holds : decoded D u .node i ≡ nodeOf (u .memory i)
-  holds = ap (λ b. cond b (nodeOf (u .memory i)) (model.start N .node i)) h
-
-  pub asked : {A : Type 0} (ask : Places → Node → Reply A) → askLent (settings N i) ask (u .memory i) ≡ ask (N .places i) (decoded D u .node i)
-  asked ask = ask-lent (settings N i) ask (u .memory i) (H i h .sound) ∙ (λ k. ask (H i h .places k) (sym holds k))
+use Rattle.conformance.proofs.Questions.{holds, asked}
 
 -- ---- a Vote of the code
 
@@ -73,7 +61,7 @@ module _ (D : Deployment) (i a : ℕ) (u : State) (A : CodeJustVoted D i a u) wh
     number = A .number;
     due = A .due;
     beat = A .beat;
-    block = A .block;
+    value = A .block;
     reply = replied;
     left = sym (F .world);
   }

@@ -1,5 +1,5 @@
--- That runs of the code are runs of `resilience`, and so demand 3 holds of them and deep blocks agree; and that the code's removing of old votes
--- changes no answer. Assumes nothing.
+-- That runs of the code are runs of `resilience`, and so demand 3 holds of them, deep blocks agree and fast blocks hold; and that the code's removing of
+-- old votes changes no answer. Assumes nothing.
 pub mod Answers
 pub mod Memory
 pub mod Steps
@@ -8,5 +8,7 @@ pub mod Promises
 pub mod Completes
 pub mod Contracts
 pub mod Removed
+pub mod Questions
 pub mod DeepAgreement
+pub mod FastHolds
 pub mod Witness

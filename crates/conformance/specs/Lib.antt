@@ -4,3 +4,4 @@ pub mod CodeRun
 pub mod Conformance
 pub mod CodeRemoval
 pub mod CodeDeepAgreement
+pub mod CodeFastHolds

@@ -1,0 +1,35 @@
+-- A fast block stays, said of what the code answers. Assumes nothing.
+use Prim.Native.Nat.{ℕ}
+use mathlib.Core.Path.{sym, _∙_}
+use Rattle.protocol.specs.Refusal.{first}
+use Rattle.protocol.specs.Calls.Query.{queryTests, fastQuery}
+use Rattle.protocol.proofs.Calls.Refusal.{answer-done}
+use Rattle.resilience.specs.Run.{settings}
+use Rattle.resilience.specs.FastHolds.{HasFast, FastHoldsAlways}
+use Rattle.resilience.proofs.Steps.Allowed.{is-true}
+use Rattle.resilience.proofs.FastHolds.{stays-by, fast-holds-always}
+use Rattle.conformance.specs.State.{Deployment, State, network, decoded}
+use Rattle.conformance.specs.CodeFastHolds.{CodeHasFast, CodeFastHolds}
+use Rattle.conformance.proofs.Conforms.{conforming, going}
+use Rattle.conformance.proofs.Questions.{asked}
+
+decoded-fast : (D : Deployment) (w : State) (i t F : ℕ) → CodeHasFast D w i t F → HasFast (network D) (decoded D w) i t F
+unfolding fastQuery
+decoded-fast D w i t F H =
+    let u = H .state in
+    let C = conforming D u (H .run) in
+    let s = settings (network D) i in
+    record {
+      world = decoded D u;
+      run = C .run;
+      honest = H .honest;
+      fast = answer-done (first (queryTests s (network D .places i) (decoded D u .node i) t)) _ _
+          (sym (asked D u (C .healthy) i (is-true _ (H .honest)) (λ p x. fastQuery s p x t)) ∙ sym (H .fast)) .1;
+      onward = going D u w (C .healthy) (H .onward) .onward;
+    }
+
+pub code-fast-holds : CodeFastHolds
+unfolding CodeFastHolds FastHoldsAlways
+code-fast-holds D w =
+    stays-by (network D) (decoded D w) (CodeHasFast D w) (HasFast (network D) (decoded D w)) (decoded-fast D w)
+    (λ i t F H. fast-holds-always (network D) (conforming D (H .state) (H .run) .opened) (decoded D w))

@@ -155,11 +155,15 @@ likvost_answer likvost_merge(likvost_settings settings, likvost_clock clock, uin
 likvost_found likvost_head(likvost_settings settings, likvost_clock clock, const uint64_t *blocks, size_t blocks_len,
                            size_t blocks_used, const uint64_t *votes, size_t votes_len, size_t votes_used, uint64_t slot);
 
-/* The highest block of the head's chain that is at least `depth` slots older than the slot. Refusals: 6 17. */
+/* The highest block of the head's chain that is at least `depth` slots older than the slot. Ask for a slot after the vote in it.
+ * Under the conditions of docs/PROOF.md (packets in time, enough voters awake, an honest block in every `depth` slots) the deep
+ * blocks that honest nodes have then stand on one chain. Refusals: 6 17. */
 likvost_found likvost_deep(likvost_settings settings, likvost_clock clock, const uint64_t *blocks, size_t blocks_len,
                            size_t blocks_used, const uint64_t *votes, size_t votes_len, size_t votes_used, uint64_t slot);
 
-/* The block farthest from block 0 with the votes of three quarters of the nodes in this slot, if any. Refusals: 6 17. */
+/* The block farthest from block 0 with the votes of three quarters of the nodes in this slot, if any; block 0 where they agree
+ * on nothing else. Ask for a slot after the Merge of it. Under the conditions of docs/PROOF.md (fewer than a quarter of the nodes
+ * dishonest, packets in time, enough voters awake) what it answers stays under every later honest vote and block. Refusals: 6 17. */
 likvost_found likvost_fast(likvost_settings settings, likvost_clock clock, const uint64_t *blocks, size_t blocks_len,
                            size_t blocks_used, const uint64_t *votes, size_t votes_len, size_t votes_used, uint64_t slot);
 

@@ -254,12 +254,15 @@ impl Node {
         self.ask(ffi::likvost_head, slot).map(|found| found.value)
     }
 
-    /// The deep block for a slot.
+    /// The deep block for a slot. Ask after the vote in it: under the conditions of docs/PROOF.md (packets in time, enough voters awake, an honest
+    /// block in every `depth` slots) the deep blocks that honest nodes have then stand on one chain.
     pub fn deep(&self, slot: u64) -> Result<u64, Refusal> {
         self.ask(ffi::likvost_deep, slot).map(|found| found.value)
     }
 
-    /// The fast block for a slot, if there is one.
+    /// The fast block for a slot, if there is one; block 0 where three quarters of the nodes agree on nothing else. Ask after the Merge of it:
+    /// under the conditions of docs/PROOF.md (fewer than a quarter of the nodes dishonest, packets in time, enough voters awake) it stays under
+    /// every later honest vote and block.
     pub fn fast(&self, slot: u64) -> Result<Option<u64>, Refusal> {
         self.ask(ffi::likvost_fast, slot).map(|found| (found.found != 0).then_some(found.value))
     }

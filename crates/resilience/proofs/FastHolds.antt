@@ -68,7 +68,7 @@ module _ {N : Network} (X : Execution N) (few : 4 * dishonest N < N .nodes) (t k
   -- are more than all others
   more : count (λ v. not (for v)) (N .nodes) < count for (N .nodes)
   unfolding dishonest
-  more = quorum-honest bs vs (N .honest) (N .nodes) t (B .number) (omega arith) (is .1 .share)
+  more = quorum-honest bs vs (N .honest) (N .nodes) t (B .number) few (is .1 .share)
 
   vote-of : (v : ℕ) → for v ≡ true → (x : ℕ) × Voted vs t v x × Above bs (B .number) x
   unfolding supports
@@ -119,7 +119,7 @@ fast-holds-always N opened w few t del unforged oneBlock enough maj i F H =
     (λ (o p : World). fastOf (settings N i) (o .node i) t ≡ chosen F → Delivered (3 * t + 1) (p .log) → Majority N (suc t) p → StaysAfter t F p)
     (λ X k l e del maj.
     let h = is-true _ (H .honest) in
-    found-stays X few t k l i h F e
+    found-stays X (omega arith) t k l i h F e
     (each-good X t (λ q l o. (del (3 * q + 1) (omega arith), λ m. maj q (omega arith) o)) (ranges (settings N i) (settings-sound X i h) .expiry)))
     (H .fast) del maj
 

@@ -10,9 +10,10 @@ use Rattle.resilience.specs.Resilience.{Opened, Unforged, OneBlock, Enou
 use Rattle.resilience.specs.DeepAgreement.{ConditionsFrom, BlockEvery, DeepAfterVote}
 use Rattle.resilience.proofs.DeepAgreement.{conditions-from}
 use Rattle.resilience.proofs.Witness.Runs.{runs}
-use Rattle.resilience.proofs.Witness.Acts.{network, butOne, ten, Act, together, begin, awake, exchange, packet, blockWith, voteBy, gossipWith, proposalWith}
+use Rattle.resilience.proofs.Witness.Acts.{network, butOne, ten, Act, together, begin, awake, exchange, packet, voteBy, gossipWith}
 use Rattle.resilience.proofs.Witness.Tests.{apart-true}
 use Rattle.resilience.proofs.Witness.Premises.{Premise, delivery, one-block, enough, majority, Holds, unforged-by, runTest, run-true, premisesTest, premises-true, neededTest}
+use Rattle.resilience.proofs.Witness.FiveNodes.{proposal-11, proposal-12}
 use Rattle.resilience.proofs.Witness.DeepTests.{deepTest, deep-true, everyTest, every-true}
 
 -- In a run that meets the premises from slot `since` on, but for `every` in place of the one on K slots, two nodes have in one slot, from
@@ -48,8 +49,7 @@ N = network 5 1 2 butOne ten
 -- the smaller number. Node 0 alone has a vote of node 1 in slot 2 for 12 before it merges. So in slot 3 it votes for 12, and node 3 for 11.
 unfoldable acts : List Act
 acts =
-    begin ∷ packet (proposalWith 1 12 (blockWith 12 0 1 ∷ [])) 0 ∷ packet (proposalWith 1 12 (blockWith 12 0 1 ∷ [])) 2
-    ∷ packet (proposalWith 1 11 (blockWith 11 0 1 ∷ [])) 3 ∷ packet (proposalWith 1 11 (blockWith 11 0 1 ∷ [])) 4
+    begin ∷ packet proposal-12 0 ∷ packet proposal-12 2 ∷ packet proposal-11 3 ∷ packet proposal-11 4
     ∷ begin ∷ awake 0 ∷ awake 2 ∷ awake 3 ∷ awake 4 ∷ exchange (0 ∷ 2 ∷ 3 ∷ 4 ∷ [])
     ∷ packet (gossipWith [] (voteBy 1 1 12 ∷ [])) 0 ∷ packet (gossipWith [] (voteBy 1 1 12 ∷ [])) 2
     ∷ begin ∷ awake 0 ∷ awake 2 ∷ awake 3 ∷ awake 4 ∷ exchange (0 ∷ 2 ∷ 3 ∷ 4 ∷ [])

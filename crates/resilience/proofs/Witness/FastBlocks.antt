@@ -1,4 +1,4 @@
--- A run of five nodes in which a dishonest node's block is found as a fast block, and what the theorem says of it. Assumes nothing.
+-- A run of the five nodes of FiveNodes in which a dishonest node's block is found as a fast block, and what the theorem says of it. Assumes nothing.
 use Prim.Native.Nat.{ℕ, _*_, _<_}
 use mathlib.Core.Path.{_≡_, refl}
 use mathlib.Core.Bool.{true}
@@ -9,28 +9,18 @@ use Rattle.protocol.specs.Filters.{chosen}
 use Rattle.protocol.specs.Packet.{Packet, packetBytes}
 use Rattle.protocol.specs.Refusal.{done}
 use Rattle.protocol.specs.Calls.Query.{fastQuery}
-use Rattle.resilience.specs.Run.{Network, World, start, voted, built, given, settings}
+use Rattle.resilience.specs.Run.{World, start, voted, built, given, settings}
 use Rattle.resilience.specs.Resilience.{AtOrAbove, StaysAfter}
 use Rattle.resilience.specs.FastHolds.{dishonest, FoundAfterMerge, FastHolds}
 use Rattle.resilience.proofs.FastHolds.{fast-holds}
 use Rattle.resilience.proofs.Witness.Runs.{runs}
-use Rattle.resilience.proofs.Witness.Acts.{network, butOne, ten, Act, together, begin, awake, proposes, gossip, proposal, exchange, packet, blockWith, voteBy, gossipWith, proposalWith}
+use Rattle.resilience.proofs.Witness.Acts.{Act, together, begin, awake, proposes, gossip, proposal, exchange, packet, voteBy, gossipWith}
 use Rattle.resilience.proofs.Witness.Events.{occurs, only}
 use Rattle.resilience.proofs.Witness.Premises.{Premise, delivery, one-block, enough, majority, Holds, unforged-by, runTest, run-true, premisesTest, premises-true}
+use Rattle.resilience.proofs.Witness.FiveNodes.{five, proposal-11, proposal-12}
 use Rattle.resilience.proofs.Witness.FastTests.{foundTest, found-true}
 
--- Node 1 is dishonest. Votes expire after two slots.
-abbrev pub five : Network
-five = network 5 2 2 butOne ten
-
--- ---- the dishonest packets
-
--- two proposals of slot 1
-abbrev pub proposal-11 : Packet
-proposal-11 = proposalWith 1 11 (blockWith 11 0 1 ∷ [])
-
-abbrev pub proposal-12 : Packet
-proposal-12 = proposalWith 1 12 (blockWith 12 0 1 ∷ [])
+-- ---- the dishonest packets, beside the two proposals of slot 1
 
 -- two votes of slot 1
 abbrev pub vote-11 : Packet

@@ -1,22 +1,27 @@
--- A fast block stays: more than half of all nodes are honest and voted for it or above it in its slot, so it leads after that slot. Assumes nothing.
+-- A fast block stays, since more than half of all nodes are honest and voted for it or above it in its slot: it leads after that slot. And so two
+-- of them are on one chain. Assumes nothing.
 use Prim.Native.Nat.{ℕ, suc, _+_, _*_, _≤_, _<_}
 use mathlib.Core.Path.{_≡_, refl, sym, ap, _∙_, subst}
+use mathlib.Core.Logic.{_⊎_, _≢_}
 use mathlib.Core.Bool.{Bool, true, false, not, false≢true}
 use mathlib.Core.List.{List}
 use native.Mathlib.Omega.{arith}
-use borrow.Author.Tests.{not-false}
+use lib.Dec.{eqb}
+use borrow.Author.Tests.{eqb-true, eqb-false, not-false}
 use Rattle.protocol.specs.declared.Block.{Block}
 use Rattle.protocol.specs.declared.Vote.{Vote}
+use Rattle.protocol.specs.Chain.{genesis}
 use Rattle.protocol.specs.Filters.{Choice, chosen, nothing}
 use Rattle.protocol.specs.Walk.{count, supports}
 use Rattle.protocol.specs.Confirm.{validVote}
 use Rattle.protocol.specs.Store.{inView}
 use Rattle.protocol.specs.Refusal.{first}
 use Rattle.protocol.specs.Calls.Query.{queryTests, fastOf, fastQuery}
-use Rattle.protocol.proofs.Basics.Counting.{count-witness}
+use Rattle.protocol.proofs.Basics.Counting.{count-not, count-witness, count-overlap}
 use Rattle.protocol.proofs.Basics.Tests.{and-left, and-right, clashing}
 use Rattle.protocol.proofs.Chain.Above.{above-true, above-slot}
 use Rattle.protocol.proofs.Chain.Relations.{In, Sound, Above}
+use Rattle.protocol.proofs.Filters.Kept.{chosen-inj}
 use Rattle.protocol.proofs.Confirm.Fast.{FastIs, fast-is}
 use Rattle.protocol.proofs.Confirm.Quorum.{honestFor, quorum-honest}
 use Rattle.protocol.proofs.Confirm.Votes.{Voted, valid-is}
@@ -24,18 +29,29 @@ use Rattle.protocol.proofs.Store.Sound.{IsSound, store-sound, view-sound, range
 use Rattle.protocol.proofs.Store.Views.{view-stored}
 use Rattle.protocol.proofs.Calls.Refusal.{answer-done}
 use Rattle.resilience.specs.Run.{Network, World, settings, isHonest}
-use Rattle.resilience.specs.Resilience.{Delivered, Majority, StaysAfter}
+use Rattle.resilience.specs.Resilience.{Gives, OneBlock, AtOrAbove, Delivered, Majority, StaysAfter}
 use Rattle.resilience.specs.FastHolds.{dishonest, FoundStays, FoundAfterMerge, FastHolds, HasFast, FastHoldsAlways}
 use Rattle.resilience.proofs.Steps.Allowed.{is-true, truth}
 use Rattle.resilience.proofs.Runs.Onward.{run-on, carried-honest, carried-run}
 use Rattle.resilience.proofs.Runs.Execution.{Execution, world, log, settings-sound, by-passage}
 use Rattle.resilience.proofs.Invariants.Soundness.{sound-tables}
 use Rattle.resilience.proofs.Invariants.Blocks.{OfRun, stored-of-run}
-use Rattle.resilience.proofs.Invariants.Chains.{above-in-log}
+use Rattle.resilience.proofs.Invariants.Chains.{above-in-log, log-compare}
+use Rattle.resilience.proofs.Later.Ballots.{ballotIn, ballot-voted}
 use Rattle.resilience.proofs.Later.NextSlot.{Leads, stored-ballot}
 use Rattle.resilience.proofs.Later.EverySlot.{GoodFrom, each-good, stays-after}
 
--- ---- at a point of an execution: node i has the fast block F for slot t
+-- more than half of all nodes are honest and voted in slot t for F, which is a block of t or an earlier slot, or for one above it
+record Supported (N : Network) (w : World) (t F : ℕ) : Type 0 where
+  block : Block
+  of : (block ≡ genesis) ⊎ Gives (w .log) block
+  is : block .number ≡ F
+  early : block .slot ≤ t
+  for : ℕ → Bool
+  more : count (λ v. not (for v)) (N .nodes) < count for (N .nodes)
+  on : (v : ℕ) → for v ≡ true → (N .honest v ≡ true) × (x : ℕ) × (ballotIn (w .log) v t ≡ chosen x) × AtOrAbove (w .log) F x
+
+-- ---- at a point of an execution: the fast block F of node i for slot t is supported
 
 module _ {N : Network} (X : Execution N) (few : 4 * dishonest N < N .nodes) (t k : ℕ) (l : k ≤ X .end) (i : ℕ) (h : isHonest N i ≡ true) (F : ℕ)
     (found : fastOf (settings N i) (world X k .node i) t ≡ chosen F) where
@@ -54,23 +70,23 @@ module _ {N : Network} (X : Execution N) (few : 4 * dishonest N < N .nodes) (t k
   of-run : (c : Block) → In c bs → OfRun X c
   of-run c n = stored-of-run X k l i h c (view-stored (world X k .node i .blocks) c n)
 
-  is : FastIs bs vs (N .nodes) t (chosen F)
+  is-fast : FastIs bs vs (N .nodes) t (chosen F)
   unfolding fastOf
-  is = subst (FastIs bs vs (N .nodes) t) found (fast-is bs vs (N .nodes) t)
+  is-fast = subst (FastIs bs vs (N .nodes) t) found (fast-is bs vs (N .nodes) t)
 
   abbrev B : Block
-  B = is .0
+  B = is-fast .0
 
   -- the honest voters of slot t whom i sees at or above it
-  abbrev for : ℕ → Bool
-  for = honestFor bs vs (N .honest) t (B .number)
+  abbrev sees : ℕ → Bool
+  sees = honestFor bs vs (N .honest) t (B .number)
 
   -- are more than all others
-  more : count (λ v. not (for v)) (N .nodes) < count for (N .nodes)
+  most : count (λ v. not (sees v)) (N .nodes) < count sees (N .nodes)
   unfolding dishonest
-  more = quorum-honest bs vs (N .honest) (N .nodes) t (B .number) few (is .1 .share)
+  most = quorum-honest bs vs (N .honest) (N .nodes) t (B .number) few (is-fast .1 .share)
 
-  vote-of : (v : ℕ) → for v ≡ true → (x : ℕ) × Voted vs t v x × Above bs (B .number) x
+  vote-of : (v : ℕ) → sees v ≡ true → (x : ℕ) × Voted vs t v x × Above bs (B .number) x
   unfolding supports
   vote-of v f = go (validVote vs t v) refl (and-right (N .honest v) _ f)
     where
@@ -78,50 +94,98 @@ module _ {N : Network} (X : Execution N) (few : 4 * dishonest N < N .nodes) (t k
       go nothing e q = absurd (false≢true q)
       go (chosen x) e q = (x, valid-is vs t v x e .1, above-true S x (B .number) q)
 
-  -- so it leads after slot t
-  leads : Leads X (B .number) t
-  leads = record {
-    for = for;
-    against = λ v. not (for v);
-    on = λ v o f.
+  -- a vote is for a block of its slot or an earlier one
+  not-later : B .slot ≤ t
+  not-later =
+      let u = count-witness (λ v. not (sees v)) sees (N .nodes) most in
+      let r = vote-of (u .0) (u .2) in
+      let c = good .closed-votes _ (r .1) in
+      let b = good .votes _ (view-stored (world X k .node i .votes) _ (r .1)) .on in
+      let e = store-sound good .unique (c .0) (b .0) (view-stored (world X k .node i .blocks) (c .0) (c .1)) (b .1) (c .2 ∙ sym (b .2)) in
+      omega (arith, above-slot S (c .0) B (c .1) (is-fast .1 .mem) (c .2) refl (r .2), ap (λ o. o .slot) e, b .3)
+
+  fast-supported : Supported N (world X (X .end)) t F
+  fast-supported = record {
+    block = B;
+    of = of-run B (is-fast .1 .mem);
+    is = is-fast .2;
+    early = not-later;
+    for = sees;
+    more = most;
+    on = λ v f.
         let r = vote-of v f in
         let g = and-left (N .honest v) _ f in (
           g,
           r .0,
           stored-ballot X k l i h (record { voter = v; slot = t; number = r .0 }) (view-stored (world X k .node i .votes) _ (r .1)) g,
-          above-in-log X bs of-run (r .2),
+          subst (λ (z : ℕ). AtOrAbove (log X) z (r .0)) (is-fast .2) (above-in-log X bs of-run (r .2)),
         );
-    silent = λ v o f g. absurd (clashing (not-false (for v) g) f);
-    more = more;
   }
 
-  -- its slot is t or an earlier one, since a vote is for such a block
-  early : B .slot ≤ t
-  early =
-      let u = count-witness (λ v. not (for v)) for (N .nodes) more in
-      let r = vote-of (u .0) (u .2) in
-      let c = good .closed-votes _ (r .1) in
-      let b = good .votes _ (view-stored (world X k .node i .votes) _ (r .1)) .on in
-      let e = store-sound good .unique (c .0) (b .0) (view-stored (world X k .node i .blocks) (c .0) (c .1)) (b .1) (c .2 ∙ sym (b .2)) in
-      omega (arith, above-slot S (c .0) B (c .1) (is .1 .mem) (c .2) refl (r .2), ap (λ o. o .slot) e, b .3)
+-- ---- what is supported stays
 
-  pub found-stays : GoodFrom X t → StaysAfter t F (world X (X .end))
-  found-stays from =
-      subst (λ (x : ℕ). StaysAfter t x (world X (X .end))) (is .2)
-      (stays-after X B (of-run B (is .1 .mem)) t early (λ o. leads) from)
+module _ {N : Network} (X : Execution N) (t F : ℕ) (K : Supported N (world X (X .end)) t F) where
+  leads : Leads X (K .block .number) t
+  leads = record {
+    for = K .for;
+    against = λ v. not (K .for v);
+    on = λ v o f. let r = K .on v f in (r .0, r .1, r .2, rw (K .is) (r .3));
+    silent = λ v o f g. absurd (clashing (not-false (K .for v) g) f);
+    more = K .more;
+  }
+
+  supported-stays : GoodFrom X t → StaysAfter t F (world X (X .end))
+  supported-stays from = subst (λ (x : ℕ). StaysAfter t x (world X (X .end))) (K .is) (stays-after X (K .block) (K .of) t (K .early) (λ o. leads) from)
+
+-- ---- and two such blocks are on one chain
+
+module _ {N : Network} {w : World} (oneBlock : OneBlock (w .log)) where
+  -- of one slot: some honest voter is counted for both, and its one vote is above both
+  same-slot : (t F G : ℕ) → Supported N w t F → Supported N w t G → AtOrAbove (w .log) F G ⊎ AtOrAbove (w .log) G F
+  same-slot t F G K L =
+      let c = count-not (K .for) (N .nodes) in
+      let d = count-not (L .for) (N .nodes) in
+      let v = count-overlap (K .for) (L .for) (N .nodes) (omega (arith, K .more, L .more)) in
+      let p = K .on (v .0) (v .2) in
+      let q = L .on (v .0) (v .3) in
+      log-compare oneBlock (chosen-inj (sym (p .2) ∙ q .2)) (p .3) (q .3)
+
+  -- of a later slot: an honest vote that is above the other is above this one
+  later-slot : (t F s G : ℕ) → t < s → StaysAfter t F w → Supported N w s G → AtOrAbove (w .log) F G ⊎ AtOrAbove (w .log) G F
+  later-slot t F s G l stays L =
+      let v = count-witness (λ v. not (L .for v)) (L .for) (N .nodes) (L .more) in
+      let q = L .on (v .0) (v .2) in
+      let c = ballot-voted (w .log) (v .0) s (q .1) (q .2) in
+      log-compare oneBlock refl (stays .0 (c .0) (v .0) (q .1) (c .2) (omega (arith, c .1))) (q .3)
+
+  one-chain : (t F s G : ℕ) → t ≤ s → StaysAfter t F w → Supported N w t F → Supported N w s G → AtOrAbove (w .log) F G ⊎ AtOrAbove (w .log) G F
+  one-chain t F s G l stays K L = go (eqb t s) refl
+    where
+      go : (b : Bool) → eqb t s ≡ b → AtOrAbove (w .log) F G ⊎ AtOrAbove (w .log) G F
+      go true e = same-slot t F G K (subst (λ (o : ℕ). Supported N w o G) (sym (eqb-true t s e)) L)
+      go false e =
+          let ne : t ≢ s = eqb-false t s e in
+          later-slot t F s G (omega arith) stays L
 
 -- ---- in a run
 
 pub fast-holds-always : FastHoldsAlways
 unfolding FastHoldsAlways Delivered Majority
 fast-holds-always N opened w few t del unforged oneBlock enough maj i F H =
-    by-passage (H .world) w (H .run) (H .onward) opened unforged oneBlock enough
-    (λ (o p : World). fastOf (settings N i) (o .node i) t ≡ chosen F → Delivered (3 * t + 1) (p .log) → Majority N (suc t) p → StaysAfter t F p)
-    (λ X k l e del maj.
-    let h = is-true _ (H .honest) in
-    found-stays X (omega arith) t k l i h F e
-    (each-good X t (λ q l o. (del (3 * q + 1) (omega arith), λ m. maj q (omega arith) o)) (ranges (settings N i) (settings-sound X i h) .expiry)))
-    (H .fast) del maj
+    let K = supported t i F H in
+    let S = by-passage (H .world) w (H .run) (H .onward) opened unforged oneBlock enough
+    (λ (o p : World). Supported N p t F → Delivered (3 * t + 1) (p .log) → Majority N (suc t) p → StaysAfter t F p)
+    (λ X k l K del maj.
+    supported-stays X t F K
+    (each-good X t (λ q l o. (del (3 * q + 1) (omega arith), λ m. maj q (omega arith) o)) (ranges (settings N i) (settings-sound X i (is-true _ (H .honest))) .expiry)))
+    K del maj in
+    (S, λ s j G l M. one-chain oneBlock t F s G l S K (supported s j G M))
+  where
+    supported : (t i F : ℕ) → HasFast N w i t F → Supported N w t F
+    supported t i F H =
+        by-passage (H .world) w (H .run) (H .onward) opened unforged oneBlock enough
+        (λ (o p : World). fastOf (settings N i) (o .node i) t ≡ chosen F → Supported N p t F)
+        (λ X k l. fast-supported X (omega arith) t k l i (is-true _ (H .honest)) F) (H .fast)
 
 -- ---- what the customer asks for
 
@@ -129,7 +193,8 @@ fast-holds-always N opened w few t del unforged oneBlock enough maj i F H =
 pub stays-by : (N : Network) (w : World) (Found More : ℕ → ℕ → ℕ → Type 0) → ((i t F : ℕ) → Found i t F → More i t F)
     → ((i t F : ℕ) → Found i t F → FoundStays N w More) → FoundStays N w Found
 stays-by N w Found More f claim few t del unforged oneBlock enough maj i F H =
-    claim i t F H few t del unforged oneBlock enough maj i F (f i t F H)
+    let r = claim i t F H few t del unforged oneBlock enough maj i F (f i t F H) in
+    (r .0, λ s j G l K. r .1 s j G l (f j s G K))
 
 has-fast : (N : Network) (w : World) (i t F : ℕ) → FoundAfterMerge N w i t F → HasFast N w i t F
 unfolding fastQuery

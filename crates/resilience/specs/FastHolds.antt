@@ -2,6 +2,7 @@
 -- Assumes nothing.
 use mathlib.Core.Path.{_≡_}
 use Prim.Native.Nat.{ℕ, suc, _+_, _*_, _≤_, _<_}
+use mathlib.Core.Logic.{_⊎_}
 use mathlib.Core.Bool.{not}
 use mathlib.Core.List.{List·Memᴰ}
 use lib.Dec.{T}
@@ -11,7 +12,7 @@ use Rattle.protocol.specs.Refusal.{done}
 use Rattle.protocol.specs.Calls.Merge.{merge}
 use Rattle.protocol.specs.Calls.Query.{fastOf, fastQuery}
 use Rattle.resilience.specs.Run.{Network, World, Run, Onward, CarriedOut, woke, isHonest, settings}
-use Rattle.resilience.specs.Resilience.{Opened, OneBlock, Unforged, Enough, Delivered, Majority, StaysAfter}
+use Rattle.resilience.specs.Resilience.{Opened, OneBlock, AtOrAbove, Unforged, Enough, Delivered, Majority, StaysAfter}
 
 -- ---- the claim
 
@@ -31,7 +32,10 @@ FoundStays N w Found =
     -- "and its count of voters holds from slot t + 1 on"
     Majority N (suc t) w →
     -- "then a fast block .. is at or below every honest vote and every honest base from slot t + 1 on", those from before it was found, too
-    (i F : ℕ) → Found i t F → StaysAfter t F w
+    (i F : ℕ) → Found i t F →
+    StaysAfter t F w
+    -- and it is on one chain with every fast block of this slot or a later one: two foremen never cut on different branches
+    × ((s j G : ℕ) → t ≤ s → Found j s G → AtOrAbove (w .log) F G ⊎ AtOrAbove (w .log) G F)
 
 -- "that an honest joined node finds for t between its Merge of t and its next beat": its Merge of t was carried out, by which it is joined for t + 1. The
 -- run went on, and in this world it has not been awake again. There its Fast for t answers F; and the run went on from there and stands in w.

@@ -1,7 +1,7 @@
--- "At or above" in the log and in a list of blocks of the run say the same. Assumes nothing.
+-- "At or above" in the log and in a list of blocks of the run say the same; and what is at or below one block is on one chain. Assumes nothing.
 use Prim.Native.Nat.{ℕ}
 use mathlib.Core.Path.{_≡_, refl, ap}
-use mathlib.Core.Logic.{inl, inr}
+use mathlib.Core.Logic.{_⊎_, inl, inr}
 use mathlib.Core.List.{List}
 use native.Mathlib.Nat.{le-refl}
 use native.Mathlib.Omega.{arith}
@@ -9,8 +9,8 @@ use Rattle.protocol.specs.declared.Block.{Block}
 use Rattle.protocol.proofs.Chain.Relations
 use Rattle.protocol.proofs.Chain.Above.{parent-known}
 use Rattle.protocol.proofs.Chain.Relations.{In, Known, Sound, Above}
-use Rattle.resilience.specs.Run.{Network}
-use Rattle.resilience.specs.Resilience.{AtOrAbove, here, up}
+use Rattle.resilience.specs.Run.{Network, Event}
+use Rattle.resilience.specs.Resilience.{OneBlock, AtOrAbove, here, up}
 use Rattle.resilience.proofs.Runs.Execution.{Execution, log}
 use Rattle.resilience.proofs.Invariants.Blocks.{OfRun, one-block, given-positive}
 
@@ -29,3 +29,10 @@ module _ {N : Network} (X : Execution N) (bs : List Block) (of : (c : Block) →
       let e : k .0 ≡ c = one-block X (k .0) c (of (k .0) (k .1)) (inr g) (k .2) in
       let m : In c bs = rw e at (k .1) in
       Relations.up c m refl (given-positive X (X .end) (le-refl (X .end)) c g) (above-in-list S (parent-known S c m) r)
+
+-- two blocks that are at or below x are on one chain
+pub log-compare : {log : List Event} → OneBlock log → {b c x y : ℕ} → x ≡ y → AtOrAbove log b x → AtOrAbove log c y → AtOrAbove log b c ⊎ AtOrAbove log c b
+unfolding OneBlock
+log-compare one e here q = inr (rw e q)
+log-compare one e (up d g r) here = inl (rw (← e) (up d g r))
+log-compare one e (up d g r) (up f h q) = log-compare one (ap (λ o. o .parent) (one d f g h e)) r q

@@ -1,8 +1,9 @@
 -- A run of the five nodes of FiveNodes in which a dishonest node's block is found as a fast block, and what the theorem says of it. Assumes nothing.
 use Prim.Native.Nat.{ℕ, _*_, _<_}
 use mathlib.Core.Path.{_≡_, refl}
+use mathlib.Core.Logic.{_⊎_}
 use mathlib.Core.Bool.{true}
-use mathlib.Core.List.{List, [], _∷_, _++_, List·Memᴰ}
+use mathlib.Core.List.{List, [], _∷_, _++_, append-assoc, List·Memᴰ}
 use native.Mathlib.Omega.{arith}
 use Rattle.protocol.specs.Lists.{all}
 use Rattle.protocol.specs.Filters.{chosen}
@@ -10,8 +11,8 @@ use Rattle.protocol.specs.Packet.{Packet, packetBytes}
 use Rattle.protocol.specs.Refusal.{done}
 use Rattle.protocol.specs.Calls.Query.{fastQuery}
 use Rattle.resilience.specs.Run.{World, start, voted, built, given, settings}
-use Rattle.resilience.specs.Resilience.{AtOrAbove, StaysAfter}
-use Rattle.resilience.specs.FastHolds.{dishonest, FoundAfterMerge, FastHolds}
+use Rattle.resilience.specs.Resilience.{AtOrAbove}
+use Rattle.resilience.specs.FastHolds.{dishonest, FoundStays, FoundAfterMerge, FastHolds}
 use Rattle.resilience.proofs.FastHolds.{fast-holds}
 use Rattle.resilience.proofs.Witness.Runs.{runs}
 use Rattle.resilience.proofs.Witness.Acts.{Act, together, begin, awake, proposes, gossip, proposal, exchange, packet, voteBy, gossipWith}
@@ -44,20 +45,25 @@ finding =
     ∷ begin ∷ awake 0 ∷ awake 2 ∷ awake 3 ∷ awake 4 ∷ exchange (0 ∷ 2 ∷ 3 ∷ 4 ∷ [])
     ∷ []
 
--- Node 2 proposes 21, and all vote for it. Node 1 votes for 12 again. In slot 3 node 4 sleeps, node 3 proposes 31, and the others vote for it.
-unfoldable pub holding : List Act
-holding =
+-- Node 2 proposes 21, and all vote for it. Node 1 votes for 12 again. Nodes 0, 2 and 3 merge, and 21 is their fast block.
+unfoldable pub again : List Act
+again =
     begin ∷ proposes 2 21 ∷ proposal 2 0 ∷ proposal 2 3 ∷ proposal 2 4 ∷ gossip 2 0 ∷ gossip 2 3 ∷ gossip 2 4
     ∷ begin ∷ awake 0 ∷ awake 2 ∷ awake 3 ∷ awake 4 ∷ packet again-12 3 ∷ exchange (0 ∷ 2 ∷ 3 ∷ 4 ∷ [])
     ∷ begin ∷ awake 0 ∷ awake 2 ∷ awake 3 ∷ exchange (0 ∷ 2 ∷ 3 ∷ [])
-    ∷ begin ∷ proposes 3 31 ∷ proposal 3 0 ∷ proposal 3 2 ∷ gossip 3 0 ∷ gossip 3 2
+    ∷ []
+
+-- In slot 3 node 4 sleeps. Node 3 proposes 31, and the others vote for it.
+unfoldable pub holding : List Act
+holding =
+    begin ∷ proposes 3 31 ∷ proposal 3 0 ∷ proposal 3 2 ∷ gossip 3 0 ∷ gossip 3 2
     ∷ begin ∷ awake 0 ∷ awake 2 ∷ awake 3
     ∷ begin
     ∷ []
 
 unfoldable pub acts : List Act
-unfolding finding holding
-acts = finding ++ holding
+unfolding finding again holding
+acts = finding ++ (again ++ holding)
 
 abbrev pub end : World
 end = runs five (start five) (together acts)
@@ -90,31 +96,37 @@ premises : (q : Premise) → Holds q five 4 2 end
 unfolding premisesTest acts
 premises = premises-true five acts 4 2 refl
 
--- after its Merge of slot 1 node 0 finds block 11
+-- after its Merge of slot 1 node 0 finds block 11, and after its Merge of slot 2 node 3 finds block 21
 pub found : FoundAfterMerge five end 0 1 11
 unfolding foundTest acts
-found = found-true five finding holding starts 0 1 11 refl
+found = found-true five acts finding (again ++ holding) refl starts 0 1 11 refl
+
+pub found-later : FoundAfterMerge five end 3 2 21
+unfolding foundTest acts
+found-later = found-true five acts (finding ++ again) holding (append-assoc finding again holding) starts 3 2 21 refl
 
 few : 4 * dishonest five < 5
 unfolding dishonest premisesTest
 few = omega arith
 
-stays : StaysAfter 1 11 end
+claim : FoundStays five end (FoundAfterMerge five end)
 unfolding FastHolds
-stays =
-    fast-holds five (run-true five acts starts .opened) end few 1 (premises delivery) (unforged-by five 4 2 end premises) (premises one-block)
-    (premises enough) (premises majority) 0 11 found
+claim = fast-holds five (run-true five acts starts .opened) end
 
 pub record Conclusion : Type 0 where
   pub votes-2 : (i x : ℕ) → List·Memᴰ (voted 7 i x) (end .log) → AtOrAbove (end .log) 11 x
   pub votes-3 : (i x : ℕ) → List·Memᴰ (voted 10 i x) (end .log) → AtOrAbove (end .log) 11 x
   pub base-2 : (i x y : ℕ) → List·Memᴰ (built 6 i x y) (end .log) → AtOrAbove (end .log) 11 y
   pub base-3 : (i x y : ℕ) → List·Memᴰ (built 9 i x y) (end .log) → AtOrAbove (end .log) 11 y
+  pub one-chain : AtOrAbove (end .log) 11 21 ⊎ AtOrAbove (end .log) 21 11
 
 pub holds : Conclusion
-holds = record {
-  votes-2 = λ i x m. stays .0 7 i x m (omega arith);
-  votes-3 = λ i x m. stays .0 10 i x m (omega arith);
-  base-2 = λ i x y m. stays .1 6 i x y m (omega arith);
-  base-3 = λ i x y m. stays .1 9 i x y m (omega arith);
-}
+holds =
+    let r = claim few 1 (premises delivery) (unforged-by five 4 2 end premises) (premises one-block) (premises enough) (premises majority) 0 11 found in
+    record {
+      votes-2 = λ i x m. r .0 .0 7 i x m (omega arith);
+      votes-3 = λ i x m. r .0 .0 10 i x m (omega arith);
+      base-2 = λ i x y m. r .0 .1 6 i x y m (omega arith);
+      base-3 = λ i x y m. r .0 .1 9 i x y m (omega arith);
+      one-chain = r .1 2 3 21 (omega arith) found-later;
+    }

@@ -38,7 +38,7 @@ lost Premises N acts others i t F chain r f b p = record {
   premises = p;
   finder = i;
   block = F;
-  found = found-true N acts others r i t F f;
+  found = found-true N (acts ++ others) acts others refl r i t F f;
   fails = beside-true t F chain _ b;
 }
 

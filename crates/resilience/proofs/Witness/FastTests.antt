@@ -48,17 +48,17 @@ foundTest N acts i t F =
     anyStep (calledTest N merge i (3 * t + 2) (λ u. true)) N (start N) (together acts)
     && (asleepTest i (3 * t + 2) (w .log) && finds (fastQuery (settings N i) (N .places i) (w .node i) t) F)
 
--- then a run that goes on by others
-pub found-true : (N : Network) (acts others : List Act) → runTest N (acts ++ others) ≡ true → (i t F : ℕ) → foundTest N acts i t F ≡ true
-    → FoundAfterMerge N (runs N (start N) (together (acts ++ others))) i t F
+-- and the run goes on
+pub found-true : (N : Network) (acts before after : List Act) → before ++ after ≡ acts → runTest N acts ≡ true → (i t F : ℕ) → foundTest N before i t F ≡ true
+    → FoundAfterMerge N (runs N (start N) (together acts)) i t F
 unfolding foundTest runTest
-found-true N acts others r i t F h =
-    let w : World = runs N (start N) (together acts) in
-    let e = together-append acts others in
-    let a = allowed-append N (start N) (together acts) (together others) (ap (allowedAll N (start N)) (sym e) ∙ and-right (openedTest N) _ r) in
-    let m = anyStep (calledTest N merge i (3 * t + 2) (λ u. true)) N (start N) (together acts) in
+found-true N acts before after e r i t F h =
+    let w : World = runs N (start N) (together before) in
+    let split : together acts ≡ together before ++ together after = ap together (sym e) ∙ together-append before after in
+    let a = allowed-append N (start N) (together before) (together after) (ap (allowedAll N (start N)) (sym split) ∙ and-right (openedTest N) _ r) in
+    let m = anyStep (calledTest N merge i (3 * t + 2) (λ u. true)) N (start N) (together before) in
     let s = asleepTest i (3 * t + 2) (w .log) in
-    let C = called-true N merge i (3 * t + 2) (λ u. true) acts (both (and-left (openedTest N) _ r) (a .0)) (and-left m _ h) in
+    let C = called-true N merge i (3 * t + 2) (λ u. true) before (both (and-left (openedTest N) _ r) (a .0)) (and-left m _ h) in
     let rest = and-right m _ h in
     record {
       merged = C .world;
@@ -67,7 +67,6 @@ found-true N acts others r i t F h =
       since = C .onward;
       asleep = asleep-true i (3 * t + 2) (w .log) (and-left s _ rest);
       fast = finds-true _ F (and-right s _ rest);
-      onward =
-          subst (Onward N w) (sym (ap (runs N (start N)) e ∙ runs-append N (start N) (together acts) (together others)))
-          (onward-all N w w (together others) now (a .1));
+      onward = subst (Onward N w) (sym (ap (runs N (start N)) split ∙ runs-append N (start N) (together before) (together after)))
+          (onward-all N w w (together after) now (a .1));
     }

@@ -1,27 +1,22 @@
--- A fast block stays, since more than half of all nodes are honest and voted for it or above it in its slot: it leads after that slot. And so two
--- of them are on one chain. Assumes nothing.
+-- Fast blocks hold: more than half of all nodes are honest and voted in the slot for the fast block or above it. Assumes nothing.
 use Prim.Native.Nat.{ℕ, suc, _+_, _*_, _≤_, _<_}
 use mathlib.Core.Path.{_≡_, refl, sym, ap, _∙_, subst}
-use mathlib.Core.Logic.{_⊎_, _≢_}
+use mathlib.Core.Logic.{_≢_}
 use mathlib.Core.Bool.{Bool, true, false, not, false≢true}
 use mathlib.Core.List.{List}
 use native.Mathlib.Omega.{arith}
-use lib.Dec.{eqb}
-use borrow.Author.Tests.{eqb-true, eqb-false, not-false}
 use Rattle.protocol.specs.declared.Block.{Block}
 use Rattle.protocol.specs.declared.Vote.{Vote}
-use Rattle.protocol.specs.Chain.{genesis}
 use Rattle.protocol.specs.Filters.{Choice, chosen, nothing}
 use Rattle.protocol.specs.Walk.{count, supports}
 use Rattle.protocol.specs.Confirm.{validVote}
 use Rattle.protocol.specs.Store.{inView}
 use Rattle.protocol.specs.Refusal.{first}
 use Rattle.protocol.specs.Calls.Query.{queryTests, fastOf, fastQuery}
-use Rattle.protocol.proofs.Basics.Counting.{count-not, count-witness, count-overlap}
-use Rattle.protocol.proofs.Basics.Tests.{and-left, and-right, clashing}
+use Rattle.protocol.proofs.Basics.Counting.{count-witness}
+use Rattle.protocol.proofs.Basics.Tests.{and-left, and-right}
 use Rattle.protocol.proofs.Chain.Above.{above-true, above-slot}
 use Rattle.protocol.proofs.Chain.Relations.{In, Sound, Above}
-use Rattle.protocol.proofs.Filters.Kept.{chosen-inj}
 use Rattle.protocol.proofs.Confirm.Fast.{FastIs, fast-is}
 use Rattle.protocol.proofs.Confirm.Quorum.{honestFor, quorum-honest}
 use Rattle.protocol.proofs.Confirm.Votes.{Voted, valid-is}
@@ -29,27 +24,17 @@ use Rattle.protocol.proofs.Store.Sound.{IsSound, store-sound, view-sound, range
 use Rattle.protocol.proofs.Store.Views.{view-stored}
 use Rattle.protocol.proofs.Calls.Refusal.{answer-done}
 use Rattle.resilience.specs.Run.{Network, World, settings, isHonest}
-use Rattle.resilience.specs.Resilience.{Gives, OneBlock, AtOrAbove, Delivered, Majority, StaysAfter}
+use Rattle.resilience.specs.Resilience.{AtOrAbove, Delivered, Majority, StaysAfter}
 use Rattle.resilience.specs.FastHolds.{dishonest, FoundStays, FoundAfterMerge, FastHolds, HasFast, FastHoldsAlways}
 use Rattle.resilience.proofs.Steps.Allowed.{is-true, truth}
 use Rattle.resilience.proofs.Runs.Onward.{run-on, carried-honest, carried-run}
 use Rattle.resilience.proofs.Runs.Execution.{Execution, world, log, settings-sound, by-passage}
 use Rattle.resilience.proofs.Invariants.Soundness.{sound-tables}
 use Rattle.resilience.proofs.Invariants.Blocks.{OfRun, stored-of-run}
-use Rattle.resilience.proofs.Invariants.Chains.{above-in-log, log-compare}
-use Rattle.resilience.proofs.Later.Ballots.{ballotIn, ballot-voted}
-use Rattle.resilience.proofs.Later.NextSlot.{Leads, stored-ballot}
-use Rattle.resilience.proofs.Later.EverySlot.{GoodFrom, each-good, stays-after}
-
--- more than half of all nodes are honest and voted in slot t for F, which is a block of t or an earlier slot, or for one above it
-record Supported (N : Network) (w : World) (t F : ℕ) : Type 0 where
-  block : Block
-  of : (block ≡ genesis) ⊎ Gives (w .log) block
-  is : block .number ≡ F
-  early : block .slot ≤ t
-  for : ℕ → Bool
-  more : count (λ v. not (for v)) (N .nodes) < count for (N .nodes)
-  on : (v : ℕ) → for v ≡ true → (N .honest v ≡ true) × (x : ℕ) × (ballotIn (w .log) v t ≡ chosen x) × AtOrAbove (w .log) F x
+use Rattle.resilience.proofs.Invariants.Chains.{above-in-log}
+use Rattle.resilience.proofs.Later.NextSlot.{stored-ballot}
+use Rattle.resilience.proofs.Later.EverySlot.{each-good}
+use Rattle.resilience.proofs.Supported.{Supported, supported-stays, one-chain}
 
 -- ---- at a point of an execution: the fast block F of node i for slot t is supported
 
@@ -121,51 +106,6 @@ module _ {N : Network} (X : Execution N) (few : 4 * dishonest N < N .nodes) (t k
           subst (λ (z : ℕ). AtOrAbove (log X) z (r .0)) (is-fast .2) (above-in-log X bs of-run (r .2)),
         );
   }
-
--- ---- what is supported stays
-
-module _ {N : Network} (X : Execution N) (t F : ℕ) (K : Supported N (world X (X .end)) t F) where
-  leads : Leads X (K .block .number) t
-  leads = record {
-    for = K .for;
-    against = λ v. not (K .for v);
-    on = λ v o f. let r = K .on v f in (r .0, r .1, r .2, rw (K .is) (r .3));
-    silent = λ v o f g. absurd (clashing (not-false (K .for v) g) f);
-    more = K .more;
-  }
-
-  supported-stays : GoodFrom X t → StaysAfter t F (world X (X .end))
-  supported-stays from = subst (λ (x : ℕ). StaysAfter t x (world X (X .end))) (K .is) (stays-after X (K .block) (K .of) t (K .early) (λ o. leads) from)
-
--- ---- and two such blocks are on one chain
-
-module _ {N : Network} {w : World} (oneBlock : OneBlock (w .log)) where
-  -- of one slot: some honest voter is counted for both, and its one vote is above both
-  same-slot : (t F G : ℕ) → Supported N w t F → Supported N w t G → AtOrAbove (w .log) F G ⊎ AtOrAbove (w .log) G F
-  same-slot t F G K L =
-      let c = count-not (K .for) (N .nodes) in
-      let d = count-not (L .for) (N .nodes) in
-      let v = count-overlap (K .for) (L .for) (N .nodes) (omega (arith, K .more, L .more)) in
-      let p = K .on (v .0) (v .2) in
-      let q = L .on (v .0) (v .3) in
-      log-compare oneBlock (chosen-inj (sym (p .2) ∙ q .2)) (p .3) (q .3)
-
-  -- of a later slot: an honest vote that is above the other is above this one
-  later-slot : (t F s G : ℕ) → t < s → StaysAfter t F w → Supported N w s G → AtOrAbove (w .log) F G ⊎ AtOrAbove (w .log) G F
-  later-slot t F s G l stays L =
-      let v = count-witness (λ v. not (L .for v)) (L .for) (N .nodes) (L .more) in
-      let q = L .on (v .0) (v .2) in
-      let c = ballot-voted (w .log) (v .0) s (q .1) (q .2) in
-      log-compare oneBlock refl (stays .0 (c .0) (v .0) (q .1) (c .2) (omega (arith, c .1))) (q .3)
-
-  one-chain : (t F s G : ℕ) → t ≤ s → StaysAfter t F w → Supported N w t F → Supported N w s G → AtOrAbove (w .log) F G ⊎ AtOrAbove (w .log) G F
-  one-chain t F s G l stays K L = go (eqb t s) refl
-    where
-      go : (b : Bool) → eqb t s ≡ b → AtOrAbove (w .log) F G ⊎ AtOrAbove (w .log) G F
-      go true e = same-slot t F G K (subst (λ (o : ℕ). Supported N w o G) (sym (eqb-true t s e)) L)
-      go false e =
-          let ne : t ≢ s = eqb-false t s e in
-          later-slot t F s G (omega arith) stays L
 
 -- ---- in a run
 

@@ -45,7 +45,7 @@ finding =
     ∷ begin ∷ awake 0 ∷ awake 2 ∷ awake 3 ∷ awake 4 ∷ exchange (0 ∷ 2 ∷ 3 ∷ 4 ∷ [])
     ∷ []
 
--- Node 2 proposes 21, and all vote for it. Node 1 votes for 12 again. Nodes 0, 2 and 3 merge, and 21 is their fast block.
+-- Node 2 proposes 21, and all four honest nodes vote for it. Node 1 votes for 12 again. Node 3 finds 21 after its Merge. Node 4 sleeps from here on.
 unfoldable pub again : List Act
 again =
     begin ∷ proposes 2 21 ∷ proposal 2 0 ∷ proposal 2 3 ∷ proposal 2 4 ∷ gossip 2 0 ∷ gossip 2 3 ∷ gossip 2 4
@@ -53,7 +53,7 @@ again =
     ∷ begin ∷ awake 0 ∷ awake 2 ∷ awake 3 ∷ exchange (0 ∷ 2 ∷ 3 ∷ [])
     ∷ []
 
--- In slot 3 node 4 sleeps. Node 3 proposes 31, and the others vote for it.
+-- Node 3 proposes 31, and nodes 0, 2 and 3 vote for it.
 unfoldable pub holding : List Act
 holding =
     begin ∷ proposes 3 31 ∷ proposal 3 0 ∷ proposal 3 2 ∷ gossip 3 0 ∷ gossip 3 2

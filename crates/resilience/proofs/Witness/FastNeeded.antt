@@ -1,4 +1,4 @@
--- No premise of request 11 that the proof uses can be left out or weakened: for each there is a run that meets the others, in which a node finds a fast block
+-- Each premise of request 11 that the proof uses is needed: without it, or with a weaker one in its place, there is a run in which a node finds a fast block
 -- after its Merge, and an honest node votes beside it later. Assumes nothing.
 use Prim.Native.Nat.{ℕ, suc, _+_, _*_, _-_, _/_, _≤_, _<_}
 use mathlib.Core.Path.{_≡_, refl}

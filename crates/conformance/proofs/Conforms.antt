@@ -1,4 +1,4 @@
--- Every run of the code is a run of `resilience`, and so reorg resilience holds of what the code answers. Assumes nothing.
+-- Every run of the code is a run of `resilience`, and so reorg and asynchrony resilience hold of what the code answers. Assumes nothing.
 use Prim.Native.Nat.{ℕ}
 use mathlib.Core.Path.{_≡_, refl, sym, subst}
 use mathlib.Core.Bool.{Bool, true, false, cond}
@@ -10,11 +10,14 @@ use Rattle.answers.specs.Promises.{Opens}
 use Rattle.resilience.specs.Run as model
 use Rattle.resilience.specs.Run.{World, Run, Onward, settings, isHonest}
 use Rattle.resilience.specs.Resilience.{Opened, Resilience}
+use Rattle.resilience.specs.Asynchrony.{AsynchronyResilience, AsynchronyResilienceSince}
 use Rattle.resilience.proofs.Steps.Allowed.{is-true, truth}
+use Rattle.resilience.proofs.Asynchrony.{asynchrony-resilient, asynchrony-resilient-since}
 use Rattle.resilience.proofs.Resilient.{resilient}
 use Rattle.conformance.specs.State.{Deployment, State, network, decoded}
 use Rattle.conformance.specs.CodeRun.{CodeRun, opened, then, CodeOnward, now, next}
 use Rattle.conformance.specs.Conformance.{Conformance, CodeResilience}
+use Rattle.conformance.specs.CodeAsynchrony.{CodeAsynchronyResilience, CodeAsynchronyResilienceSince}
 use Rattle.conformance.proofs.Memory.{opened-done, opened-node, opened-healthy}
 use Rattle.conformance.proofs.Steps.{AllHealthy, follows}
 
@@ -81,3 +84,11 @@ conforms D w R = let C = conforming D w R in (C .opened, C .run)
 pub code-resilient : CodeResilience
 unfolding CodeResilience Resilience
 code-resilient D w R = let C = conforming D w R in resilient (network D) (C .opened) (decoded D w) (C .run)
+
+pub code-asynchrony-resilient : CodeAsynchronyResilience
+unfolding CodeAsynchronyResilience AsynchronyResilience
+code-asynchrony-resilient D w R = let C = conforming D w R in asynchrony-resilient (network D) (C .opened) (decoded D w) (C .run)
+
+pub code-asynchrony-resilient-since : CodeAsynchronyResilienceSince
+unfolding CodeAsynchronyResilienceSince AsynchronyResilienceSince
+code-asynchrony-resilient-since D w R = let C = conforming D w R in asynchrony-resilient-since (network D) (C .opened) (decoded D w) (C .run)

@@ -15,13 +15,16 @@ use Rattle.answers.specs.declared.Answer.{Answer}
 use Rattle.answers.specs.declared.Answer.the-variants as answer
 use Rattle.resilience.specs.Run as model
 use Rattle.resilience.specs.Run.{settings, isHonest, Due}
-use Rattle.resilience.specs.DeepAgreement.{JustVoted, DeepAfterVote, DeepAgreement, DeepAnswered}
+use Rattle.resilience.specs.Resilience.{Opened}
+use Rattle.resilience.specs.DeepAgreement.{HonestBlock, Agreed, JustVoted, DeepAfterVote, DeepAgreement, DeepAnswered, DeepWhileJoined}
+use Rattle.resilience.specs.Asynchrony.{Lasting, GoodSince, AsynchronyAgreement}
 use Rattle.resilience.proofs.Steps.Allowed.{is-true, due-honest}
-use Rattle.resilience.proofs.DeepAgreement.{agree-by, deep-agreement}
-use Rattle.resilience.proofs.JustVoted.{deep-answered}
+use Rattle.resilience.proofs.DeepAgreement.{asynchrony-agreement, agreed-by, deep-agreement}
+use Rattle.resilience.proofs.JustVoted.{deep-answered, while-joined}
 use Rattle.conformance.specs.State.{Deployment, State, network, decoded}
 use Rattle.conformance.specs.CodeRun.{votes}
 use Rattle.conformance.specs.CodeDeepAgreement.{CodeJustVoted, CodeDeepAfterVote, CodeDeepAgreement, CodeDeepAnswered}
+use Rattle.conformance.specs.CodeAsynchrony.{CodeAsynchronyAgreement}
 use Rattle.conformance.proofs.Answers.{done-mapped}
 use Rattle.conformance.proofs.Memory.{called}
 use Rattle.conformance.proofs.Steps.{Follows, follows}
@@ -97,8 +100,23 @@ decoded-deep D w i a d H =
       onward = going D u w (F D i a u A .healthy) (H .onward) .onward;
     }
 
+-- the claim on what Deep answered, from the claim on deep blocks
+by-decoded : (D : Deployment) (w : State) (Block : ℕ → ℕ → Type 0) (s : ℕ)
+    → (Opened (network D) → Agreed (network D) (decoded D w) (DeepAfterVote (network D) (decoded D w)) Block s)
+    → Agreed (network D) (decoded D w) (CodeDeepAfterVote D w) Block s
+by-decoded D w Block s claim =
+    agreed-by (network D) (decoded D w) (CodeDeepAfterVote D w) (DeepAfterVote (network D) (decoded D w)) Block s (decoded-deep D w)
+    (λ i a d H. claim (C D i a (H .state) (H .justVoted) .opened))
+
 pub code-deep-agreement : CodeDeepAgreement
 unfolding CodeDeepAgreement DeepAgreement
-code-deep-agreement D w =
-    agree-by (network D) (decoded D w) (CodeDeepAfterVote D w) (DeepAfterVote (network D) (decoded D w)) (decoded-deep D w)
-    (λ i a d H. deep-agreement (network D) (C D i a (H .state) (H .justVoted) .opened) (decoded D w))
+code-deep-agreement D w s conditions unforged oneBlock enough =
+    by-decoded D w (HonestBlock (decoded D w)) s (λ opened. deep-agreement (network D) opened (decoded D w) s conditions unforged oneBlock enough)
+
+pub code-asynchrony-agreement : CodeAsynchronyAgreement
+unfolding CodeAsynchronyAgreement AsynchronyAgreement
+code-asynchrony-agreement D w unforged oneBlock enough s =
+    let N = network D in
+    by-decoded D w (Lasting N (decoded D w) (GoodSince N (decoded D w))) s (λ opened.
+    agreed-by N (decoded D w) (DeepAfterVote N (decoded D w)) (DeepWhileJoined N (decoded D w)) (Lasting N (decoded D w) (GoodSince N (decoded D w))) s
+    (while-joined N (decoded D w)) (λ i a d H. asynchrony-agreement N opened (decoded D w) unforged oneBlock enough s))

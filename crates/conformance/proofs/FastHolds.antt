@@ -6,10 +6,12 @@ use Rattle.protocol.specs.Calls.Query.{queryTests, fastQuery}
 use Rattle.protocol.proofs.Calls.Refusal.{answer-done}
 use Rattle.resilience.specs.Run.{settings}
 use Rattle.resilience.specs.FastHolds.{HasFast, FastHoldsAlways}
+use Rattle.resilience.specs.Asynchrony.{AsynchronyFastHolds}
 use Rattle.resilience.proofs.Steps.Allowed.{is-true}
-use Rattle.resilience.proofs.FastHolds.{stays-by, fast-holds-always}
+use Rattle.resilience.proofs.FastHolds.{asynchrony-fast-holds, fast-holds-always, stays-by}
 use Rattle.conformance.specs.State.{Deployment, State, network, decoded}
 use Rattle.conformance.specs.CodeFastHolds.{CodeHasFast, CodeFastHolds}
+use Rattle.conformance.specs.CodeAsynchrony.{CodeAsynchronyFastHolds}
 use Rattle.conformance.proofs.Conforms.{conforming, going}
 use Rattle.conformance.proofs.Questions.{asked}
 
@@ -30,6 +32,12 @@ decoded-fast D w i t F H =
 
 pub code-fast-holds : CodeFastHolds
 unfolding CodeFastHolds FastHoldsAlways
-code-fast-holds D w =
-    stays-by (network D) (decoded D w) (CodeHasFast D w) (HasFast (network D) (decoded D w)) (decoded-fast D w)
-    (λ i t F H. fast-holds-always (network D) (conforming D (H .state) (H .run) .opened) (decoded D w))
+code-fast-holds D w few t del unforged oneBlock enough maj =
+    stays-by (decoded D w) (CodeHasFast D w) (HasFast (network D) (decoded D w)) (decoded-fast D w) t
+    (λ i F H. fast-holds-always (network D) (conforming D (H .state) (H .run) .opened) (decoded D w) few t del unforged oneBlock enough maj)
+
+pub code-asynchrony-fast-holds : CodeAsynchronyFastHolds
+unfolding CodeAsynchronyFastHolds AsynchronyFastHolds
+code-asynchrony-fast-holds D w few t arrive unforged oneBlock enough every =
+    stays-by (decoded D w) (CodeHasFast D w) (HasFast (network D) (decoded D w)) (decoded-fast D w) t
+    (λ i F H. asynchrony-fast-holds (network D) (conforming D (H .state) (H .run) .opened) (decoded D w) few t arrive unforged oneBlock enough every)

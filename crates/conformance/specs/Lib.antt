@@ -5,3 +5,4 @@ pub mod Conformance
 pub mod CodeRemoval
 pub mod CodeDeepAgreement
 pub mod CodeFastHolds
+pub mod CodeAsynchrony

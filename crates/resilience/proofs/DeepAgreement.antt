@@ -22,7 +22,8 @@ use Rattle.protocol.proofs.Calls.Passed.{votes}
 use Rattle.protocol.proofs.Calls.Open.{open-settings}
 use Rattle.resilience.specs.Run.{Network, World, settings, isHonest, built}
 use Rattle.resilience.specs.Resilience.{Opened, Gives, by-proposer, OneBlock, AtOrAbove, here, Unforged, Enough, Delivered, Majority}
-use Rattle.resilience.specs.DeepAgreement.{ConditionsFrom, BlockEvery, Agree, DeepAfterVote, DeepAgreement, DeepWhileJoined, JoinedAgreement}
+use Rattle.resilience.specs.DeepAgreement.{ConditionsFrom, OneOfEvery, HonestBlock, BlockEvery, Agreed, DeepAfterVote, DeepAgreement, DeepWhileJoined, JoinedAgreement}
+use Rattle.resilience.specs.Asynchrony.{Good, Lasting, GoodSince, AsynchronyAgreement}
 use Rattle.resilience.proofs.Steps.Allowed.{is-true}
 use Rattle.resilience.proofs.Runs.Execution.{Execution, world, log, settings-sound, by-passage}
 use Rattle.resilience.proofs.Runs.History.{beat-mono}
@@ -32,7 +33,8 @@ use Rattle.resilience.proofs.Invariants.Blocks.{OfRun, one-block, store
 use Rattle.resilience.proofs.Invariants.Chains.{above-in-log, above-in-list}
 use Rattle.resilience.proofs.Invariants.Proposals.{Built, built-of}
 use Rattle.resilience.proofs.Slot.ProposerView.{blockOf}
-use Rattle.resilience.proofs.Resilient.{under-head}
+use Rattle.resilience.proofs.Asynchrony.{under-head, lasting-by, good-since}
+use Rattle.resilience.proofs.Resilient.{each-lasts}
 use Rattle.resilience.proofs.JustVoted.{while-joined}
 
 -- the third demand's premises from slot s on are such conditions
@@ -40,19 +42,17 @@ pub conditions-from : (N : Network) (w : World) (s : ℕ) → Delivered (3 * s -
 unfolding Delivered Majority ConditionsFrom
 conditions-from N w s del maj q l o = record { arrive = λ b from to. del b (omega arith); more = maj q l o }
 
--- an honest block of a slot from s on and before a
-record Between (s a : ℕ) (w : World) : Type 0 where
+-- an honest block of a slot from s on and before a that lasts
+record Between (N : Network) (s a : ℕ) (w : World) : Type 0 where
   beat : ℕ
-  proposer : ℕ
   number : ℕ
-  parent : ℕ
-  mem : List·Memᴰ (built beat proposer number parent) (w .log)
+  lasting : Lasting N w (GoodSince N w) beat number
   from : s ≤ beat / 3
   past : beat / 3 < a
 
 -- x names a block of the log, or block 0, that is early enough to be the deep block for slot a and is at or below such a block
 record Backed (N : Network) (s : ℕ) (w : World) (a x : ℕ) : Type 0 where
-  by : Between s a w
+  by : Between N s a w
   block : Block
   of : (block ≡ genesis) ⊎ Gives (w .log) block
   is : block .number ≡ x
@@ -64,7 +64,7 @@ later : {N : Network} {s : ℕ} {w : World} {a b x : ℕ} → a ≤ b → Backed
 later {N} {a = a} {b = b} l K =
     let B = K .by in
     record {
-      by = record { beat = B .beat; proposer = B .proposer; number = B .number; parent = B .parent; mem = B .mem; from = B .from; past = omega (arith, B .past) };
+      by = record { beat = B .beat; number = B .number; lasting = B .lasting; from = B .from; past = omega (arith, B .past) };
       block = K .block;
       of = K .of;
       is = K .is;
@@ -77,11 +77,11 @@ later {N} {a = a} {b = b} l K =
     go (inr z) = inr z
 
 -- an honest block is itself backed, K slots later
-block-backed : (N : Network) (s : ℕ) (w : World) (a : ℕ) (B : Between s a w) → B .beat / 3 + N .depth ≤ a → Backed N s w a (B .number)
+block-backed : (N : Network) (s : ℕ) (w : World) (a : ℕ) (B : Between N s a w) → B .beat / 3 + N .depth ≤ a → Backed N s w a (B .number)
 block-backed N s w a B far = record {
   by = B;
-  block = record { number = B .number; parent = B .parent; slot = B .beat / 3 };
-  of = inr (by-proposer (B .beat) (B .proposer) (B .mem) refl);
+  block = record { number = B .number; parent = B .lasting .block .parent; slot = B .beat / 3 };
+  of = inr (by-proposer (B .beat) (B .lasting .block .proposer) (B .lasting .block .proposed) refl);
   is = refl;
   early = inl far;
   under = here;
@@ -129,28 +129,22 @@ module _ {N : Network} (X : Execution N) (k : ℕ) (l : k ≤ X .end) (i : ℕ) 
       let under = above-in-list X bs of-run S known p in
       above-antisym S under (above-in-list X bs of-run S (known-down S known under) q)
 
-  module _ (s : ℕ) (conditions : ConditionsFrom N s (world X (X .end))) where
+  module _ (s : ℕ) where
     -- an honest block of a slot from s on and before a
-    module _ (B : Between s a (world X (X .end))) where
-      Q : Built X (B .beat) (B .proposer) (B .number) (B .parent)
-      Q = built-of X (B .beat) (B .proposer) (B .number) (B .parent) (B .mem)
+    module _ (B : Between N s a (world X (X .end))) where
+      Q : Built X (B .beat) (B .lasting .block .proposer) (B .number) (B .lasting .block .parent)
+      Q = built-of X (B .beat) (B .lasting .block .proposer) (B .number) (B .lasting .block .parent) (B .lasting .block .proposed)
 
       -- is under the head
       on-head : Above bs (B .number) headNow
-      unfolding ConditionsFrom
       on-head =
-          let c = conditions (B .beat / 3) (B .from) (omega (arith, begun, B .past)) in
-          above-in-list X bs of-run S head-known
-          (under-head X (B .beat) (B .proposer) (B .number) (B .parent) (B .mem)
-          (c .arrive (B .beat - 1) (omega (arith, Q .beat)) (omega arith)) (c .arrive (B .beat) (omega (arith, Q .beat)) (omega (arith, Q .beat)))
-          (λ q o e. let d = conditions q (omega (arith, B .from)) e in (d .arrive (3 * q + 1) (omega arith) (le-refl (3 * q + 1)), d .more))
-          a (B .past) begun k l i h (omega arith) until)
+          above-in-list X bs of-run S head-known (under-head X (B .beat) (B .number) (B .lasting) a (B .past) begun k l i h (omega arith) until)
 
       B-known : Known bs (B .number)
       B-known = known-down S head-known on-head
 
       B-in : In (blockOf Q) bs
-      B-in = in-view (blockOf Q) (inr (by-proposer (B .beat) (B .proposer) (B .mem) refl)) B-known
+      B-in = in-view (blockOf Q) (inr (by-proposer (B .beat) (B .lasting .block .proposer) (B .lasting .block .proposed) refl)) B-known
 
       -- and at or above the deep block, unless its slot is too low
       deep-under : a ≤ B .beat / 3 + N .depth → Above bs (deepest .0 .number) (B .number)
@@ -196,45 +190,47 @@ module _ {N : Network} (opened : Opened N) (w : World) (unforged : Unforged N (w
       (λ (o p : World). a ≤ o .node i .clock .merged + 1 → o .node i .clock .merged ≤ a → P p (deepOf (settings N i) (o .node i) a))
       (λ X k l. f X k l (is-true _ (H .honest))) (H .since) (H .until))
 
-pub joined-agreement : JoinedAgreement
-unfolding JoinedAgreement BlockEvery Opened
-joined-agreement N opened w s conditions unforged oneBlock enough = (
+  -- a block is proposed at a propose beat
+  beat-of : {i a d : ℕ} → DeepWhileJoined N w i a d → (beat B : ℕ) → HonestBlock w beat B → beat ≡ 3 * (beat / 3)
+  beat-of H beat B m =
+      at-point H (λ (p : World) d. List·Memᴰ (built beat (m .proposer) B (m .parent)) (p .log) → beat ≡ 3 * (beat / 3))
+      (λ X k l h f g n. omega (arith, built-of X beat (m .proposer) B (m .parent) n .beat)) (m .proposed)
+
+pub asynchrony-agreement : AsynchronyAgreement
+unfolding AsynchronyAgreement OneOfEvery Opened
+asynchrony-agreement N opened w unforged oneBlock enough s = (
   λ every a b i j d e far l H G. agree every a b i j d e (omega arith) l H G,
   (
     λ every a i j d e far H G. same every a i j d e (omega arith) H G,
-    λ beat p B parent b j e m from far G.
-        under b j e B G (block-backed N s w b
-        (record { beat = beat; proposer = p; number = B; parent = parent; mem = m; from = from; past = omega (arith, deep j b e G) }) (omega arith)),
+    λ beat B b j e lasting from far G.
+        under b j e B G (block-backed N s w b (record { beat = beat; number = B; lasting = lasting; from = from; past = omega (arith, deep j b e G) }) (omega arith)),
   ),
 )
   where
-    backed : BlockEvery N s w → (a i d : ℕ) → s + N .depth ≤ a → DeepWhileJoined N w i a d → Backed N s w a d
+    Every : World → Type 0
+    Every p = BlockEvery N p (Lasting N p (GoodSince N p)) s
+
+    backed : Every w → (a i d : ℕ) → s + N .depth ≤ a → DeepWhileJoined N w i a d → Backed N s w a d
     backed every a i d far H =
-        at-point opened w unforged oneBlock enough H (λ (p : World) d. ConditionsFrom N s p → BlockEvery N s p → Backed N s p a d)
-        (λ X k l h f g c v.
+        at-point opened w unforged oneBlock enough H (λ (p : World) d. Every p → Backed N s p a d)
+        (λ X k l h f g v.
         let o = begun X k l i h a f g in
         let z = ranges (settings N i) (settings-sound X i h) .depth in
         let r = v (a - N .depth) (omega arith) (λ q m n. omega arith) in
-        deep-backed X k l i h a f g s c (record {
-          beat = r .0;
-          proposer = r .1;
-          number = r .2;
-          parent = r .3;
-          mem = r .6;
-          from = omega (arith, r .4);
-          past = omega (arith, r .5);
-        }) (omega (arith, r .4)))
-        conditions every
+        let t = r .3 .2 in
+        deep-backed X k l i h a f g s
+        (record { beat = r .3 .0; number = r .3 .1; lasting = r .3 .3; from = omega (arith, r .1, t); past = omega (arith, r .2, t) }) (omega (arith, r .1, t)))
+        every
 
     under : (b j e x : ℕ) → DeepWhileJoined N w j b e → Backed N s w b x → AtOrAbove (w .log) x e
     under b j e x G K =
-        at-point opened w unforged oneBlock enough G (λ (p : World) e. ConditionsFrom N s p → Backed N s p b x → AtOrAbove (p .log) x e)
-        (λ X k l h f g c. backed-under X k l j h b f g s c x) conditions K
+        at-point opened w unforged oneBlock enough G (λ (p : World) e. Backed N s p b x → AtOrAbove (p .log) x e)
+        (λ X k l h f g. backed-under X k l j h b f g s x) K
 
-    agree : BlockEvery N s w → (a b i j d e : ℕ) → s + N .depth ≤ a → a ≤ b → DeepWhileJoined N w i a d → DeepWhileJoined N w j b e → AtOrAbove (w .log) d e
+    agree : Every w → (a b i j d e : ℕ) → s + N .depth ≤ a → a ≤ b → DeepWhileJoined N w i a d → DeepWhileJoined N w j b e → AtOrAbove (w .log) d e
     agree every a b i j d e far l H G = under b j e d G (later l (backed every a i d far H))
 
-    same : BlockEvery N s w → (a i j d e : ℕ) → s + N .depth ≤ a → DeepWhileJoined N w i a d → DeepWhileJoined N w j a e → d ≡ e
+    same : Every w → (a i j d e : ℕ) → s + N .depth ≤ a → DeepWhileJoined N w i a d → DeepWhileJoined N w j a e → d ≡ e
     same every a i j d e far H G =
         at-point opened w unforged oneBlock enough G (λ (p : World) e. AtOrAbove (p .log) d e → AtOrAbove (p .log) e d → d ≡ e)
         (λ X k l h f g. both-ways X k l j h a f g d)
@@ -246,17 +242,60 @@ joined-agreement N opened w s conditions unforged oneBlock enough = (
 
 -- ---- what the customer asks for
 
--- the claim on some deep blocks, from the claim on more of them
-pub agree-by : (N : Network) (w : World) (Had More : ℕ → ℕ → ℕ → Type 0) → ((i a d : ℕ) → Had i a d → More i a d) → ((i a d : ℕ) → Had i a d → Agree N w More)
-    → Agree N w Had
-agree-by N w Had More f claim s conditions unforged oneBlock enough = (
-  λ every a b i j d e far l H G. claim i a d H s conditions unforged oneBlock enough .0 every a b i j d e far l (f i a d H) (f j b e G),
+-- where every slot from s on meets the conditions, every honest block of such a slot lasts
+pub joined-agreement : JoinedAgreement
+unfolding JoinedAgreement AsynchronyAgreement ConditionsFrom OneOfEvery Opened
+joined-agreement N opened w s conditions unforged oneBlock enough = (
+  λ v a b i j d e far l H G. claim .0 (every i a d H v) a b i j d e (omega arith) l H G,
   (
-    λ every a i j d e far H G. claim i a d H s conditions unforged oneBlock enough .1 .0 every a i j d e far (f i a d H) (f j a e G),
-    λ beat p B parent b j e m from far G. claim j b e G s conditions unforged oneBlock enough .1 .1 beat p B parent b j e m from far (f j b e G),
+    λ v a i j d e far H G. claim .1 .0 (every i a d H v) a i j d e (omega arith) H G,
+    λ beat B b j e m from far G. claim .1 .1 beat B b j e (lasts j b e G beat B from (over j b e beat G far) m) from (omega arith) G,
+  ),
+)
+  where
+    claim : Agreed N w (DeepWhileJoined N w) (Lasting N w (GoodSince N w)) s
+    claim = asynchrony-agreement N opened w unforged oneBlock enough s
+
+    bounds : (i a d : ℕ) → DeepWhileJoined N w i a d → (0 < N .expiry) × (0 < N .depth)
+    bounds i a d H =
+        let r = ranges (settings N i) (open-settings (settings N i) (N .places i) (N .before i) (opened i (H .honest))) in
+        (r .expiry, r .depth)
+
+    -- the vote beat of a slot K before a is over
+    over : (i a d beat : ℕ) → DeepWhileJoined N w i a d → beat / 3 + N .depth ≤ a → 3 * (beat / 3) + 1 < w .beat
+    over i a d beat H l =
+        let o = at-point opened w unforged oneBlock enough H (λ (p : World) e. 3 * a ≤ p .beat + 1) (λ X k l h f g. begun X k l i h a f g) in
+        omega (arith, bounds i a d H .1, o)
+
+    lasts : (i a d : ℕ) → DeepWhileJoined N w i a d → (beat B : ℕ) → s ≤ beat / 3 → 3 * (beat / 3) + 1 < w .beat → HonestBlock w beat B
+        → Lasting N w (GoodSince N w) beat B
+    lasts i a d H beat B from o m =
+        let c = conditions (beat / 3) from o in
+        let e = beat-of opened w unforged oneBlock enough H beat B m in
+        lasting-by N w (λ t. Good N w) (GoodSince N w) beat B (good-since N w (beat / 3))
+        (each-lasts N w (bounds i a d H .0) beat B m (c .arrive (beat - 1) (omega (arith, e)) (omega arith)) (c .arrive beat (omega (arith, e)) (omega (arith, e)))
+        (λ q l o. let c = conditions q (omega arith) o in record { arrive = c .arrive (3 * q + 1) (omega arith) (le-refl (3 * q + 1)); more = c .more }))
+
+    every : (i a d : ℕ) → DeepWhileJoined N w i a d → BlockEvery N w (HonestBlock w) s → BlockEvery N w (Lasting N w (GoodSince N w)) s
+    every i a d H v r l o =
+        let x = v r l o in
+        let t = x .3 .2 in
+        let z = o (x .0) (x .1) (x .2) in
+        (x .0, x .1, x .2, (x .3 .0, x .3 .1, t, lasts i a d H (x .3 .0) (x .3 .1) (omega (arith, x .1, t)) (omega (arith, z, t)) (x .3 .3)))
+
+-- the claim on some deep blocks, from the claim on more of them
+pub agreed-by : (N : Network) (w : World) (Had More : ℕ → ℕ → ℕ → Type 0) (Block : ℕ → ℕ → Type 0) (s : ℕ) → ((i a d : ℕ) → Had i a d → More i a d)
+    → ((i a d : ℕ) → Had i a d → Agreed N w More Block s) → Agreed N w Had Block s
+agreed-by N w Had More Block s f claim = (
+  λ v a b i j d e far l H G. claim i a d H .0 v a b i j d e far l (f i a d H) (f j b e G),
+  (
+    λ v a i j d e far H G. claim i a d H .1 .0 v a i j d e far (f i a d H) (f j a e G),
+    λ beat B b j e m from far G. claim j b e G .1 .1 beat B b j e m from far (f j b e G),
   ),
 )
 
 pub deep-agreement : DeepAgreement
 unfolding DeepAgreement JoinedAgreement
-deep-agreement N opened w = agree-by N w (DeepAfterVote N w) (DeepWhileJoined N w) (while-joined N w) (λ i a d H. joined-agreement N opened w)
+deep-agreement N opened w s conditions unforged oneBlock enough =
+    agreed-by N w (DeepAfterVote N w) (DeepWhileJoined N w) (HonestBlock w) s (while-joined N w)
+    (λ i a d H. joined-agreement N opened w s conditions unforged oneBlock enough)

@@ -2,8 +2,9 @@
 use Prim.Native.Nat.{ℕ, suc, _+_, _*_, _≤_, _<_}
 use mathlib.Core.Path.{_≡_, refl, sym, ap, _∙_, subst}
 use mathlib.Core.Logic.{_≢_}
-use mathlib.Core.Bool.{Bool, true, false, not, false≢true}
+use mathlib.Core.Bool.{Bool, true, not, false≢true}
 use mathlib.Core.List.{List}
+use native.Mathlib.Nat.{le-refl}
 use native.Mathlib.Omega.{arith}
 use Rattle.protocol.specs.declared.Block.{Block}
 use Rattle.protocol.specs.declared.Vote.{Vote}
@@ -22,18 +23,21 @@ use Rattle.protocol.proofs.Confirm.Quorum.{honestFor, quorum-honest}
 use Rattle.protocol.proofs.Confirm.Votes.{Voted, valid-is}
 use Rattle.protocol.proofs.Store.Sound.{IsSound, store-sound, view-sound, ranges}
 use Rattle.protocol.proofs.Store.Views.{view-stored}
+use Rattle.protocol.proofs.Calls.Open.{open-settings}
 use Rattle.protocol.proofs.Calls.Refusal.{answer-done}
 use Rattle.resilience.specs.Run.{Network, World, settings, isHonest}
-use Rattle.resilience.specs.Resilience.{AtOrAbove, Delivered, Majority, StaysAfter}
+use Rattle.resilience.specs.Resilience.{Opened, AtOrAbove, DeliveredAt, Delivered, Majority, StaysAfter}
+use Rattle.resilience.specs.DeepAgreement.{OneOfEvery}
 use Rattle.resilience.specs.FastHolds.{dishonest, FoundStays, FoundAfterMerge, FastHolds, HasFast, FastHoldsAlways}
+use Rattle.resilience.specs.Asynchrony.{Good, AsynchronyFastHolds}
 use Rattle.resilience.proofs.Steps.Allowed.{is-true, truth}
 use Rattle.resilience.proofs.Runs.Onward.{run-on, carried-honest, carried-run}
-use Rattle.resilience.proofs.Runs.Execution.{Execution, world, log, settings-sound, by-passage}
+use Rattle.resilience.proofs.Runs.Execution.{Execution, world, log, by-passage}
 use Rattle.resilience.proofs.Invariants.Soundness.{sound-tables}
 use Rattle.resilience.proofs.Invariants.Blocks.{OfRun, stored-of-run}
 use Rattle.resilience.proofs.Invariants.Chains.{above-in-log}
-use Rattle.resilience.proofs.Later.NextSlot.{stored-ballot}
-use Rattle.resilience.proofs.Later.EverySlot.{each-good}
+use Rattle.resilience.proofs.Later.Leads.{stored-ballot}
+use Rattle.resilience.proofs.Later.OneOfEvery.{each-one}
 use Rattle.resilience.proofs.Supported.{Supported, supported-stays, one-chain}
 
 -- ---- at a point of an execution: the fast block F of node i for slot t is supported
@@ -109,16 +113,13 @@ module _ {N : Network} (X : Execution N) (few : 4 * dishonest N < N .nodes) (t k
 
 -- ---- in a run
 
-pub fast-holds-always : FastHoldsAlways
-unfolding FastHoldsAlways Delivered Majority
-fast-holds-always N opened w few t del unforged oneBlock enough maj i F H =
+pub asynchrony-fast-holds : AsynchronyFastHolds
+unfolding AsynchronyFastHolds
+asynchrony-fast-holds N opened w few t arrive unforged oneBlock enough every i F H =
     let K = supported t i F H in
     let S = by-passage (H .world) w (H .run) (H .onward) opened unforged oneBlock enough
-    (λ (o p : World). Supported N p t F → Delivered (3 * t + 1) (p .log) → Majority N (suc t) p → StaysAfter t F p)
-    (λ X k l K del maj.
-    supported-stays X t F K
-    (each-good X t (λ q l o. (del (3 * q + 1) (omega arith), λ m. maj q (omega arith) o)) (ranges (settings N i) (settings-sound X i (is-true _ (H .honest))) .expiry)))
-    K del maj in
+    (λ (o p : World). Supported N p t F → DeliveredAt (3 * t + 1) (p .log) → OneOfEvery (N .expiry) (Good N p) (suc t) p → StaysAfter t F p)
+    (λ X k l. supported-stays X t F) K arrive every in
     (S, λ s j G l M. one-chain oneBlock t F s G l S K (supported s j G M))
   where
     supported : (t i F : ℕ) → HasFast N w i t F → Supported N w t F
@@ -129,14 +130,23 @@ fast-holds-always N opened w few t del unforged oneBlock enough maj i F H =
 
 -- ---- what the customer asks for
 
+-- where every later slot is good
+pub fast-holds-always : FastHoldsAlways
+unfolding FastHoldsAlways AsynchronyFastHolds Delivered Majority Opened
+fast-holds-always N opened w few t del unforged oneBlock enough maj i F H =
+    asynchrony-fast-holds N opened w (omega arith) t (del (3 * t + 1) (le-refl (3 * t + 1))) unforged oneBlock enough
+    (each-one (N .expiry) (Good N w) (suc t) w
+    (ranges (settings N i) (open-settings (settings N i) (N .places i) (N .before i) (opened i (H .honest))) .expiry)
+    (λ q l o. record { arrive = del (3 * q + 1) (omega arith); more = maj q l o })) i F H
+
 -- the claim on some fast blocks, from the claim on more of them
-pub stays-by : (N : Network) (w : World) (Found More : ℕ → ℕ → ℕ → Type 0) → ((i t F : ℕ) → Found i t F → More i t F)
-    → ((i t F : ℕ) → Found i t F → FoundStays N w More) → FoundStays N w Found
-stays-by N w Found More f claim few t del unforged oneBlock enough maj i F H =
-    let r = claim i t F H few t del unforged oneBlock enough maj i F (f i t F H) in
+pub stays-by : (w : World) (Found More : ℕ → ℕ → ℕ → Type 0) → ((i t F : ℕ) → Found i t F → More i t F) → (t : ℕ)
+    → ((i F : ℕ) → Found i t F → FoundStays w More t) → FoundStays w Found t
+stays-by w Found More f t claim i F H =
+    let r = claim i F H i F (f i t F H) in
     (r .0, λ s j G l K. r .1 s j G l (f j s G K))
 
-has-fast : (N : Network) (w : World) (i t F : ℕ) → FoundAfterMerge N w i t F → HasFast N w i t F
+pub has-fast : (N : Network) (w : World) (i t F : ℕ) → FoundAfterMerge N w i t F → HasFast N w i t F
 unfolding fastQuery
 has-fast N w i t F H = record {
   world = H .world;
@@ -148,4 +158,6 @@ has-fast N w i t F H = record {
 
 pub fast-holds : FastHolds
 unfolding FastHolds FastHoldsAlways
-fast-holds N opened w = stays-by N w (FoundAfterMerge N w) (HasFast N w) (has-fast N w) (λ i t F H. fast-holds-always N opened w)
+fast-holds N opened w few t del unforged oneBlock enough maj =
+    stays-by w (FoundAfterMerge N w) (HasFast N w) (has-fast N w) t
+    (λ i F H. fast-holds-always N opened w (omega arith) t del unforged oneBlock enough maj)

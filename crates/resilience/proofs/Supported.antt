@@ -1,8 +1,9 @@
 -- A block that more than half of all nodes support in a slot, all of them honest, stays; and two such blocks are on one chain. Assumes nothing.
-use Prim.Native.Nat.{ℕ, _≤_, _<_}
+use Prim.Native.Nat.{ℕ, suc, _+_, _*_, _≤_, _<_}
 use mathlib.Core.Path.{_≡_, refl, sym, _∙_, subst}
 use mathlib.Core.Logic.{_⊎_, _≢_}
 use mathlib.Core.Bool.{Bool, true, false, not}
+use native.Mathlib.Nat.{le-refl}
 use native.Mathlib.Omega.{arith}
 use lib.Dec.{eqb}
 use borrow.Author.Tests.{eqb-true, eqb-false, not-false}
@@ -14,12 +15,15 @@ use Rattle.protocol.proofs.Basics.Counting.{count-not, count-witness, count-ove
 use Rattle.protocol.proofs.Basics.Tests.{clashing}
 use Rattle.protocol.proofs.Filters.Kept.{chosen-inj}
 use Rattle.resilience.specs.Run.{Network, World}
-use Rattle.resilience.specs.Resilience.{Gives, OneBlock, AtOrAbove, StaysAfter}
+use Rattle.resilience.specs.Resilience.{Gives, OneBlock, AtOrAbove, DeliveredAt, StaysAfter}
+use Rattle.resilience.specs.DeepAgreement.{OneOfEvery}
+use Rattle.resilience.specs.Asynchrony.{Good}
 use Rattle.resilience.proofs.Runs.Execution.{Execution, world}
 use Rattle.resilience.proofs.Invariants.Chains.{log-compare}
 use Rattle.resilience.proofs.Later.Ballots.{ballotIn, ballot-voted}
-use Rattle.resilience.proofs.Later.NextSlot.{Leads}
-use Rattle.resilience.proofs.Later.EverySlot.{GoodFrom, stays-after}
+use Rattle.resilience.proofs.Later.Leads.{Leads, all-lead}
+use Rattle.resilience.proofs.Later.OneOfEvery.{one-by}
+use Rattle.resilience.proofs.Later.EverySlot.{Carries, stays-after}
 
 -- more than half of all nodes are honest and voted in slot t for F, which is a block of t or an earlier slot, or for one above it
 pub record Supported (N : Network) (w : World) (t F : ℕ) : Type 0 where
@@ -39,12 +43,20 @@ module _ {N : Network} (X : Execution N) (t F : ℕ) (K : Supported N (world X (
     for = K .for;
     against = λ v. not (K .for v);
     on = λ v o f. let r = K .on v f in (r .0, r .1, r .2, rw (K .is) (r .3));
-    silent = λ v o f g. absurd (clashing (not-false (K .for v) g) f);
+    neutral = λ v o f g. absurd (clashing (not-false (K .for v) g) f);
     more = K .more;
   }
 
-  pub supported-stays : GoodFrom X t → StaysAfter t F (world X (X .end))
-  supported-stays from = subst (λ (x : ℕ). StaysAfter t x (world X (X .end))) (K .is) (stays-after X (K .block) (K .of) t (K .early) (λ o. leads) from)
+  -- its slot needs no count, and a later good one carries it on
+  pub supported-stays : DeliveredAt (3 * t + 1) (world X (X .end) .log) → OneOfEvery (N .expiry) (Good N (world X (X .end))) (suc t) (world X (X .end))
+      → StaysAfter t F (world X (X .end))
+  supported-stays arrive every =
+      subst (λ (x : ℕ). StaysAfter t x (world X (X .end))) (K .is)
+      (stays-after X (K .block) (K .of) t (K .early) (record {
+        first = λ o. record { arrive = arrive; leads = λ all. leads };
+        every = one-by (N .expiry) (Good N (world X (X .end))) (Carries X (K .block .number) t) (suc t) (suc t) (world X (X .end)) (le-refl (suc t))
+            (λ q l o G. record { arrive = G .arrive; leads = λ all. all-lead X (K .block .number) q (all q l (le-refl (suc q))) (G .more) }) every;
+      }))
 
 -- ---- and two such blocks are on one chain
 

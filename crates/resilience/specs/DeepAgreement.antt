@@ -23,28 +23,41 @@ ConditionsFrom N s w = (q : ℕ) → s ≤ q → 3 * q + 1 < w .beat → Conditi
 
 -- ---- "let every K consecutive ones of these slots hold at least one honest joined proposer who makes a block"
 
--- of slots r to r + K - 1, from s on and with all their vote beats over, one has a Propose that was carried out
-unfoldable pub BlockEvery : Network → ℕ → World → Type 0
-BlockEvery N s w =
-    (r : ℕ) → s ≤ r → ((q : ℕ) → r ≤ q → q < r + N .depth → 3 * q + 1 < w .beat) →
-    (beat p B parent : ℕ) × (r ≤ beat / 3) × (beat / 3 < r + N .depth) × List·Memᴰ (built beat p B parent) (w .log)
+-- of any k consecutive slots from s on whose vote beats are over `Slot` holds of one
+unfoldable pub OneOfEvery : ℕ → (ℕ → Type 0) → ℕ → World → Type 0
+OneOfEvery k Slot s w =
+    (r : ℕ) → s ≤ r → ((q : ℕ) → r ≤ q → q < r + k → 3 * q + 1 < w .beat) →
+    (q : ℕ) × (r ≤ q) × (q < r + k) × Slot q
+
+-- B is the block of an honest joined proposer: a Propose that was carried out at this beat
+pub record HonestBlock (w : World) (beat B : ℕ) : Type 0 where
+  pub proposer : ℕ
+  pub parent : ℕ
+  pub proposed : List·Memᴰ (built beat proposer B parent) (w .log)
+
+-- `Block beat B`: B was proposed at this beat, and is such a block as the claims below say.
+abbrev pub BlockEvery : Network → World → (ℕ → ℕ → Type 0) → ℕ → Type 0
+BlockEvery N w Block s = OneOfEvery (N .depth) (λ q. (beat B : ℕ) × (beat / 3 ≡ q) × Block beat B) s w
 
 -- ---- the claim
 
 -- `Had i a d`: before the run stood in w, node i had the deep block d for slot a, at such a point as the claims below say.
+abbrev pub Agreed : Network → World → (ℕ → ℕ → ℕ → Type 0) → (ℕ → ℕ → Type 0) → ℕ → Type 0
+Agreed N w Had Block s =
+    -- "and let every K consecutive ones of these slots hold at least one honest joined proposer who makes a block. Then the deep block ..
+    -- with a at least s + K, is the same as or below the one that any honest joined node has .. for b from a on"
+    (BlockEvery N w Block s → (a b i j d e : ℕ) → s + N .depth ≤ a → a ≤ b → Had i a d → Had j b e → AtOrAbove (w .log) d e)
+    -- so in one slot all have the same
+    × ((BlockEvery N w Block s → (a i j d e : ℕ) → s + N .depth ≤ a → Had i a d → Had j a e → d ≡ e)
+    -- "An honest block of slot p, from s on, is at or below the deep block after every honest vote from slot p + K on"; this does not ask for
+    -- a block in every K slots
+    × ((beat B b j e : ℕ) → Block beat B → s ≤ beat / 3 → beat / 3 + N .depth ≤ b → Had j b e → AtOrAbove (w .log) B e))
+
 abbrev pub Agree : Network → World → (ℕ → ℕ → ℕ → Type 0) → Type 0
 Agree N w Had =
     -- "let every slot from a slot s on whose vote beat is over meet the conditions that let an honest block last"
     (s : ℕ) → ConditionsFrom N s w → Unforged N (w .log) → OneBlock (w .log) → Enough (w .log) →
-    -- "and let every K consecutive ones of these slots hold at least one honest joined proposer who makes a block. Then the deep block ..
-    -- with a at least s + K, is the same as or below the one that any honest joined node has .. for b from a on"
-    (BlockEvery N s w → (a b i j d e : ℕ) → s + N .depth ≤ a → a ≤ b → Had i a d → Had j b e → AtOrAbove (w .log) d e)
-    -- so in one slot all have the same
-    × ((BlockEvery N s w → (a i j d e : ℕ) → s + N .depth ≤ a → Had i a d → Had j a e → d ≡ e)
-    -- "An honest block of slot p, from s on, is at or below the deep block after every honest vote from slot p + K on"; this does not ask for
-    -- a block in every K slots
-    × ((beat p B parent b j e : ℕ) → List·Memᴰ (built beat p B parent) (w .log) → s ≤ beat / 3 → beat / 3 + N .depth ≤ b → Had j b e →
-    AtOrAbove (w .log) B e))
+    Agreed N w Had (HonestBlock w) s
 
 -- "right after its vote in slot a"
 abbrev pub JustVoted : Network → ℕ → ℕ → World → Type 0

@@ -21,8 +21,16 @@ unfoldable pub dishonest : Network → ℕ
 dishonest N = count (λ i. not (N .honest i)) (N .nodes)
 
 -- `Found i t F`: before the run stood in w, node i found the fast block F for slot t, at such a point as the claims below say.
-abbrev pub FoundStays : Network → World → (ℕ → ℕ → ℕ → Type 0) → Type 0
-FoundStays N w Found =
+abbrev pub FoundStays : World → (ℕ → ℕ → ℕ → Type 0) → ℕ → Type 0
+FoundStays w Found t =
+    -- "then a fast block .. is at or below every honest vote and every honest base from slot t + 1 on", those from before it was found, too
+    (i F : ℕ) → Found i t F →
+    StaysAfter t F w
+    -- and it is on one chain with every fast block of this slot or a later one: two foremen never cut on different branches
+    × ((s j G : ℕ) → t ≤ s → Found j s G → AtOrAbove (w .log) F G ⊎ AtOrAbove (w .log) G F)
+
+abbrev pub Hold : Network → World → (ℕ → ℕ → ℕ → Type 0) → Type 0
+Hold N w Found =
     -- "When 4 × the dishonest nodes is below n"
     4 * dishonest N < N .nodes →
     -- "and packets sent from the vote beat of slot t on arrive as in the third demand"
@@ -31,11 +39,7 @@ FoundStays N w Found =
     Unforged N (w .log) → OneBlock (w .log) → Enough (w .log) →
     -- "and its count of voters holds from slot t + 1 on"
     Majority N (suc t) w →
-    -- "then a fast block .. is at or below every honest vote and every honest base from slot t + 1 on", those from before it was found, too
-    (i F : ℕ) → Found i t F →
-    StaysAfter t F w
-    -- and it is on one chain with every fast block of this slot or a later one: two foremen never cut on different branches
-    × ((s j G : ℕ) → t ≤ s → Found j s G → AtOrAbove (w .log) F G ⊎ AtOrAbove (w .log) G F)
+    FoundStays w Found t
 
 -- "that an honest joined node finds for t between its Merge of t and its next beat": its Merge of t was carried out, by which it is joined for t + 1. The
 -- run went on, and in this world it has not been awake again. There its Fast for t answers F; and the run went on from there and stands in w.
@@ -49,7 +53,7 @@ pub record FoundAfterMerge (N : Network) (w : World) (i t F : ℕ) : Type 0 wher
   pub onward : Onward N world w
 
 unfoldable pub FastHolds : Type 0
-FastHolds = (N : Network) → Opened N → (w : World) → FoundStays N w (FoundAfterMerge N w)
+FastHolds = (N : Network) → Opened N → (w : World) → Hold N w (FoundAfterMerge N w)
 
 -- ---- wider
 
@@ -62,4 +66,4 @@ pub record HasFast (N : Network) (w : World) (i t F : ℕ) : Type 0 where
   pub onward : Onward N world w
 
 unfoldable pub FastHoldsAlways : Type 0
-FastHoldsAlways = (N : Network) → Opened N → (w : World) → FoundStays N w (HasFast N w)
+FastHoldsAlways = (N : Network) → Opened N → (w : World) → Hold N w (HasFast N w)

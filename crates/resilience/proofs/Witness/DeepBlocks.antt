@@ -6,7 +6,7 @@ use native.Mathlib.Omega.{arith}
 use Rattle.protocol.proofs.Basics.Tests.{and-left, and-right}
 use Rattle.resilience.specs.Run.{built}
 use Rattle.resilience.specs.Resilience.{AtOrAbove}
-use Rattle.resilience.specs.DeepAgreement.{Agree, BlockEvery, DeepAfterVote, DeepAgreement}
+use Rattle.resilience.specs.DeepAgreement.{HonestBlock, Agree, BlockEvery, DeepAfterVote, DeepAgreement}
 use Rattle.resilience.proofs.DeepAgreement.{conditions-from, deep-agreement}
 use Rattle.resilience.proofs.Witness.Events.{only-in}
 use Rattle.resilience.proofs.Witness.Tests.{apart-true}
@@ -23,7 +23,7 @@ unfolding meetsTest
 premises = premises-true five acts 5 2 (and-right (proposedTest five acts 6 2 21 11) _ met)
 
 -- From slot 2 on every two slots have an honest block. Slot 6 has none: node 1 proposes there, against the chain.
-pub blocks : BlockEvery five 2 end
+pub blocks : BlockEvery five end (HonestBlock end) 2
 unfolding everyTest meetsTest acts
 blocks = every-true five 2 end (omega arith) refl
 
@@ -35,6 +35,13 @@ deep-4 = deep-true five acts starts 0 4 21 refl
 pub deep-6 : DeepAfterVote five end 3 6 41
 unfolding deepTest acts
 deep-6 = deep-true five acts starts 3 6 41 refl
+
+block-31 : HonestBlock end 9 31
+block-31 = record {
+  proposer = 3;
+  parent = 21;
+  proposed = only-in 2 (end .log) (built 9 3 31 21) (rw (happened .blocks) (List·Memᴰ·tail (List·Memᴰ·tail (List·Memᴰ·head refl))));
+}
 
 claim : Agree five end (DeepAfterVote five end)
 unfolding DeepAgreement
@@ -55,6 +62,6 @@ holds =
     (unforged-by five 5 2 end premises) (premises one-block) (premises enough) in
     record {
       agree = r .0 blocks 4 6 0 3 21 41 (omega arith) (omega arith) deep-4 deep-6;
-      block = r .1 .1 9 3 31 21 6 3 41 (only-in 2 (end .log) (built 9 3 31 21) (rw (happened .blocks) (List·Memᴰ·tail (List·Memᴰ·tail (List·Memᴰ·head refl))))) (omega arith) (omega arith) deep-6;
+      block = r .1 .1 9 31 6 3 41 block-31 (omega arith) (omega arith) deep-6;
       too-soon = apart-true (end .log) 51 (41 ∷ 31 ∷ 21 ∷ 11 ∷ 0 ∷ []) refl 41 refl;
     }

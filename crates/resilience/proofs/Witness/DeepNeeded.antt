@@ -7,7 +7,7 @@ use mathlib.Core.List.{List, [], _∷_}
 use native.Mathlib.Omega.{arith}
 use Rattle.resilience.specs.Run.{Network, World, start}
 use Rattle.resilience.specs.Resilience.{Opened, Unforged, OneBlock, Enough, AtOrAbove}
-use Rattle.resilience.specs.DeepAgreement.{ConditionsFrom, BlockEvery, DeepAfterVote}
+use Rattle.resilience.specs.DeepAgreement.{ConditionsFrom, HonestBlock, BlockEvery, DeepAfterVote}
 use Rattle.resilience.proofs.DeepAgreement.{conditions-from}
 use Rattle.resilience.proofs.Witness.Runs.{runs}
 use Rattle.resilience.proofs.Witness.Acts.{network, butOne, ten, Act, together, begin, awake, exchange, packet, voteBy, gossipWith}
@@ -110,12 +110,15 @@ abbrev deeper : Network → Network
 deeper N =
     record { nodes = N .nodes; expiry = N .expiry; depth = suc (N .depth); honest = N .honest; places = N .places; before = N .before }
 
+abbrev Blocks : Network → ℕ → World → Type 0
+Blocks N s w = BlockEvery N w (HonestBlock w) s
+
 -- an honest block in every K + 1 slots
-pub longer-gaps : Differ (λ N. BlockEvery (deeper N)) (λ K. K)
+pub longer-gaps : Differ (λ N. Blocks (deeper N)) (λ K. K)
 unfolding premisesTest everyTest acts
-longer-gaps = differ (λ N. BlockEvery (deeper N)) (λ K. K) 1 refl (every-true (deeper N) 1 end (omega arith) refl) (omega arith)
+longer-gaps = differ (λ N. Blocks (deeper N)) (λ K. K) 1 refl (every-true (deeper N) 1 end (omega arith) refl) (omega arith)
 
 -- a slot from s + K - 1 on
-pub too-soon : Differ BlockEvery (λ K. K - 1)
+pub too-soon : Differ Blocks (λ K. K - 1)
 unfolding premisesTest everyTest acts
-too-soon = differ BlockEvery (λ K. K - 1) 2 refl (every-true N 2 end (omega arith) refl) (omega arith)
+too-soon = differ Blocks (λ K. K - 1) 2 refl (every-true N 2 end (omega arith) refl) (omega arith)

@@ -3,22 +3,21 @@ use Prim.Native.Nat.{ℕ, _+_, _*_, _-_, _/_, _<_}
 use mathlib.Core.Path.{_≡_, sym, ap}
 use mathlib.Core.Bool.{Bool, true, false, _&&_, false≢true}
 use mathlib.Core.List.{List}
-use native.Mathlib.Omega.{arith}
-use lib.Dec.{eqb, leb, ltb}
-use borrow.Author.Tests.{eqb-true, le-leb, lt-ltb}
+use lib.Dec.{eqb}
+use borrow.Author.Tests.{eqb-true}
 use Rattle.protocol.specs.Lists.{any}
 use Rattle.protocol.specs.Confirm.{deepGo, deepStep, deepIn, deepFrom, deep}
 use Rattle.protocol.specs.Refusal.{Reply, refused, done, answer}
 use Rattle.protocol.specs.Calls.Vote.{vote}
 use Rattle.protocol.specs.Calls.Query.{queryTests, deepOf, deepQuery}
-use Rattle.protocol.proofs.Basics.Tests.{facts, and-left, both}
+use Rattle.protocol.proofs.Basics.Tests.{facts, and-left}
 use Rattle.protocol.proofs.Basics.Members.{any-true}
-use Rattle.resilience.specs.Run.{Network, World, Event, start, settings, below}
-use Rattle.resilience.specs.DeepAgreement.{BlockEvery, DeepAfterVote}
+use Rattle.resilience.specs.Run.{Network, World, Event, start, settings}
+use Rattle.resilience.specs.DeepAgreement.{HonestBlock, BlockEvery, DeepAfterVote}
 use Rattle.resilience.proofs.Witness.Runs.{runs, anyStep}
 use Rattle.resilience.proofs.Witness.Acts.{Act, together}
 use Rattle.resilience.proofs.Witness.Events.{row, is-kind}
-use Rattle.resilience.proofs.Witness.Tests.{implies, implied, below-true}
+use Rattle.resilience.proofs.Witness.OneOfEvery.{oneOfTest, one-of-true}
 use Rattle.resilience.proofs.Witness.Premises.{runTest}
 use Rattle.resilience.proofs.Witness.Calls.{calledTest, called-true}
 
@@ -49,27 +48,24 @@ deep-true N acts r i a d h =
 
 -- ---- an honest block in every K slots
 
--- the event is a block of a slot from r on and before `to`
-abbrev builtIn : ℕ → ℕ → Event → Bool
-builtIn r to e = eqb (row e .kind) 2 && (leb r (row e .beat / 3) && ltb (row e .beat / 3) to)
+-- the event is a block of slot q
+abbrev builtIn : ℕ → Event → Bool
+builtIn q e = eqb (row e .kind) 2 && eqb (row e .beat / 3) q
 
 unfoldable pub everyTest : Network → ℕ → World → Bool
-unfolding any below
-everyTest N s w =
-    below (λ r. implies (leb s r && ltb (3 * (r + N .depth)) (w .beat + 2)) (any (builtIn r (r + N .depth)) (w .log))) (w .beat)
+unfolding any oneOfTest
+everyTest N s w = oneOfTest (λ q. any (builtIn q) (w .log)) (N .depth) s w
 
-pub every-true : (N : Network) (s : ℕ) (w : World) → 0 < N .depth → everyTest N s w ≡ true → BlockEvery N s w
-unfolding everyTest BlockEvery
-every-true N s w z h r l f =
-    let o = f (r + N .depth - 1) (omega arith) (omega arith) in
-    let g = any-true (builtIn r (r + N .depth)) (w .log)
-    (implied (leb s r && ltb (3 * (r + N .depth)) (w .beat + 2)) _ (below-true _ (w .beat) h r (omega arith)) (both (le-leb s r l) (lt-ltb (3 * (r + N .depth)) (w .beat + 2) (omega arith)))) in
-    let e = g .0 in (
-      row e .beat,
-      row e .node,
-      row e .number,
-      row e .parent,
-      search (facts, g .2),
-      search (facts, g .2),
-      rw (sym (is-kind 2 e (and-left (eqb (row e .kind) 2) _ (g .2)))) (g .1),
-    )
+pub every-true : (N : Network) (s : ℕ) (w : World) → 0 < N .depth → everyTest N s w ≡ true → BlockEvery N w (HonestBlock w) s
+unfolding everyTest
+every-true N s w z h = one-of-true (λ q. any (builtIn q) (w .log)) _ (λ q e. found q e) (N .depth) s w z h
+  where
+    found : (q : ℕ) → any (builtIn q) (w .log) ≡ true → (beat B : ℕ) × (beat / 3 ≡ q) × HonestBlock w beat B
+    found q e =
+        let g = any-true (builtIn q) (w .log) e in
+        let o = g .0 in (
+          row o .beat,
+          row o .number,
+          search (facts, g .2),
+          record { proposer = row o .node; parent = row o .parent; proposed = rw (sym (is-kind 2 o (and-left (eqb (row o .kind) 2) _ (g .2)))) (g .1) },
+        )

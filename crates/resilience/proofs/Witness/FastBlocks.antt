@@ -12,7 +12,7 @@ use Rattle.protocol.specs.Refusal.{done}
 use Rattle.protocol.specs.Calls.Query.{fastQuery}
 use Rattle.resilience.specs.Run.{World, start, voted, built, given, settings}
 use Rattle.resilience.specs.Resilience.{AtOrAbove}
-use Rattle.resilience.specs.FastHolds.{dishonest, FoundStays, FoundAfterMerge, FastHolds}
+use Rattle.resilience.specs.FastHolds.{dishonest, Hold, FoundAfterMerge, FastHolds}
 use Rattle.resilience.proofs.FastHolds.{fast-holds}
 use Rattle.resilience.proofs.Witness.Runs.{runs}
 use Rattle.resilience.proofs.Witness.Acts.{Act, together, begin, awake, proposes, gossip, proposal, exchange, packet, voteBy, gossipWith}
@@ -109,7 +109,7 @@ few : 4 * dishonest five < 5
 unfolding dishonest premisesTest
 few = omega arith
 
-claim : FoundStays five end (FoundAfterMerge five end)
+claim : Hold five end (FoundAfterMerge five end)
 unfolding FastHolds
 claim = fast-holds five (run-true five acts starts .opened) end
 

@@ -218,68 +218,64 @@ enough-true log h beat i m = false≢true (all-true _ h (lacked beat i) m)
 
 -- ---- delivery
 
--- Delivered, with the words "before its next waking beat" left open: in time is what InTime says of the beat of arrival and the waking beat.
-abbrev pub Arrived : (ℕ → ℕ → Type 0) → ℕ → List Event → Type 0
-Arrived InTime from log =
-    (b : ℕ) → from ≤ b →
+-- DeliveredAt, with the words "before its next waking beat" left open: in time is what InTime says of the beat of arrival and the waking beat.
+abbrev pub ArrivedAt : (ℕ → ℕ → Type 0) → ℕ → List Event → Type 0
+ArrivedAt InTime b log =
     (j beat : ℕ) (newer older : List Event) → log ≡ newer ++ (woke beat j ∷ older) →
     (i : ℕ) (bytes : List ℕ) (since before : List Event) → older ≡ since ++ (sent b i bytes ∷ before) →
     b < beat → (i ≡ j → ⊥) →
     (c : ℕ) × (InTime c beat × (ok : Bool) × List·Memᴰ (given c j bytes ok) since)
 
--- e is a packet that another node sent from beat `from` on and before `beat`
-abbrev owed : ℕ → ℕ → ℕ → Event → Bool
-owed from beat j e =
-    eqb (row e .kind) 3 && (leb from (row e .beat) && (ltb (row e .beat) beat && not (eqb (row e .node) j)))
+-- `asked` says of which sending beats it is tested
+module _ (inTime : ℕ → ℕ → Bool) (asked : ℕ → Bool) where
+  -- e is a packet that another node sent at such a beat before `beat`
+  abbrev owed : ℕ → ℕ → Event → Bool
+  owed beat j e = eqb (row e .kind) 3 && (asked (row e .beat) && (ltb (row e .beat) beat && not (eqb (row e .node) j)))
 
-module _ (inTime : ℕ → ℕ → Bool) where
   -- e gave node j these bytes in time for `beat`
   abbrev reaches : ℕ → ℕ → List ℕ → Event → Bool
   reaches beat j bytes e =
       eqb (row e .kind) 4 && (eqb (row e .node) j && (inTime (row e .beat) beat && sameBytes (row e .bytes) bytes))
 
   -- what others sent before `beat` among these events, latest first, reached node j; `since` are the events after them
-  unfoldable reachedTest : ℕ → ℕ → ℕ → List Event → List Event → Bool
-  reachedTest from beat j since [] = true
-  reachedTest from beat j since (e ∷ before) =
-      implies (owed from beat j e) (any (reaches beat j (row e .bytes)) since) && reachedTest from beat j (e ∷ since) before
+  unfoldable reachedTest : ℕ → ℕ → List Event → List Event → Bool
+  reachedTest beat j since [] = true
+  reachedTest beat j since (e ∷ before) =
+      implies (owed beat j e) (any (reaches beat j (row e .bytes)) since) && reachedTest beat j (e ∷ since) before
 
-  unfoldable pub arrivedTest : ℕ → List Event → Bool
+  unfoldable pub arrivedTest : List Event → Bool
   unfolding reachedTest sameBytes
-  arrivedTest from [] = true
-  arrivedTest from (e ∷ older) =
-      implies (eqb (row e .kind) 0) (reachedTest from (row e .beat) (row e .node) [] older) && arrivedTest from older
+  arrivedTest [] = true
+  arrivedTest (e ∷ older) = implies (eqb (row e .kind) 0) (reachedTest (row e .beat) (row e .node) [] older) && arrivedTest older
 
-  reached-at : (from beat j : ℕ) (acc since before : List Event) (b i : ℕ) (bytes : List ℕ) →
-      reachedTest from beat j acc (since ++ (sent b i bytes ∷ before)) ≡ true → from ≤ b → b < beat → (i ≡ j → ⊥) →
+  reached-at : (beat j : ℕ) (acc since before : List Event) (b i : ℕ) (bytes : List ℕ) →
+      reachedTest beat j acc (since ++ (sent b i bytes ∷ before)) ≡ true → asked b ≡ true → b < beat → (i ≡ j → ⊥) →
       (e : Event) × (List·Memᴰ e since ⊎ List·Memᴰ e acc) × (reaches beat j bytes e ≡ true)
   unfolding reachedTest
-  reached-at from beat j acc [] before b i bytes h f l ne =
-      let c = owed from beat j (sent b i bytes) in
-      let w : c ≡ true = both (le-leb from b f) (both (lt-ltb b beat l) (ap not (ne-eqb i j ne))) in
+  reached-at beat j acc [] before b i bytes h f l ne =
+      let c = owed beat j (sent b i bytes) in
+      let w : c ≡ true = both f (both (lt-ltb b beat l) (ap not (ne-eqb i j ne))) in
       let r = any-true (reaches beat j bytes) acc (implied c _ (and-left (implies c (any (reaches beat j bytes) acc)) _ h) w) in
       (r .0, inr (r .1), r .2)
-  reached-at from beat j acc (x ∷ since) before b i bytes h f l ne =
-      let c = implies (owed from beat j x) (any (reaches beat j (row x .bytes)) acc) in
-      let r = reached-at from beat j (x ∷ acc) since before b i bytes (and-right c _ h) f l ne in
+  reached-at beat j acc (x ∷ since) before b i bytes h f l ne =
+      let c = implies (owed beat j x) (any (reaches beat j (row x .bytes)) acc) in
+      let r = reached-at beat j (x ∷ acc) since before b i bytes (and-right c _ h) f l ne in
       (r .0, place (r .0) (r .1), r .2)
     where
       place : (e : Event) → List·Memᴰ e since ⊎ List·Memᴰ e (x ∷ acc) → List·Memᴰ e (x ∷ since) ⊎ List·Memᴰ e acc
       place e (inl m) = inl (List·Memᴰ·tail m)
       place e (inr m) = ⊎-elim (λ q. inl (List·Memᴰ·head q)) (λ n. inr n) (List·Memᴰ·cases-cons m)
 
-  arrived-at : (from : ℕ) (newer older : List Event) (j beat : ℕ) →
-      arrivedTest from (newer ++ (woke beat j ∷ older)) ≡ true → reachedTest from beat j [] older ≡ true
+  arrived-at : (newer older : List Event) (j beat : ℕ) → arrivedTest (newer ++ (woke beat j ∷ older)) ≡ true → reachedTest beat j [] older ≡ true
   unfolding arrivedTest
-  arrived-at from [] older j beat h = and-left (reachedTest from beat j [] older) _ h
-  arrived-at from (e ∷ newer) older j beat h =
-      arrived-at from newer older j beat (and-right (implies (eqb (row e .kind) 0) _) _ h)
+  arrived-at [] older j beat h = and-left (reachedTest beat j [] older) _ h
+  arrived-at (e ∷ newer) older j beat h = arrived-at newer older j beat (and-right (implies (eqb (row e .kind) 0) _) _ h)
 
   pub arrived-true : (InTime : ℕ → ℕ → Type 0) → ((c beat : ℕ) → inTime c beat ≡ true → InTime c beat) →
-      (from : ℕ) (log : List Event) → arrivedTest from log ≡ true → Arrived InTime from log
-  arrived-true InTime t from log h b l j beat newer older e i bytes since before f k ne =
-      let u = arrived-at from newer older j beat (ap (arrivedTest from) (sym e) ∙ h) in
-      let r = reached-at from beat j [] since before b i bytes (ap (reachedTest from beat j []) (sym f) ∙ u) l k ne in
+      (log : List Event) → arrivedTest log ≡ true → (b : ℕ) → asked b ≡ true → ArrivedAt InTime b log
+  arrived-true InTime t log h b l j beat newer older e i bytes since before f k ne =
+      let u = arrived-at newer older j beat (ap arrivedTest (sym e) ∙ h) in
+      let r = reached-at beat j [] since before b i bytes (ap (reachedTest beat j []) (sym f) ∙ u) l k ne in
       let g = r .0 in
       let n : row g .node ≡ j = search (facts, r .2) in
       let c : inTime (row g .beat) beat ≡ true = search (facts, r .2) in
@@ -291,11 +287,20 @@ module _ (inTime : ℕ → ℕ → Bool) where
 
 unfoldable pub deliveredTest : ℕ → List Event → Bool
 unfolding arrivedTest
-deliveredTest from log = arrivedTest ltb from log
+deliveredTest from log = arrivedTest ltb (leb from) log
 
 pub delivered-true : (from : ℕ) (log : List Event) → deliveredTest from log ≡ true → Delivered from log
 unfolding deliveredTest Delivered DeliveredAt
-delivered-true from log h = arrived-true ltb _<_ ltb-true from log h
+delivered-true from log h = λ b l. arrived-true ltb (leb from) _<_ ltb-true log h b (le-leb from b l)
+
+-- what was sent at beat b
+unfoldable pub deliveredAtTest : ℕ → List Event → Bool
+unfolding arrivedTest
+deliveredAtTest b log = arrivedTest ltb (eqb b) log
+
+pub delivered-at-true : (b : ℕ) (log : List Event) → deliveredAtTest b log ≡ true → DeliveredAt b log
+unfolding deliveredAtTest DeliveredAt
+delivered-at-true b log h = arrived-true ltb (eqb b) _<_ ltb-true log h b (eq-eqb b b refl)
 
 -- ---- one block for a number
 

@@ -10,6 +10,10 @@
  * At each beat an awake node makes the call that is due (propose if slot % nodes == own, vote, merge), then sends its gossip
  * and, if it proposed, its proposal. Between beats it receives packets with the beat last begun.
  *
+ * The cable may be out for fewer than `expiry` slots (docs/PROOF.md, "Asynchrony resilience"). A node that has heard nobody for longer
+ * makes no call until it has received what the others sent. One that slept wakes for the merge of the slot before the one in which it
+ * is to vote. When the whole network stops, stop its beats: while none begins no vote expires.
+ *
  * Blocks stay in their table; votes leave when they are old. Once slot m was merged no slot that may be asked for looks at votes of
  * slots below m - expiry: likvost_merge removes them, and likvost_receive accepts those that still come but does not store them. So
  * the table holds votes of slots m - expiry to the slot seen. If no voter votes twice in a slot, then

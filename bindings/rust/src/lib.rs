@@ -6,6 +6,10 @@
 //! A beat is `3 * slot + phase`: phase 0 propose, 1 vote, 2 merge. The first beat of a fresh node is 3. At each beat an awake node makes
 //! the call that is due and then sends its gossip and, if it proposed, its proposal.
 //!
+//! The cable may be out for fewer than `expiry` slots (docs/PROOF.md, "Asynchrony resilience"). A node that has heard nobody for longer
+//! makes no call until it has received what the others sent. One that slept wakes for the merge of the slot before the one in which it is
+//! to vote. When the whole network stops, stop its beats: while none begins no vote expires.
+//!
 //! Blocks stay in their table; votes leave when they are old. Once slot `m` was merged no slot that may be asked for looks at votes of
 //! slots below `m - expiry`: [`Node::merge`] removes them, and [`Node::receive`] accepts those that still come but does not store them.
 //!

@@ -35,7 +35,7 @@ module _ {N : Network} (X : Execution N) where
       let A = ballot-of X (c .0) v (x .0) (c .2) in
       omega (arith, c .1, A .by .beat, A .by .tests .joined)
 
-  pub ballot-is : (b v x : ℕ) → List·Memᴰ (voted b v x) (log X) → ballotIn (log X) v (b / 3) ≡ chosen x
+  ballot-is : (b v x : ℕ) → List·Memᴰ (voted b v x) (log X) → ballotIn (log X) v (b / 3) ≡ chosen x
   ballot-is b v x m =
       let y = some-ballot (ballotIn (log X) v (b / 3)) (ballot-votes (log X) v (b / 3) ∙ voted-votes (log X) b v x (b / 3) m refl) in
       let c = ballot-voted (log X) v (b / 3) (y .0) (y .1) in

@@ -17,7 +17,7 @@ use Rattle.resilience.specs.FastHolds.{dishonest, FoundStays, HasFast}
 -- t ∈ (t1, t2 + 1]"; "H_t1 are awake at round 3Δt1 + 2Δ". Ours asks for demand 3's count in good slots alone. Honest nodes that vote in the period and not in
 -- t1 are not counted against the voters of t1, and these need not be awake at the merge beat of t1.
 -- Definition 7: "any honest proposal from a slot t ≤ t1 .. is always in the canonical chain of all aware validators at rounds ≥ 3Δt + Δ"; in the period only
--- voters of t1 are aware. Ours is said of every honest vote and base, and of proposals in the period, too, if they are heard.
+-- voters of t1 are aware. Ours is said of every honest vote and base.
 -- For this it asks more of delivery: what honest nodes sent at the vote beat of a good slot reaches a node that slept before it wakes, be it in the period.
 
 -- ---- good slots

@@ -15,25 +15,25 @@ use Rattle.resilience.proofs.Witness.Acts.{network, everyone, butOne, t
 use Rattle.resilience.proofs.Witness.Tests.{deliveredAtTest, delivered-at-true, countOpposed, countVoters}
 use Rattle.resilience.proofs.Witness.Premises.{failsTest, fails-true, neededTest}
 use Rattle.resilience.proofs.Witness.Needed.{late, unmerged}
-use Rattle.resilience.proofs.Witness.AsynchronyTests.{Premise, Tested, Nothing, nothing, Merged, merged, Proposed, proposed, First, first, Every, every, IsGood, every-good, Meets, meetsTest, meets}
+use Rattle.resilience.proofs.Witness.AsynchronyTests.{Condition, Tested, Unasked, unasked, Merged, merged, Proposed, proposed, First, first, Every, every, IsGood, every-good, Checked, checkTest, checked}
 
 -- a run that meets four premises, and the rest, and in which the block is left
-pub record Left (A B C D : Premise) : Type 0 where
+pub record Abandoned (A B C D : Condition) : Type 0 where
   pub network : Network
   pub world : World
   pub beat : ℕ
   pub block : ℕ
-  pub meets : Meets A B C D network world beat block
+  pub checked : Checked A B C D network world beat block
   pub fails : Stays beat block world → ⊥
 
-left : {A B C D : Premise} (a : Tested A) (b : Tested B) (c : Tested C) (d : Tested D) (N : Network) (acts : List Act) (beat p number parent : ℕ) (chain : List ℕ)
-    → meetsTest a b c d N acts beat p number parent ≡ true → failsTest beat number chain (runs N (start N) (together acts)) ≡ true → Left A B C D
-left a b c d N acts beat p number parent chain h e = record {
+abandoned : {A B C D : Condition} (a : Tested A) (b : Tested B) (c : Tested C) (d : Tested D) (N : Network) (acts : List Act) (beat p number parent : ℕ) (chain : List ℕ)
+    → checkTest a b c d N acts beat p number parent ≡ true → failsTest beat number chain (runs N (start N) (together acts)) ≡ true → Abandoned A B C D
+abandoned a b c d N acts beat p number parent chain h e = record {
   network = N;
   world = runs N (start N) (together acts);
   beat = beat;
   block = number;
-  meets = meets a b c d N acts beat p number parent h;
+  checked = checked a b c d N acts beat p number parent h;
   fails = fails-true beat number chain _ e;
 }
 
@@ -43,14 +43,14 @@ expiry N = N .expiry
 -- ---- the slot of the block
 
 -- packets of the merge beat before
-pub merge-beat-needed : Left Nothing Proposed First (Every IsGood expiry)
-unfolding meetsTest neededTest unmerged
-merge-beat-needed = left nothing proposed first (every-good expiry) (network 2 1 1 everyone ten) unmerged 6 0 7 0 [] refl refl
+pub merge-beat-needed : Abandoned Unasked Proposed First (Every IsGood expiry)
+unfolding checkTest neededTest unmerged
+merge-beat-needed = abandoned unasked proposed first (every-good expiry) (network 2 1 1 everyone ten) unmerged 6 0 7 0 [] refl refl
 
 -- packets of its propose beat
-pub propose-beat-needed : Left Merged Nothing First (Every IsGood expiry)
-unfolding meetsTest neededTest late
-propose-beat-needed = left merged nothing first (every-good expiry) (network 2 1 1 everyone ten) late 3 1 7 0 [] refl refl
+pub propose-beat-needed : Abandoned Merged Unasked First (Every IsGood expiry)
+unfolding checkTest neededTest late
+propose-beat-needed = abandoned merged unasked first (every-good expiry) (network 2 1 1 everyone ten) late 3 1 7 0 [] refl refl
 
 -- Node 1 of three is dishonest. Node 2 proposes 7 in slot 2, and nodes 0 and 2 vote for it.
 unfoldable opening : List Act
@@ -74,9 +74,9 @@ unheld =
     ∷ [])
 
 -- that it is good
-pub first-needed : Left Merged Proposed Nothing (Every IsGood expiry)
-unfolding meetsTest neededTest unheld
-first-needed = left merged proposed nothing (every-good expiry) (network 3 2 1 butOne ten) unheld 6 2 7 0 (5 ∷ 0 ∷ []) refl refl
+pub first-needed : Abandoned Merged Proposed Unasked (Every IsGood expiry)
+unfolding checkTest neededTest unheld
+first-needed = abandoned merged proposed unasked (every-good expiry) (network 3 2 1 butOne ten) unheld 6 2 7 0 (5 ∷ 0 ∷ []) refl refl
 
 -- ---- later slots
 
@@ -95,9 +95,9 @@ unfolding heard rival
 tooLong = heard ++ (begin ∷ begin ∷ rival ∷ begin ∷ awake 0 ∷ begin ∷ begin ∷ awake 0 ∷ [])
 
 -- one of E + 1 slots is not enough
-pub within-E : Left Merged Proposed First (Every IsGood (λ N. suc (N .expiry)))
-unfolding meetsTest neededTest tooLong
-within-E = left merged proposed first (every-good (λ N. suc (N .expiry))) (network 3 1 1 butOne ten) tooLong 6 2 7 0 (5 ∷ 0 ∷ []) refl refl
+pub within-E : Abandoned Merged Proposed First (Every IsGood (λ N. suc (N .expiry)))
+unfolding checkTest neededTest tooLong
+within-E = abandoned merged proposed first (every-good (λ N. suc (N .expiry))) (network 3 1 1 butOne ten) tooLong 6 2 7 0 (5 ∷ 0 ∷ []) refl refl
 
 -- In slot 3 node 2 votes for 7, and node 1 for 5. Node 0 sleeps, wakes for the merge, and votes for 5 in slot 4.
 unfoldable level : List Act
@@ -121,9 +121,9 @@ as-many-true N w t g h = record {
 }
 
 -- is not enough
-pub more-needed : Left Merged Proposed First (Every AsMany expiry)
-unfolding meetsTest neededTest asManyTest level
-more-needed = left merged proposed first (every AsMany asManyTest as-many-true expiry) (network 3 1 1 butOne ten) level 6 2 7 0 (5 ∷ 0 ∷ []) refl refl
+pub more-needed : Abandoned Merged Proposed First (Every AsMany expiry)
+unfolding checkTest neededTest asManyTest level
+more-needed = abandoned merged proposed first (every AsMany asManyTest as-many-true expiry) (network 3 1 1 butOne ten) level 6 2 7 0 (5 ∷ 0 ∷ []) refl refl
 
 -- In slot 3 nodes 0 and 2 vote for 7, and node 1 for 5. Node 0 merges before it hears of the vote of node 2, and votes for 5 in slot 4.
 unfoldable unheard : List Act
@@ -154,6 +154,6 @@ late-true N w t g h = record {
 }
 
 -- is not enough
-pub vote-beat-needed : Left Merged Proposed First (Every Late expiry)
-unfolding meetsTest neededTest lateTest unheard
-vote-beat-needed = left merged proposed first (every Late lateTest late-true expiry) (network 3 1 1 butOne ten) unheard 6 2 7 0 (5 ∷ 0 ∷ []) refl refl
+pub vote-beat-needed : Abandoned Merged Proposed First (Every Late expiry)
+unfolding checkTest neededTest lateTest unheard
+vote-beat-needed = abandoned merged proposed first (every Late lateTest late-true expiry) (network 3 1 1 butOne ten) unheard 6 2 7 0 (5 ∷ 0 ∷ []) refl refl

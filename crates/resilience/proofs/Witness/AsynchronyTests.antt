@@ -20,29 +20,29 @@ use Rattle.resilience.proofs.Witness.OneOfEvery.{oneOfTest, one-of-true
 -- ---- a premise with its test
 
 -- what is said of a world in which a block was proposed at this beat
-abbrev pub Premise : Type 1
-Premise = Network → World → ℕ → Type 0
+abbrev pub Condition : Type 1
+Condition = Network → World → ℕ → Type 0
 
-pub record Tested (P : Premise) : Type 0 where
+pub record Tested (P : Condition) : Type 0 where
   pub test : Network → World → ℕ → Bool
   pub sound : (N : Network) (w : World) (beat : ℕ) → test N w beat ≡ true → P N w beat
 
 -- nothing is asked
-abbrev pub Nothing : Premise
-Nothing N w beat = Unit {0}
+abbrev pub Unasked : Condition
+Unasked N w beat = Unit {0}
 
-abbrev pub nothing : Tested Nothing
-nothing = record { test = λ N w beat. true; sound = λ N w beat h. tt }
+abbrev pub unasked : Tested Unasked
+unasked = record { test = λ N w beat. true; sound = λ N w beat h. tt }
 
 -- packets of the merge beat before arrive
-abbrev pub Merged : Premise
+abbrev pub Merged : Condition
 Merged N w beat = DeliveredAt (beat - 1) (w .log)
 
 abbrev pub merged : Tested Merged
 merged = record { test = λ N w beat. deliveredAtTest (beat - 1) (w .log); sound = λ N w beat h. delivered-at-true (beat - 1) (w .log) h }
 
 -- and those of the propose beat
-abbrev pub Proposed : Premise
+abbrev pub Proposed : Condition
 Proposed N w beat = DeliveredAt beat (w .log)
 
 abbrev pub proposed : Tested Proposed
@@ -73,14 +73,14 @@ good-since-true N w t g h = record {
 }
 
 -- the slot of the block is good
-abbrev pub First : Premise
+abbrev pub First : Condition
 First N w beat = Good N w (beat / 3)
 
 abbrev pub first : Tested First
 first = record { test = λ N w beat. goodTest N w (beat / 3); sound = λ N w beat h. good-true N w (beat / 3) h }
 
 -- of any k consecutive slots from it on one is such a slot
-abbrev pub Every : (Network → World → ℕ → ℕ → Type 0) → (Network → ℕ) → Premise
+abbrev pub Every : (Network → World → ℕ → ℕ → Type 0) → (Network → ℕ) → Condition
 Every Slot k N w beat = OneOfEvery (k N) (Slot N w (beat / 3)) (beat / 3) w
 
 abbrev pub every : (Slot : Network → World → ℕ → ℕ → Type 0) (p : Network → World → ℕ → ℕ → Bool)
@@ -103,7 +103,7 @@ every-good-since = every GoodSince goodSinceTest good-since-true (λ N. N .expir
 
 -- ---- a run that meets four such premises, and the rest
 
-pub record Meets (A B C D : Premise) (N : Network) (w : World) (beat number : ℕ) : Type 0 where
+pub record Checked (A B C D : Condition) (N : Network) (w : World) (beat number : ℕ) : Type 0 where
   pub opened : Opened N
   pub run : Run N w
   pub block : HonestBlock w beat number
@@ -115,10 +115,10 @@ pub record Meets (A B C D : Premise) (N : Network) (w : World) (beat number : �
   pub oneBlock : OneBlock (w .log)
   pub enough : Enough (w .log)
 
-module _ {A B C D : Premise} (a : Tested A) (b : Tested B) (c : Tested C) (d : Tested D) where
-  unfoldable pub meetsTest : Network → List Act → ℕ → ℕ → ℕ → ℕ → Bool
+module _ {A B C D : Condition} (a : Tested A) (b : Tested B) (c : Tested C) (d : Tested D) where
+  unfoldable pub checkTest : Network → List Act → ℕ → ℕ → ℕ → ℕ → Bool
   unfolding proposedTest fairTest neededTest oneOfTest goodTest goodSinceTest
-  meetsTest N acts beat p number parent =
+  checkTest N acts beat p number parent =
       let w = runs N (start N) (together acts) in
       proposedTest N acts beat p number parent
       && (a .test N w beat
@@ -126,10 +126,10 @@ module _ {A B C D : Premise} (a : Tested A) (b : Tested B) (c : Tested C) (d : T
       && (c .test N w beat
       && (d .test N w beat && fairTest N w))))
 
-  pub meets : (N : Network) (acts : List Act) (beat p number parent : ℕ) → meetsTest N acts beat p number parent ≡ true
-      → Meets A B C D N (runs N (start N) (together acts)) beat number
-  unfolding meetsTest
-  meets N acts beat p number parent h =
+  pub checked : (N : Network) (acts : List Act) (beat p number parent : ℕ) → checkTest N acts beat p number parent ≡ true
+      → Checked A B C D N (runs N (start N) (together acts)) beat number
+  unfolding checkTest
+  checked N acts beat p number parent h =
       let w : World = runs N (start N) (together acts) in
       let P = proposed-true N acts beat p number parent (and-left (proposedTest N acts beat p number parent) _ h) in
       let ha = and-right (proposedTest N acts beat p number parent) _ h in

@@ -18,7 +18,7 @@ use Rattle.resilience.proofs.Witness.OneOfEvery.{one-of-true}
 use Rattle.resilience.proofs.Witness.FiveNodes.{five}
 use Rattle.resilience.proofs.Witness.FastTests.{foundTest, found-true}
 use Rattle.resilience.proofs.Witness.FastBlocks.{finding, again-12}
-use Rattle.resilience.proofs.Witness.AsynchronyTests.{goodTest, good-true, meetsTest}
+use Rattle.resilience.proofs.Witness.AsynchronyTests.{goodTest, good-true, checkTest}
 
 -- In slot 2 node 2 proposes 21 and all vote, but all that they send is lost; node 1 votes for 12. In slot 3 nobody proposes, and the votes arrive. In slot 4 node 4
 -- proposes 41.
@@ -53,7 +53,7 @@ pub record Happened : Type 0 where
   pub lost : goodTest five end 2 ≡ false
 
 pub happened : Happened
-unfolding meetsTest only acts
+unfolding checkTest only acts
 happened = record { votes = refl; blocks = refl; lost = refl }
 
 -- ---- what the theorem says of it
@@ -68,12 +68,12 @@ unfolding foundTest acts
 found = found-true five acts finding fault refl starts 0 1 11 refl
 
 few : 4 * dishonest five < 5
-unfolding dishonest meetsTest
+unfolding dishonest checkTest
 few = omega arith
 
 -- and it stays
 pub stays : StaysAfter 1 11 end
-unfolding AsynchronyFastHolds meetsTest acts
+unfolding AsynchronyFastHolds checkTest acts
 stays =
     let f = fair-true five end refl in
     asynchrony-fast-holds five (run-true five acts starts .opened) end few 1 (delivered-at-true 4 (end .log) refl) (f .0) (f .1 .0) (f .1 .1)

@@ -22,7 +22,7 @@ use Rattle.resilience.proofs.Witness.Events.{only, only-in}
 use Rattle.resilience.proofs.Witness.Tests.{countOpposed, countVoters}
 use Rattle.resilience.proofs.Witness.OneOfEvery.{one-of-true}
 use Rattle.resilience.proofs.Witness.DeepTests.{deepTest, deep-true}
-use Rattle.resilience.proofs.Witness.AsynchronyTests.{Merged, merged, Proposed, proposed, First, first, Every, IsGood, goodTest, every-good, every-good-since, Meets, meetsTest, meets}
+use Rattle.resilience.proofs.Witness.AsynchronyTests.{Merged, merged, Proposed, proposed, First, first, Every, IsGood, goodTest, every-good, every-good-since, Checked, checkTest, checked}
 
 -- Votes count for three slots, and a block is deep after six. Node 1 of four is dishonest.
 abbrev pub four : Network
@@ -92,14 +92,14 @@ pub record Happened : Type 0 where
   pub faults : (goodTest four end 3 || (goodTest four end 4 || (goodTest four end 6 || goodTest four end 7))) ≡ false
 
 pub happened : Happened
-unfolding meetsTest only storm
+unfolding checkTest only storm
 happened = record { votes = refl; blocks = refl; faults = refl }
 
 -- ---- what the theorems say of it
 
-met : Meets Merged Proposed First (Every IsGood (λ N. N .expiry)) four end 6 21
-unfolding meetsTest storm
-met = meets merged proposed first (every-good (λ N. N .expiry)) four storm 6 2 21 11 refl
+met : Checked Merged Proposed First (Every IsGood (λ N. N .expiry)) four end 6 21
+unfolding checkTest storm
+met = checked merged proposed first (every-good (λ N. N .expiry)) four storm 6 2 21 11 refl
 
 pub block-21 : Lasting four end (λ t. Good four end) 6 21
 block-21 = record { block = met .block; before = met .a; now = met .b; first = λ o. met .c; every = met .d }
@@ -115,16 +115,16 @@ base-6 = storm-stays .1 .1 18 2 61 31 (only-in 2 (end .log) (built 18 2 61 31) (
 
 -- block 81 lasts, too; so of every six slots from slot 2 on one has an honest block that lasts
 pub block-81 : Lasting four end (λ t. Good four end) 24 81
-unfolding meetsTest storm
+unfolding checkTest storm
 block-81 =
-    let M = meets merged proposed first (every-good (λ N. N .expiry)) four storm 24 0 81 61 refl in
+    let M = checked merged proposed first (every-good (λ N. N .expiry)) four storm 24 0 81 61 refl in
     record { block = M .block; before = M .a; now = M .b; first = λ o. M .c; every = M .d }
 
 lasts : (beat B : ℕ) → Lasting four end (λ t. Good four end) beat B → Lasting four end (GoodSince four end) beat B
 lasts beat B = lasting-by four end (λ t. Good four end) (GoodSince four end) beat B (good-since four end (beat / 3))
 
 pub blocks : BlockEvery four end (Lasting four end (GoodSince four end)) 2
-unfolding meetsTest storm
+unfolding checkTest storm
 blocks = one-of-true (λ q. eqb q 2 || eqb q 8) _ (λ q h. ⊎-elim (two q) (eight q) (either (eqb q 2) _ h)) 6 2 end (omega arith) refl
   where
     two : (q : ℕ) → eqb q 2 ≡ true → (beat B : ℕ) × (beat / 3 ≡ q) × Lasting four end (GoodSince four end) beat B
@@ -135,7 +135,7 @@ blocks = one-of-true (λ q. eqb q 2 || eqb q 8) _ (λ q h. ⊎-elim (two q) (eig
 
 -- right after their votes in slot 8 nodes 0 and 3 have the same deep block
 pub deep-0 : DeepAfterVote four end 0 8 21
-unfolding deepTest meetsTest storm
+unfolding deepTest checkTest storm
 deep-0 = deep-true four storm refl 0 8 21 refl
 
 pub same-deep : (d : ℕ) → DeepAfterVote four end 3 8 d → 21 ≡ d
@@ -162,12 +162,12 @@ abbrev dawn : World
 dawn = runs four (start four) (together drowsy)
 
 pub two-against-two : (countVoters four dawn 5 ≡ 2) × (countOpposed four dawn 5 ≡ 2)
-unfolding meetsTest drowsy
+unfolding checkTest drowsy
 two-against-two = (refl, refl)
 
 pub drowsy-stays : Stays 6 21 dawn
-unfolding AsynchronyResilienceSince meetsTest drowsy
+unfolding AsynchronyResilienceSince checkTest drowsy
 drowsy-stays =
-    let M = meets merged proposed first every-good-since four drowsy 6 2 21 11 refl in
+    let M = checked merged proposed first every-good-since four drowsy 6 2 21 11 refl in
     asynchrony-resilient-since four (M .opened) dawn (M .run) (M .unforged) (M .oneBlock) (M .enough) 6 21
     (record { block = M .block; before = M .a; now = M .b; first = λ o. good-since four dawn 2 2 (omega arith) (M .c); every = M .d })

@@ -1,5 +1,5 @@
--- Deep blocks agree: one of the K slots before slot a has an honest block B. The deep block for a is at or below B by its slot, and B is under every
--- later head. Assumes nothing.
+-- Deep blocks agree: one of the K slots before slot a has an honest block B that lasts. The deep block for a is at or below B by its slot, and B is under
+-- every later head. Assumes nothing.
 use Prim.Native.Nat.{ℕ, _+_, _*_, _-_, _/_, _≤_, _<_}
 use mathlib.Core.Path.{_≡_, refl, subst}
 use mathlib.Core.Logic.{_⊎_, inl, inr}
@@ -19,13 +19,12 @@ use Rattle.protocol.proofs.Walk.Ends.{head-early}
 use Rattle.protocol.proofs.Store.Sound.{view-sound, ranges}
 use Rattle.protocol.proofs.Store.Views.{view-stored}
 use Rattle.protocol.proofs.Calls.Passed.{votes}
-use Rattle.protocol.proofs.Calls.Open.{open-settings}
 use Rattle.resilience.specs.Run.{Network, World, settings, isHonest, built}
 use Rattle.resilience.specs.Resilience.{Opened, Gives, by-proposer, OneBlock, AtOrAbove, here, Unforged, Enough, Delivered, Majority}
 use Rattle.resilience.specs.DeepAgreement.{ConditionsFrom, OneOfEvery, HonestBlock, BlockEvery, Agreed, DeepAfterVote, DeepAgreement, DeepWhileJoined, JoinedAgreement}
 use Rattle.resilience.specs.Asynchrony.{Good, Lasting, GoodSince, AsynchronyAgreement}
 use Rattle.resilience.proofs.Steps.Allowed.{is-true}
-use Rattle.resilience.proofs.Runs.Execution.{Execution, world, log, settings-sound, by-passage}
+use Rattle.resilience.proofs.Runs.Execution.{Execution, world, log, settings-sound, opened-ranges, by-passage}
 use Rattle.resilience.proofs.Runs.History.{beat-mono}
 use Rattle.resilience.proofs.Invariants.Soundness.{sound-tables}
 use Rattle.resilience.proofs.Invariants.Clock.{seen-beat}
@@ -197,13 +196,13 @@ module _ {N : Network} (opened : Opened N) (w : World) (unforged : Unforged N (w
       (λ X k l h f g n. omega (arith, built-of X beat (m .proposer) B (m .parent) n .beat)) (m .proposed)
 
 pub asynchrony-agreement : AsynchronyAgreement
-unfolding AsynchronyAgreement OneOfEvery Opened
+unfolding AsynchronyAgreement OneOfEvery
 asynchrony-agreement N opened w unforged oneBlock enough s = (
   λ every a b i j d e far l H G. agree every a b i j d e (omega arith) l H G,
   (
     λ every a i j d e far H G. same every a i j d e (omega arith) H G,
     λ beat B b j e lasting from far G.
-        under b j e B G (block-backed N s w b (record { beat = beat; number = B; lasting = lasting; from = from; past = omega (arith, deep j b e G) }) (omega arith)),
+        under b j e B G (block-backed N s w b (record { beat = beat; number = B; lasting = lasting; from = from; past = omega (arith, opened-ranges N opened j (G .honest) .depth) }) (omega arith)),
   ),
 )
   where
@@ -236,15 +235,11 @@ asynchrony-agreement N opened w unforged oneBlock enough s = (
         (λ X k l h f g. both-ways X k l j h a f g d)
         (agree every a a i j d e far (le-refl a) H G) (agree every a a j i e d far (le-refl a) G H)
 
-    -- K is not 0
-    deep : (j b e : ℕ) → DeepWhileJoined N w j b e → 0 < N .depth
-    deep j b e G = ranges (settings N j) (open-settings (settings N j) (N .places j) (N .before j) (opened j (G .honest))) .depth
-
 -- ---- what the customer asks for
 
 -- where every slot from s on meets the conditions, every honest block of such a slot lasts
 pub joined-agreement : JoinedAgreement
-unfolding JoinedAgreement AsynchronyAgreement ConditionsFrom OneOfEvery Opened
+unfolding JoinedAgreement AsynchronyAgreement ConditionsFrom OneOfEvery
 joined-agreement N opened w s conditions unforged oneBlock enough = (
   λ v a b i j d e far l H G. claim .0 (every i a d H v) a b i j d e (omega arith) l H G,
   (
@@ -256,16 +251,11 @@ joined-agreement N opened w s conditions unforged oneBlock enough = (
     claim : Agreed N w (DeepWhileJoined N w) (Lasting N w (GoodSince N w)) s
     claim = asynchrony-agreement N opened w unforged oneBlock enough s
 
-    bounds : (i a d : ℕ) → DeepWhileJoined N w i a d → (0 < N .expiry) × (0 < N .depth)
-    bounds i a d H =
-        let r = ranges (settings N i) (open-settings (settings N i) (N .places i) (N .before i) (opened i (H .honest))) in
-        (r .expiry, r .depth)
-
     -- the vote beat of a slot K before a is over
     over : (i a d beat : ℕ) → DeepWhileJoined N w i a d → beat / 3 + N .depth ≤ a → 3 * (beat / 3) + 1 < w .beat
     over i a d beat H l =
         let o = at-point opened w unforged oneBlock enough H (λ (p : World) e. 3 * a ≤ p .beat + 1) (λ X k l h f g. begun X k l i h a f g) in
-        omega (arith, bounds i a d H .1, o)
+        omega (arith, opened-ranges N opened i (H .honest) .depth, o)
 
     lasts : (i a d : ℕ) → DeepWhileJoined N w i a d → (beat B : ℕ) → s ≤ beat / 3 → 3 * (beat / 3) + 1 < w .beat → HonestBlock w beat B
         → Lasting N w (GoodSince N w) beat B
@@ -273,7 +263,7 @@ joined-agreement N opened w s conditions unforged oneBlock enough = (
         let c = conditions (beat / 3) from o in
         let e = beat-of opened w unforged oneBlock enough H beat B m in
         lasting-by N w (λ t. Good N w) (GoodSince N w) beat B (good-since N w (beat / 3))
-        (each-lasts N w (bounds i a d H .0) beat B m (c .arrive (beat - 1) (omega (arith, e)) (omega arith)) (c .arrive beat (omega (arith, e)) (omega (arith, e)))
+        (each-lasts N w (opened-ranges N opened i (H .honest) .expiry) beat B m (c .arrive (beat - 1) (omega (arith, e)) (omega arith)) (c .arrive beat (omega (arith, e)) (omega (arith, e)))
         (λ q l o. let c = conditions q (omega arith) o in record { arrive = c .arrive (3 * q + 1) (omega arith) (le-refl (3 * q + 1)); more = c .more }))
 
     every : (i a d : ℕ) → DeepWhileJoined N w i a d → BlockEvery N w (HonestBlock w) s → BlockEvery N w (Lasting N w (GoodSince N w)) s

@@ -21,18 +21,17 @@ use Rattle.protocol.proofs.Chain.Relations.{In, Sound, Above}
 use Rattle.protocol.proofs.Confirm.Fast.{FastIs, fast-is}
 use Rattle.protocol.proofs.Confirm.Quorum.{honestFor, quorum-honest}
 use Rattle.protocol.proofs.Confirm.Votes.{Voted, valid-is}
-use Rattle.protocol.proofs.Store.Sound.{IsSound, store-sound, view-sound, ranges}
+use Rattle.protocol.proofs.Store.Sound.{IsSound, store-sound, view-sound}
 use Rattle.protocol.proofs.Store.Views.{view-stored}
-use Rattle.protocol.proofs.Calls.Open.{open-settings}
 use Rattle.protocol.proofs.Calls.Refusal.{answer-done}
 use Rattle.resilience.specs.Run.{Network, World, settings, isHonest}
-use Rattle.resilience.specs.Resilience.{Opened, AtOrAbove, DeliveredAt, Delivered, Majority, StaysAfter}
+use Rattle.resilience.specs.Resilience.{AtOrAbove, DeliveredAt, Delivered, Majority, StaysAfter}
 use Rattle.resilience.specs.DeepAgreement.{OneOfEvery}
 use Rattle.resilience.specs.FastHolds.{dishonest, FoundStays, FoundAfterMerge, FastHolds, HasFast, FastHoldsAlways}
 use Rattle.resilience.specs.Asynchrony.{Good, AsynchronyFastHolds}
 use Rattle.resilience.proofs.Steps.Allowed.{is-true, truth}
 use Rattle.resilience.proofs.Runs.Onward.{run-on, carried-honest, carried-run}
-use Rattle.resilience.proofs.Runs.Execution.{Execution, world, log, by-passage}
+use Rattle.resilience.proofs.Runs.Execution.{Execution, world, log, opened-ranges, by-passage}
 use Rattle.resilience.proofs.Invariants.Soundness.{sound-tables}
 use Rattle.resilience.proofs.Invariants.Blocks.{OfRun, stored-of-run}
 use Rattle.resilience.proofs.Invariants.Chains.{above-in-log}
@@ -132,11 +131,10 @@ asynchrony-fast-holds N opened w few t arrive unforged oneBlock enough every i F
 
 -- where every later slot is good
 pub fast-holds-always : FastHoldsAlways
-unfolding FastHoldsAlways AsynchronyFastHolds Delivered Majority Opened
+unfolding FastHoldsAlways AsynchronyFastHolds Delivered Majority
 fast-holds-always N opened w few t del unforged oneBlock enough maj i F H =
     asynchrony-fast-holds N opened w (omega arith) t (del (3 * t + 1) (le-refl (3 * t + 1))) unforged oneBlock enough
-    (each-one (N .expiry) (Good N w) (suc t) w
-    (ranges (settings N i) (open-settings (settings N i) (N .places i) (N .before i) (opened i (H .honest))) .expiry)
+    (each-one (N .expiry) (Good N w) (suc t) w (opened-ranges N opened i (H .honest) .expiry)
     (λ q l o. record { arrive = del (3 * q + 1) (omega arith); more = maj q l o })) i F H
 
 -- the claim on some fast blocks, from the claim on more of them

@@ -53,8 +53,8 @@ AsynchronyResilience = (N : Network) → Opened N → (w : World) → Run N w �
 -- ---- wider: a smaller count
 
 -- Of the nodes below n, those against whom the voters of slot g are counted when a block of slot t is to last: dishonest ones, and honest ones who voted in
--- any of the E - 1 slots before g, but before t, and neither in t nor in g. In slot t itself they are those of demand 3, and in a later slot no more. If every honest
--- node votes in slot t, they are the dishonest ones alone.
+-- any of the E - 1 slots before g, but before t, and neither in t nor in g. In slot t itself they are those of demand 3, and in a later slot no more. If every
+-- honest node votes in slot t, they are the dishonest ones alone.
 abbrev pub opposedSince : Network → List Event → ℕ → ℕ → ℕ → Bool
 opposedSince N log t g i = not (N .honest i) || (votesBefore (N .expiry - 1 - (g - t)) log t i && not (votesIn log t i || votesIn log g i))
 

@@ -7,15 +7,14 @@ use mathlib.Core.Bool.{Bool, true, _&&_}
 use mathlib.Core.List.{List, [], _∷_, _++_}
 use lib.Dec.{ltb, leb}
 use borrow.Author.Tests.{ltb-true, leb-true}
-use Rattle.protocol.proofs.Basics.Tests.{and-left, and-right}
 use Rattle.resilience.specs.Run.{Network, World, start}
 use Rattle.resilience.specs.Resilience.{DeliveredAt, MoreVote, Stays}
 use Rattle.resilience.proofs.Witness.Runs.{runs}
 use Rattle.resilience.proofs.Witness.Acts.{network, everyone, butOne, ten, Act, together, begin, awake, proposes, gossip, proposal, exchange, packet, blockWith, voteBy, gossipWith}
-use Rattle.resilience.proofs.Witness.Tests.{deliveredAtTest, delivered-at-true, countOpposed, countVoters}
+use Rattle.resilience.proofs.Witness.Tests.{deliveredAtTest, countOpposed, countVoters}
 use Rattle.resilience.proofs.Witness.Premises.{failsTest, fails-true, neededTest}
 use Rattle.resilience.proofs.Witness.Needed.{late, unmerged}
-use Rattle.resilience.proofs.Witness.AsynchronyTests.{Condition, Tested, Unasked, unasked, Merged, merged, Proposed, proposed, First, first, Every, every, IsGood, every-good, Checked, checkTest, checked}
+use Rattle.resilience.proofs.Witness.AsynchronyTests.{Condition, Tested, Unasked, unasked, Merged, merged, Proposed, proposed, First, first, Every, every, IsGood, slot-true, every-good, Checked, checkTest, checked}
 
 -- a run that meets four premises, and the rest, and in which the block is left
 pub record Abandoned (A B C D : Condition) : Type 0 where
@@ -115,10 +114,7 @@ asManyTest N w t g = deliveredAtTest (3 * g + 1) (w .log) && leb (countOpposed N
 
 as-many-true : (N : Network) (w : World) (t g : ℕ) → asManyTest N w t g ≡ true → AsMany N w t g
 unfolding asManyTest
-as-many-true N w t g h = record {
-  arrive = delivered-at-true (3 * g + 1) (w .log) (and-left (deliveredAtTest (3 * g + 1) (w .log)) _ h);
-  asMany = leb-true _ _ (and-right (deliveredAtTest (3 * g + 1) (w .log)) _ h);
-}
+as-many-true N w t g h = let r = slot-true (3 * g + 1) w _ h in record { arrive = r .0; asMany = leb-true _ _ (r .1) }
 
 -- is not enough
 pub more-needed : Abandoned Merged Proposed First (Every AsMany expiry)
@@ -148,10 +144,7 @@ lateTest N w t g = deliveredAtTest (3 * g + 2) (w .log) && ltb (countOpposed N w
 
 late-true : (N : Network) (w : World) (t g : ℕ) → lateTest N w t g ≡ true → Late N w t g
 unfolding lateTest
-late-true N w t g h = record {
-  arrive = delivered-at-true (3 * g + 2) (w .log) (and-left (deliveredAtTest (3 * g + 2) (w .log)) _ h);
-  more = ltb-true _ _ (and-right (deliveredAtTest (3 * g + 2) (w .log)) _ h);
-}
+late-true N w t g h = let r = slot-true (3 * g + 2) w _ h in record { arrive = r .0; more = ltb-true _ _ (r .1) }
 
 -- is not enough
 pub vote-beat-needed : Abandoned Merged Proposed First (Every Late expiry)

@@ -50,16 +50,17 @@ proposed = record { test = λ N w beat. deliveredAtTest beat (w .log); sound = �
 
 -- ---- good slots
 
+-- packets of beat b arrive, and the count passes
+pub slot-true : (b : ℕ) (w : World) (more : Bool) → (deliveredAtTest b (w .log) && more) ≡ true → DeliveredAt b (w .log) × (more ≡ true)
+slot-true b w more h = (delivered-at-true b (w .log) (and-left (deliveredAtTest b (w .log)) _ h), and-right (deliveredAtTest b (w .log)) _ h)
+
 unfoldable pub goodTest : Network → World → ℕ → Bool
 unfolding deliveredAtTest
 goodTest N w g = deliveredAtTest (3 * g + 1) (w .log) && ltb (countOpposed N w g) (countVoters N w g)
 
 pub good-true : (N : Network) (w : World) (g : ℕ) → goodTest N w g ≡ true → Good N w g
 unfolding goodTest
-good-true N w g h = record {
-  arrive = delivered-at-true (3 * g + 1) (w .log) (and-left (deliveredAtTest (3 * g + 1) (w .log)) _ h);
-  more = ltb-true _ _ (and-right (deliveredAtTest (3 * g + 1) (w .log)) _ h);
-}
+good-true N w g h = let r = slot-true (3 * g + 1) w _ h in record { arrive = r .0; more = ltb-true _ _ (r .1) }
 
 unfoldable pub goodSinceTest : Network → World → ℕ → ℕ → Bool
 unfolding deliveredAtTest
@@ -67,10 +68,7 @@ goodSinceTest N w t g = deliveredAtTest (3 * g + 1) (w .log) && ltb (count (oppo
 
 pub good-since-true : (N : Network) (w : World) (t g : ℕ) → goodSinceTest N w t g ≡ true → GoodSince N w t g
 unfolding goodSinceTest
-good-since-true N w t g h = record {
-  arrive = delivered-at-true (3 * g + 1) (w .log) (and-left (deliveredAtTest (3 * g + 1) (w .log)) _ h);
-  more = ltb-true _ _ (and-right (deliveredAtTest (3 * g + 1) (w .log)) _ h);
-}
+good-since-true N w t g h = let r = slot-true (3 * g + 1) w _ h in record { arrive = r .0; more = ltb-true _ _ (r .1) }
 
 -- the slot of the block is good
 abbrev pub First : Condition

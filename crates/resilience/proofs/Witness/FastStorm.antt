@@ -20,8 +20,8 @@ use Rattle.resilience.proofs.Witness.FastTests.{foundTest, found-true}
 use Rattle.resilience.proofs.Witness.FastBlocks.{finding, again-12}
 use Rattle.resilience.proofs.Witness.AsynchronyTests.{goodTest, good-true, checkTest}
 
--- In slot 2 node 2 proposes 21 and all vote, but all that they send is lost; node 1 votes for 12. In slot 3 nobody proposes, and the votes arrive. In slot 4 node 4
--- proposes 41.
+-- In slot 2 node 2 proposes 21 and all vote, but all that they send is lost; node 1 votes for 12. In slot 3 nobody proposes, and the votes arrive. In
+-- slot 4 node 4 proposes 41.
 unfoldable fault : List Act
 fault =
     begin ∷ proposes 2 21

@@ -28,8 +28,8 @@ use Rattle.resilience.proofs.Witness.AsynchronyTests.{Merged, merged, P
 abbrev pub four : Network
 four = network 4 3 6 butOne ten
 
--- In slot 1 node 0 votes for 11. In slot 2 node 2 proposes 21, and all three vote for it. In slots 3 and 4 they are awake, but all that they send is lost: node 3
--- proposes 31, and node 0 proposes 41. Node 1 votes for 12.
+-- In slot 1 node 0 votes for 11. In slot 2 node 2 proposes 21, and all three vote for it. In slots 3 and 4 they are awake, but all that they send is lost:
+-- node 3 proposes 31, and node 0 proposes 41. Node 1 votes for 12.
 unfoldable fault : List Act
 fault =
     begin ∷ packet (proposalWith 1 11 (blockWith 11 0 1 ∷ [])) 0
@@ -54,8 +54,8 @@ between =
     ∷ begin ∷ awake 0 ∷ awake 2 ∷ awake 3
     ∷ []
 
--- In slots 6 and 7 only node 2 is awake, proposes 61 and votes; all that it sends is lost. The others wake for the merge of slot 7, and from then on all arrives.
--- In slot 8 node 0 proposes 81, and all three vote for it.
+-- In slots 6 and 7 only node 2 is awake, proposes 61 and votes; all that it sends is lost. The others wake for the merge of slot 7, and from then on all
+-- arrives. In slot 8 node 0 proposes 81, and all three vote for it.
 unfoldable again : List Act
 again =
     begin ∷ proposes 2 61

@@ -1,18 +1,21 @@
 -- The index of the first entry that is not allowed, by the turns of a loop over the entries. Assumes nothing.
 use Prim.Native.Nat.{ℕ, suc, _+_, _≤_, _<_}
-use mathlib.Core.Bool.{Bool, true, false, cond}
+use mathlib.Core.Bool.{Bool, true, false, cond, false≢true}
 use mathlib.Core.List.{List}
 use mathlib.Core.Path.{_≡_, refl, ap, sym, _∙_}
 use native.Mathlib.Omega.{arith}
 use lib.ListN.{length, getD, take, drop, drop-of-length-le}
-use lib.Seq.{take-all}
+use lib.Dec.{leb, ltb}
 use Rattle.protocol.specs.declared.Block.{Block}
 use Rattle.protocol.specs.declared.Vote.{Vote}
-use Rattle.protocol.specs.Chain.{Found, find, genesis}
+use Rattle.protocol.specs.Chain.{Found, find, foundWith, genesis}
+use Rattle.protocol.specs.Sound.{between}
+use Rattle.protocol.proofs.Basics.Tests.{and-right}
+use Rattle.index.specs.Places.{foundAt}
 use Rattle.protocol.specs.Calls.Receive.{addBlocks, blockAllowed, voteAllowed, firstBadBlock, firstBadVote}
 use Rattle.packets.specs.Header.{noVote}
 use Rattle.admission.specs.Lookup.{blockPasses, votePasses}
-use Rattle.admission.proofs.Entries.{rest-entry, front-entry}
+use Rattle.packets.proofs.Turns.{rest-entry, front-entry}
 use Rattle.admission.proofs.Known.{addBlocks-end}
 
 -- ---- the rules of an entry, by what was found
@@ -26,6 +29,13 @@ module _ {r : Bool} where
   pub vote-told : (n slot : ℕ) (bs : List Block) (a : Vote) {f : Found} → f ≡ find bs (a .number) → r ≡ votePasses n slot a f → r ≡ voteAllowed n slot bs a
   unfolding voteAllowed votePasses
   vote-told n slot bs a e q = q ∙ rw e
+
+-- the block of a vote that is allowed was found
+pub vote-found : (n slot : ℕ) (a : Vote) (bs : List Block) (place : ℕ) {f : Found} → f ≡ foundAt bs place → votePasses n slot a f ≡ true → place ≡ 0 → ⊥
+unfolding votePasses foundWith foundAt
+vote-found n slot a bs place e h z =
+    let q = and-right (between 1 slot (a .slot)) _ (and-right (ltb (a .voter) n) _ h) in
+    false≢true (sym (ap (foundWith (λ b. leb (b .slot) (a .slot))) (e ∙ ap (foundAt bs) z)) ∙ q)
 
 -- ---- one turn of a loop over the entries, i of them seen
 
@@ -52,13 +62,6 @@ module _ (slot : ℕ) (before bs : List Block) (i : ℕ) where
   pub block-end : length bs ≤ i → i + firstBadBlock slot (addBlocks before (take i bs)) (drop i bs) ≡ i
   unfolding firstBadBlock
   block-end h = rw (drop-of-length-le bs h) (omega arith)
-
--- all blocks of the packet are known
-pub whole : (nodes slot : ℕ) (bs ps : List Block) (vs : List Vote) (n : ℕ) → n ≡ length ps
-    → firstBadVote nodes slot (addBlocks bs ps) vs ≡ firstBadVote nodes slot (addBlocks bs (take n ps)) vs
-whole nodes slot bs ps vs n e =
-    let l : length ps ≤ n = omega (arith, e) in
-    ap (λ (t : List Block). firstBadVote nodes slot (addBlocks bs t) vs) (sym (take-all n ps l))
 
 module _ (n slot : ℕ) (bs : List Block) (vs : List Vote) (i : ℕ) where
   pub vote-good : {a : Vote} → i < length vs → a ≡ getD vs i noVote → voteAllowed n slot bs a ≡ true

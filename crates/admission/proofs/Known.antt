@@ -56,15 +56,6 @@ find-added bs (c ∷ cs) x =
     find-added (addBlock bs c) cs x ∙ ap (λ (f : Found). orElse f (find cs x)) (find-one bs c x)
     ∙ orElse-assoc (find bs x) (find (c ∷ []) x) (find cs x) ∙ ap (orElse (find bs x)) (sym (find-append (c ∷ []) cs x))
 
-module _ (bs cs : List Block) (x : ℕ) where
-  pub added-hit : {c : Block} → find bs x ≡ found c → find (addBlocks bs cs) x ≡ found c
-  unfolding orElse
-  added-hit e = find-added bs cs x ∙ rw e refl
-
-  pub added-miss : find bs x ≡ missing → find (addBlocks bs cs) x ≡ find cs x
-  unfolding orElse
-  added-miss e = find-added bs cs x ∙ rw e refl
-
 -- a later block with a number that is known is not found, whether it is added or not
 pub added-joined : (bs cs : List Block) (x : ℕ) → find (addBlocks bs cs) x ≡ find (bs ++ cs) x
 added-joined bs cs x = find-added bs cs x ∙ sym (find-append bs cs x)

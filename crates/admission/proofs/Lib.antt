@@ -1,6 +1,6 @@
 -- The laws of packets that are looked up in part, and the proofs of the functions. Assumes nothing.
-pub mod Entries
 pub mod Known
-pub mod Indexed
+pub mod Places
 pub mod FirstBad
-pub mod Header
+pub mod Counts
+pub mod Seen

@@ -1,66 +1,37 @@
-// Whether a packet's entries keep the rules, and which is the first that does not. Nothing may be changed before that is known, so the
-// blocks of a packet are looked up in one index together with those of the table.
-// All entries together cost two descents for each block of the table, three for each block of the packet and one for each vote, of which the
-// longest meets 28 blocks. Where table and packet have more than 4,096 blocks together, each entry costs a search instead.
-// Stack: 36 KiB of links.
+// Which entries of a packet keep the rules, and which are new. Nothing may be changed before that is known, so the packet's entries are looked up
+// in an index of the table that they join, and the first place of each is noted in a set, by which they are stored and shown later.
+// All entries together cost two descents for each block and two for each vote, of which the longest meets 27 blocks or 49 votes. Where there is
+// no index, for a packet that is longer than it has room for, each descent is a search of the table and the packet.
+// No function keeps an array.
 use protocol::Block;
 use protocol::Vote;
-use rows::Place;
-ghost use mathlib.Core.Bool.{_&&_};
+ghost use mathlib.Core.Bool.{true, _&&_};
 ghost use mathlib.Core.Path.{_≡_};
-ghost use Prim.Native.Nat.{_+_, _*_, _≤_};
+ghost use Prim.Native.Nat.{_+_, _*_, _<_, _≤_};
 ghost use lib.Dec.{eqb, leb, ltb};
-ghost use lib.ListN.{length, take};
-ghost use Rattle.protocol.specs.Chain.{find, foundWith};
-ghost use Rattle.protocol.specs.Store.{entries, sameBlock};
+ghost use lib.ListN.{length, getD, take};
+ghost use Rattle.protocol.specs.Chain.{foundWith, genesis};
+ghost use Rattle.protocol.specs.Store.{entries, sameBlock, since};
 ghost use Rattle.protocol.specs.Packet.{packetOf};
-ghost use Rattle.protocol.specs.Lent.{rowsOf, makeBlock};
-ghost use Rattle.protocol.specs.Calls.Receive.{addBlocks, knownAs, headerAllowed, firstBadBlock, firstBadVote};
-ghost use Rattle.known_blocks.specs.Known.{knownBlocks, foundAt};
+ghost use Rattle.protocol.specs.Lent.{rowsOf, makeBlock, makeVote};
+ghost use Rattle.protocol.specs.Calls.Receive.{addBlocks, addSince, knownAs, blockAllowed, voteAllowed, headerAllowed, firstBadBlock, firstBadVote};
+ghost use Rattle.packets.specs.Header.{noVote};
+ghost use Rattle.index.specs.Index.{IndexOf, Room};
+ghost use Rattle.index.specs.declared.Kind.the-variants.{KnownBlocks, KnownVotes};
+ghost use Rattle.index.specs.Places.{knownBlocks, foundAt, numbersDiffer, votesDiffer};
+ghost use Rattle.index.specs.Firsts.{blockNew, voteNew};
 ghost use Rattle.admission.specs.Lookup.{foundOf, blockPasses, votePasses};
+ghost use Rattle.admission.specs.Seen.{BlocksSeen, VotedSeen, VotesSeen};
 
 // ---- looking a block up
 
 // The first block with a number.
-pub enum Lookup {
+enum Lookup {
     Hit(Block),
     Missing,
 }
 
-// Among the first `count` blocks of the packet. The cost is a search of these.
-fn find_in_packet(bytes: &[u8], count: usize, number: u64) -> Lookup
-    requires { ⌜ count ≤ length (packetOf (now bytes) .blocks) ⌝ }
-    ensures { λ r. ⌜ foundOf r ≡ find (take count (packetOf (now (bytes .entry)) .blocks)) number ⌝ }
-{
-    let mut i: usize = 0;
-    while i < count {
-        let b = packets::block_at(bytes, i);
-        if b.number == number {
-            return Lookup::Hit(b);
-        }
-        i += 1;
-    }
-    Lookup::Missing
-}
-
-// In the table as it will be with the first `count` blocks of the packet added: in the table, and then in the packet. The cost is a
-// search of both.
-pub fn find_known(blocks: &[u64], used: usize, bytes: &[u8], count: usize, number: u64) -> Lookup
-    requires { ⌜ (4 * used ≤ length (now blocks)) × (count ≤ length (packetOf (now bytes) .blocks)) ⌝ }
-    ensures { λ r. ⌜ foundOf r ≡ find (addBlocks (entries (rowsOf makeBlock (now (blocks .entry)) used)) (take count (packetOf (now (bytes .entry)) .blocks))) number ⌝ }
-{
-    let place = rows::find_block(blocks, used, number);
-    match place {
-        Place::At(i) => {
-            let row = rows::block_at(blocks, i);
-            let b = row.block;
-            Lookup::Hit(b)
-        }
-        Place::Missing => find_in_packet(bytes, count, number),
-    }
-}
-
-// The block that a place in the index of `known_blocks` stands for: one more than where the block is, or 0.
+// The block at a place of the table and the packet together: one more than where it is, or 0.
 fn block_of(blocks: &[u64], used: usize, bytes: &[u8], place: usize) -> Lookup
     requires { ⌜ (4 * used ≤ length (now blocks)) × (place ≤ used + length (packetOf (now bytes) .blocks)) ⌝ }
     ensures { λ r. ⌜ foundOf r ≡ foundAt (knownBlocks (now (blocks .entry)) used (now (bytes .entry))) place ⌝ }
@@ -68,7 +39,7 @@ fn block_of(blocks: &[u64], used: usize, bytes: &[u8], place: usize) -> Lookup
     if place == 0 {
         return Lookup::Missing;
     }
-    let b = known_blocks::block_at(blocks, used, bytes, place - 1);
+    let b = index::block_at(blocks, used, bytes, place - 1);
     Lookup::Hit(b)
 }
 
@@ -118,54 +89,86 @@ fn block_allowed(slot: u64, b: Block, parent: Lookup, old: Lookup) -> bool
     known_as(b, old)
 }
 
-// What `first_bad_block` answers, where the index has no room for all blocks: more than 4,096 together. The cost is two searches of the
-// table and of the packet's earlier blocks for each block.
-fn search_bad_block(slot: u64, blocks: &[u64], used: usize, bytes: &[u8]) -> usize
-    requires { ⌜ 4 * used ≤ length (now blocks) ⌝ }
-    ensures { λ r. ⌜ r ≡ firstBadBlock slot (entries (rowsOf makeBlock (now (blocks .entry)) used)) (packetOf (now (bytes .entry)) .blocks) ⌝ }
-{
-    let h = packets::header_of(bytes);
-    let count = h.blocks as usize;
-    let mut i: usize = 0;
-    while i < count {
-        let b = packets::block_at(bytes, i);
-        let parent = find_known(blocks, used, bytes, i, b.parent);
-        let old = find_known(blocks, used, bytes, i, b.number);
-        if !block_allowed(slot, b, parent, old) {
-            return i;
-        }
-        i += 1;
-    }
-    i
+// What was found of an entry: whether it is allowed, and whether it is new.
+struct Checked {
+    allowed: bool,
+    new: bool,
 }
 
-// The index of the first block that is not allowed, or the number of blocks. The table and the packet's earlier blocks are known.
-// The cost is a descent for each block of the table and two for each block of the packet, if these are at most 4,096 together. A longer
-// packet, which no honest node sends, costs its blocks times the blocks of the table and of the packet. Stack: 36 KiB of links.
-pub fn first_bad_block(slot: u64, blocks: &[u64], used: usize, bytes: &[u8]) -> usize
-    requires { ⌜ 4 * used ≤ length (now blocks) ⌝ }
-    ensures { λ r. ⌜ r ≡ firstBadBlock slot (entries (rowsOf makeBlock (now (blocks .entry)) used)) (packetOf (now (bytes .entry)) .blocks) ⌝ }
+// Block i of the packet, where the table and the packet's earlier blocks are known. It joins the index, if there is one, and its first place is
+// noted. The cost is two descents.
+fn admit_block(
+    slot: u64,
+    blocks: &[u64],
+    used: usize,
+    bytes: &[u8],
+    i: usize,
+    indexed: bool,
+    links: &mut [u16],
+    firsts: &mut [u64],
+) -> Checked
+    requires { ⌜ (4 * used ≤ length (now blocks)) × (numbersDiffer (rowsOf makeBlock (now blocks) used) ≡ true) × (i < length (packetOf (now bytes) .blocks))
+        × (indexed ≡ true → Room (used + i + 1) (now links) × IndexOf KnownBlocks (now blocks) used (now bytes) (used + i) (now links))
+        × (used + i < 64 * length (now firsts)) × BlocksSeen (now blocks) used (now bytes) i (now firsts) ⌝ }
+    ensures { λ r. ⌜ (r .allowed ≡ blockAllowed slot (addBlocks (entries (rowsOf makeBlock (now (blocks .entry)) used)) (take i (packetOf (now (bytes .entry)) .blocks))) (getD (packetOf (now (bytes .entry)) .blocks) i genesis))
+        × (r .new ≡ blockNew (now (blocks .entry)) used (now (bytes .entry)) i)
+        × (indexed ≡ true → IndexOf KnownBlocks (now (blocks .entry)) used (now (bytes .entry)) (used + i + 1) (now (links .exit)))
+        × BlocksSeen (now (blocks .entry)) used (now (bytes .entry)) (i + 1) (now (firsts .exit)) ⌝ }
+{
+    let b = packets::block_at(bytes, i);
+    let n = used + i;
+    let parent_place = index::known_block(blocks, used, bytes, n, indexed, links, b.parent);
+    let parent = block_of(blocks, used, bytes, parent_place);
+    let place = index::join_block(blocks, used, bytes, n, indexed, links);
+    let earlier = block_of(blocks, used, bytes, place);
+    index::note_first(firsts, n, place);
+    let allowed = block_allowed(slot, b, parent, earlier);
+    Checked {
+        allowed: allowed,
+        new: place == 0,
+    }
+}
+
+// What a pass over a section answers: the index of the first entry that is not allowed, or the number of entries; and how many are new of those
+// before it.
+pub struct Admitted {
+    pub bad: usize,
+    pub new: usize,
+}
+
+// The packet's blocks, in order: the table and the packet's earlier blocks are known. If all are allowed, they have joined the index, and their
+// first places are noted in the set, which was empty. The cost is two descents for each block.
+pub fn admit_blocks(
+    slot: u64,
+    blocks: &[u64],
+    used: usize,
+    bytes: &[u8],
+    indexed: bool,
+    links: &mut [u16],
+    firsts: &mut [u64],
+) -> Admitted
+    requires { ⌜ (4 * used ≤ length (now blocks)) × (numbersDiffer (rowsOf makeBlock (now blocks) used) ≡ true)
+        × (indexed ≡ true → Room (used + length (packetOf (now bytes) .blocks)) (now links) × IndexOf KnownBlocks (now blocks) used (now bytes) used (now links))
+        × (used + length (packetOf (now bytes) .blocks) ≤ 64 * length (now firsts)) × BlocksSeen (now blocks) used (now bytes) 0 (now firsts) ⌝ }
+    ensures { λ r. ⌜ (r .bad ≡ firstBadBlock slot (entries (rowsOf makeBlock (now (blocks .entry)) used)) (packetOf (now (bytes .entry)) .blocks))
+        × (length (packetOf (now (bytes .entry)) .blocks) ≤ r .bad
+        → (used + r .new ≡ length (addBlocks (entries (rowsOf makeBlock (now (blocks .entry)) used)) (packetOf (now (bytes .entry)) .blocks)))
+        × (indexed ≡ true → IndexOf KnownBlocks (now (blocks .entry)) used (now (bytes .entry)) (used + length (packetOf (now (bytes .entry)) .blocks)) (now (links .exit)))
+        × BlocksSeen (now (blocks .entry)) used (now (bytes .entry)) (length (packetOf (now (bytes .entry)) .blocks)) (now (firsts .exit))) ⌝ }
 {
     let h = packets::header_of(bytes);
     let count = h.blocks as usize;
-    if !known_blocks::fits(used, count) {
-        return search_bad_block(slot, blocks, used, bytes);
-    }
-    let mut links = [0u16; 18432];
-    known_blocks::build(blocks, used, bytes, used, &mut links);
+    let mut new: usize = 0;
     let mut i: usize = 0;
     while i < count {
-        let b = packets::block_at(bytes, i);
-        let parent_place = known_blocks::place(blocks, used, bytes, used + i, &links, b.parent);
-        let parent = block_of(blocks, used, bytes, parent_place);
-        let earlier_place = known_blocks::add(blocks, used, bytes, used + i, &mut links);
-        let earlier = block_of(blocks, used, bytes, earlier_place);
-        if !block_allowed(slot, b, parent, earlier) {
-            return i;
+        let checked = admit_block(slot, blocks, used, bytes, i, indexed, links, firsts);
+        if !checked.allowed {
+            return Admitted { bad: i, new: new };
         }
+        new += checked.new as usize;
         i += 1;
     }
-    i
+    Admitted { bad: i, new: new }
 }
 
 // ---- votes
@@ -193,20 +196,72 @@ fn vote_allowed(nodes: u64, slot: u64, vote: Vote, block: Lookup) -> bool
     at_most(block, vote.slot)
 }
 
-// What `first_bad_vote` answers, where the index has no room for all blocks: more than 4,096 together. The cost is a search of the table
-// and of the packet's blocks for each vote.
-fn search_bad_vote(nodes: u64, slot: u64, blocks: &[u64], used: usize, bytes: &[u8]) -> usize
-    requires { ⌜ 4 * used ≤ length (now blocks) ⌝ }
-    ensures { λ r. ⌜ r ≡ firstBadVote nodes slot (addBlocks (entries (rowsOf makeBlock (now (blocks .entry)) used)) (packetOf (now (bytes .entry)) .blocks)) (packetOf (now (bytes .entry)) .votes) ⌝ }
+// Vote i of the packet, where all blocks of the packet are known. Its block's first place is noted, if it is allowed. The cost is a descent.
+fn admit_vote(
+    nodes: u64,
+    slot: u64,
+    blocks: &[u64],
+    used: usize,
+    bytes: &[u8],
+    known: usize,
+    i: usize,
+    indexed: bool,
+    links: &[u16],
+    firsts: &mut [u64],
+) -> bool
+    requires { ⌜ (4 * used ≤ length (now blocks)) × (numbersDiffer (rowsOf makeBlock (now blocks) used) ≡ true) × (known ≡ length (packetOf (now bytes) .blocks))
+        × (i < length (packetOf (now bytes) .votes)) × (indexed ≡ true → IndexOf KnownBlocks (now blocks) used (now bytes) (used + known) (now links))
+        × (used + known ≤ 64 * length (now firsts)) × VotedSeen (now blocks) used (now bytes) i (now firsts) ⌝ }
+    ensures { λ r. ⌜ (r ≡ voteAllowed nodes slot (addBlocks (entries (rowsOf makeBlock (now (blocks .entry)) used)) (packetOf (now (bytes .entry)) .blocks)) (getD (packetOf (now (bytes .entry)) .votes) i noVote))
+        × (r ≡ true → VotedSeen (now (blocks .entry)) used (now (bytes .entry)) (i + 1) (now (firsts .exit))) ⌝ }
+{
+    let vote = packets::vote_at(bytes, i);
+    let n = used + known;
+    let place = index::known_block(blocks, used, bytes, n, indexed, links, vote.number);
+    let block = block_of(blocks, used, bytes, place);
+    if !vote_allowed(nodes, slot, vote, block) {
+        return false;
+    }
+    index::note_first(firsts, n, place);
+    true
+}
+
+// The index of the first vote that is not allowed, or the number of votes. All blocks of the packet are known. If all votes are allowed, the first
+// places of their blocks are noted in the set. The cost is a descent for each vote.
+pub fn admit_votes(
+    nodes: u64,
+    slot: u64,
+    blocks: &[u64],
+    used: usize,
+    bytes: &[u8],
+    indexed: bool,
+    links: &[u16],
+    firsts: &mut [u64],
+) -> usize
+    requires { ⌜ (4 * used ≤ length (now blocks)) × (numbersDiffer (rowsOf makeBlock (now blocks) used) ≡ true)
+        × (indexed ≡ true → IndexOf KnownBlocks (now blocks) used (now bytes) (used + length (packetOf (now bytes) .blocks)) (now links))
+        × (used + length (packetOf (now bytes) .blocks) ≤ 64 * length (now firsts))
+        × BlocksSeen (now blocks) used (now bytes) (length (packetOf (now bytes) .blocks)) (now firsts) ⌝ }
+    ensures { λ r. ⌜ (r ≡ firstBadVote nodes slot (addBlocks (entries (rowsOf makeBlock (now (blocks .entry)) used)) (packetOf (now (bytes .entry)) .blocks)) (packetOf (now (bytes .entry)) .votes))
+        × (length (packetOf (now (bytes .entry)) .votes) ≤ r → VotedSeen (now (blocks .entry)) used (now (bytes .entry)) (length (packetOf (now (bytes .entry)) .votes)) (now (firsts .exit))) ⌝ }
 {
     let h = packets::header_of(bytes);
     let known = h.blocks as usize;
     let count = h.votes as usize;
     let mut i: usize = 0;
     while i < count {
-        let vote = packets::vote_at(bytes, i);
-        let block = find_known(blocks, used, bytes, known, vote.number);
-        if !vote_allowed(nodes, slot, vote, block) {
+        if !admit_vote(
+            nodes,
+            slot,
+            blocks,
+            used,
+            bytes,
+            known,
+            i,
+            indexed,
+            links,
+            firsts,
+        ) {
             return i;
         }
         i += 1;
@@ -214,32 +269,63 @@ fn search_bad_vote(nodes: u64, slot: u64, blocks: &[u64], used: usize, bytes: &[
     i
 }
 
-// The index of the first vote that is not allowed, or the number of votes. All blocks of the packet are known.
-// The cost is a descent for each block of the table, for each block of the packet and for each vote, if the blocks are at most 4,096
-// together. A packet of more blocks, which no honest node sends, costs its votes times the blocks. Stack: 36 KiB of links.
-pub fn first_bad_vote(nodes: u64, slot: u64, blocks: &[u64], used: usize, bytes: &[u8]) -> usize
-    requires { ⌜ 4 * used ≤ length (now blocks) ⌝ }
-    ensures { λ r. ⌜ r ≡ firstBadVote nodes slot (addBlocks (entries (rowsOf makeBlock (now (blocks .entry)) used)) (packetOf (now (bytes .entry)) .blocks)) (packetOf (now (bytes .entry)) .votes) ⌝ }
+// ---- new votes
+
+// Whether vote i of the packet is new: not old, that is of slot `from` or later, and not known. It joins the index in any case, if there is one,
+// and its first place is noted. The cost is a descent.
+fn is_new_vote(
+    votes: &[u64],
+    used: usize,
+    bytes: &[u8],
+    i: usize,
+    from: u64,
+    indexed: bool,
+    links: &mut [u16],
+    firsts: &mut [u64],
+) -> bool
+    requires { ⌜ (4 * used ≤ length (now votes)) × (votesDiffer (rowsOf makeVote (now votes) used) ≡ true) × (i < length (packetOf (now bytes) .votes))
+        × (indexed ≡ true → Room (used + i + 1) (now links) × IndexOf KnownVotes (now votes) used (now bytes) (used + i) (now links))
+        × (used + i < 64 * length (now firsts)) × VotesSeen (now votes) used (now bytes) i (now firsts) ⌝ }
+    ensures { λ r. ⌜ (r ≡ (since from (getD (packetOf (now (bytes .entry)) .votes) i noVote) && voteNew (now (votes .entry)) used (now (bytes .entry)) i))
+        × (indexed ≡ true → IndexOf KnownVotes (now (votes .entry)) used (now (bytes .entry)) (used + i + 1) (now (links .exit)))
+        × VotesSeen (now (votes .entry)) used (now (bytes .entry)) (i + 1) (now (firsts .exit)) ⌝ }
+{
+    let vote = packets::vote_at(bytes, i);
+    let n = used + i;
+    let place = index::join_vote(votes, used, bytes, n, indexed, links);
+    index::note_first(firsts, n, place);
+    if place != 0 {
+        return false;
+    }
+    vote.slot >= from
+}
+
+// How many votes of the packet are new: those of slot `from` and later that are not known. The first place of each vote is noted in the set, which
+// was empty. The cost is a descent for each vote.
+pub fn new_votes(
+    votes: &[u64],
+    used: usize,
+    bytes: &[u8],
+    from: u64,
+    indexed: bool,
+    links: &mut [u16],
+    firsts: &mut [u64],
+) -> usize
+    requires { ⌜ (4 * used ≤ length (now votes)) × (votesDiffer (rowsOf makeVote (now votes) used) ≡ true)
+        × (indexed ≡ true → Room (used + length (packetOf (now bytes) .votes)) (now links) × IndexOf KnownVotes (now votes) used (now bytes) used (now links))
+        × (used + length (packetOf (now bytes) .votes) ≤ 64 * length (now firsts)) × VotesSeen (now votes) used (now bytes) 0 (now firsts) ⌝ }
+    ensures { λ r. ⌜ (used + r ≡ length (addSince from (entries (rowsOf makeVote (now (votes .entry)) used)) (packetOf (now (bytes .entry)) .votes)))
+        × VotesSeen (now (votes .entry)) used (now (bytes .entry)) (length (packetOf (now (bytes .entry)) .votes)) (now (firsts .exit)) ⌝ }
 {
     let h = packets::header_of(bytes);
-    let known = h.blocks as usize;
     let count = h.votes as usize;
-    if !known_blocks::fits(used, known) {
-        return search_bad_vote(nodes, slot, blocks, used, bytes);
-    }
-    let mut links = [0u16; 18432];
-    known_blocks::build(blocks, used, bytes, used + known, &mut links);
+    let mut new: usize = 0;
     let mut i: usize = 0;
     while i < count {
-        let vote = packets::vote_at(bytes, i);
-        let place = known_blocks::place(blocks, used, bytes, used + known, &links, vote.number);
-        let block = block_of(blocks, used, bytes, place);
-        if !vote_allowed(nodes, slot, vote, block) {
-            return i;
-        }
+        new += is_new_vote(votes, used, bytes, i, from, indexed, links, firsts) as usize;
         i += 1;
     }
-    i
+    new
 }
 
 // ---- the header

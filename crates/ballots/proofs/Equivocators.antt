@@ -18,7 +18,8 @@ use Rattle.protocol.proofs.Filters.Kept.{equivocates-true, equivocates-holds, e
 use Rattle.protocol.proofs.Filters.Relations.{Cast, Equivocation}
 use Rattle.rows.specs.Rows.{rowAt}
 use Rattle.search_tree.specs.Tree.{First, Placed}
-use Rattle.slot_index.specs.Index.{keyAt}
+use Rattle.index.specs.Places.{slotKey}
+use Rattle.index.proofs.Slots.{slot-voters, slot-slots, slot-selected, slot-same}
 use Rattle.masks.specs.Masks.{bitOf, maskOf, added}
 use Rattle.masks.proofs.Masks.{mask-ext, mask-none, bit-mask}
 use Rattle.ballots.specs.Latest.{selected, votesIn, equivocatorsOf}
@@ -137,7 +138,7 @@ module _ (w : Bool) (ws : List ℕ) (i : ℕ) (m : Marked Vote) (read : m ≡ ro
   unfolding counted
   out-turn e = kept-turn (λ s b o k. absurd (clashing (rw s k) e))
 
-  module _ {place : ℕ} (P : Placed (keyAt w ws) i (keyAt w ws i) place) where
+  module _ {place : ℕ} (P : Placed (slotKey w ws) i (slotKey w ws i) place) where
     -- no row before it has its voter and slot
     pub alone-turn : place ≡ 0 → mask ≡ equivocatorsOf (votesIn w ws (i + 1)) E t
     alone-turn z = kept-turn (λ s b o k. absurd (none s b o (row-of makeVote w ws i b (o .cast))))
@@ -147,25 +148,24 @@ module _ (w : Bool) (ws : List ℕ) (i : ℕ) (m : Marked Vote) (read : m ≡ ro
         none s b o (j, l, h, e) =
             let x = sym (ap (λ c. c .voter) e) ∙ o .voters ∙ ap (λ c. c .entry .voter) read in
             let y = sym (ap (λ c. c .slot) e) ∙ o .slots ∙ ap (λ c. c .entry .slot) read in
-            let k = h ∙ sym s ∙ ap (λ c. w || c .shown) read in
-            P .none z j l (λ n. record { voter = x n; slot = y n; selected = k n })
+            P .none z j l (slot-same ws j i w x y h (ap (λ c. w || c .shown) (sym read) ∙ s))
 
     module _ (f : Marked Vote) (met : f ≡ rowAt makeVote ws (place - 1)) (nz : place ≡ 0 → ⊥) (e : ((w || m .shown) && window E t (m .entry .slot)) ≡ true) where
-      first : First (keyAt w ws) i (keyAt w ws i) (place - 1)
+      first : First (slotKey w ws) i (slotKey w ws i) (place - 1)
       first = P .hit (place - 1) (omega arith)
 
       voters : f .entry .voter ≡ m .entry .voter
-      voters = ap (λ c. c .entry .voter) met ∙ ap (λ k. k .voter) (first .has) ∙ sym (ap (λ c. c .entry .voter) read)
+      voters = ap (λ c. c .entry .voter) met ∙ slot-voters ws (place - 1) i w (first .has) ∙ sym (ap (λ c. c .entry .voter) read)
 
       slots : f .entry .slot ≡ m .entry .slot
-      slots = ap (λ c. c .entry .slot) met ∙ ap (λ k. k .slot) (first .has) ∙ sym (ap (λ c. c .entry .slot) read)
+      slots = ap (λ c. c .entry .slot) met ∙ slot-slots ws (place - 1) i w (first .has) ∙ sym (ap (λ c. c .entry .slot) read)
 
       shown : (w || m .shown) ≡ true
       shown = and-left (w || m .shown) (window E t (m .entry .slot)) e
 
       cast : Cast (f .entry) votes
       cast =
-          rw met (entry-in makeVote w ws i (place - 1) (first .below) (ap (λ k. k .selected) (first .has) ∙ sym (ap (λ c. w || c .shown) read) ∙ shown))
+          rw met (entry-in makeVote w ws i (place - 1) (first .below) (slot-selected ws (place - 1) i w (first .has) ∙ sym (ap (λ c. w || c .shown) read) ∙ shown))
 
       counts : counted E t (m .entry .slot) ≡ true
       counts = unfold counted in (and-right (w || m .shown) (window E t (m .entry .slot)) e)

@@ -6,7 +6,8 @@ ghost use Prim.Native.Nat.{_+_, _*_, _<_, _≤_};
 ghost use lib.Dec.{leb, ltb};
 ghost use lib.ListN.{length, set, replicate};
 ghost use Rattle.protocol.specs.Filters.{window};
-ghost use Rattle.slot_index.specs.Index.{SlotIndex};
+ghost use Rattle.index.specs.Index.{Room};
+ghost use Rattle.index.specs.Places.{SlotIndex};
 ghost use Rattle.ballots.specs.Latest.{votesIn, VotersFit, equivocatorsOf, Latest, Kept};
 ghost use Rattle.masks.specs.Masks.{bitOf};
 
@@ -49,12 +50,12 @@ fn equivocators_next(
     links: &mut [u16],
     mask: u64,
 ) -> u64
-    requires { ⌜ (4 * i + 4 ≤ length (now votes)) × (i < 8192) × VotersFit (now votes) (i + 1) × SlotIndex whole (now votes) i (now links)
+    requires { ⌜ (4 * i + 4 ≤ length (now votes)) × Room (i + 1) (now links) × VotersFit (now votes) (i + 1) × SlotIndex whole (now votes) i (now links)
         × (mask ≡ equivocatorsOf (votesIn whole (now votes) i) expiry t) ⌝ }
     ensures { λ r. ⌜ (r ≡ equivocatorsOf (votesIn whole (now (votes .entry)) (i + 1)) expiry t)
         × SlotIndex whole (now (votes .entry)) (i + 1) (now (links .exit)) ⌝ }
 {
-    let place = slot_index::add(votes, i, whole, links);
+    let place = index::slot_add(votes, i, whole, links);
     if place != 0 {
         let new = rows::vote_at(votes, i);
         if counts(whole, expiry, t, new) {

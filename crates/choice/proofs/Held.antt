@@ -23,7 +23,7 @@ use Rattle.protocol.proofs.Lent.Rows.{length-rowsOf}
 use Rattle.rows.specs.Rows.{rowAt}
 use Rattle.rows.proofs.Rows.{getD-rowsOf, drop-rowsOf, rows-front}
 use Rattle.search_tree.proofs.Lists.{place-hit}
-use Rattle.block_index.specs.Index.{placeOfNumber}
+use Rattle.index.specs.Places.{placeOfNumber}
 use Rattle.ballots.specs.Latest.{selected}
 use Rattle.ballots.proofs.Selected.{row-of, entry-in}
 use Rattle.subtrees.specs.Places.{blockAt, blocksIn, placeIn, parentPlace, BlocksSound}

@@ -29,9 +29,9 @@ pub record Scan (w : Bool) (ws : List ℕ) (n : ℕ) (weights : List ℕ) (lim a
 abbrev pub left : ℕ → ℕ → ℕ
 left n c = cond (eqb c 0) 0 (n - c)
 
-module _ {ws : List ℕ} {n : ℕ} {firsts nexts : List ℕ} (L : Linked (λ i. parentPlace ws i) n 1 firsts nexts) {w : Bool} {weights : List ℕ} {lim a x : ℕ} where
+module _ {ws : List ℕ} {n : ℕ} {children siblings : List ℕ} (L : Linked (λ i. parentPlace ws i) n 1 children siblings) {w : Bool} {weights : List ℕ} {lim a x : ℕ} where
   -- the next child stands after child c
-  pub scan-less : {c d best : ℕ} → Scan w ws n weights lim a x c best → (c ≡ 0 → ⊥) → d ≡ getD nexts c 0 → left n d < left n c
+  pub scan-less : {c d best : ℕ} → Scan w ws n weights lim a x c best → (c ≡ 0 → ⊥) → d ≡ getD siblings c 0 → left n d < left n c
   scan-less {c} {d} S z g = go (ℕ-discrete d 0)
     where
       t : (S .from ≤ c) × (c < n) × (parentPlace ws c ≡ a)
@@ -45,11 +45,11 @@ module _ {ws : List ℕ} {n : ℕ} {firsts nexts : List ℕ} (L : Linked (λ i. 
       go (no q) = rw (ne-eqb d 0 q, ne-eqb c 0 z) (omega (arith, N .hit q .0, N .hit q .1))
 
   module _ (H : Held w ws n) (f : x ≡ blockAt ws a .number) (h : a < n) where
-    pub scan-start : {c : ℕ} → c ≡ getD firsts a 0 → Scan w ws n weights lim a x c 0
+    pub scan-start : {c : ℕ} → c ≡ getD children a 0 → Scan w ws n weights lim a x c 0
     scan-start e = record { from = 1; some = omega arith; within = H .some; low = H .some; next = rw e (L .first a h); is = best-start H weights lim x }
 
     module _ {c best : ℕ} (S : Scan w ws n weights lim a x c best) where
-      pub scan-turn : {d r : ℕ} → (c ≡ 0 → ⊥) → r ≡ betterPlace ws weights w lim x c best → d ≡ getD nexts c 0 → Scan w ws n weights lim a x d r
+      pub scan-turn : {d r : ℕ} → (c ≡ 0 → ⊥) → r ≡ betterPlace ws weights w lim x c best → d ≡ getD siblings c 0 → Scan w ws n weights lim a x d r
       scan-turn z e g =
           let t = S .next .hit z in
           let p : 0 < c = omega (arith, S .some, t .0) in

@@ -10,6 +10,6 @@ pub record NextChild (up : ℕ → ℕ) (n a i c : ℕ) : Type 0 where
   pub none : (k : ℕ) → i ≤ k → k < n → up k ≡ a → (c ≡ 0 → ⊥) × (c ≤ k)
 
 -- the rows from i on are linked: each row's first child among them, and the next child of the same parent
-pub record Linked (up : ℕ → ℕ) (n i : ℕ) (firsts nexts : List ℕ) : Type 0 where
-  pub first : (a : ℕ) → a < n → NextChild up n a i (getD firsts a 0)
-  pub next : (c : ℕ) → i ≤ c → c < n → NextChild up n (up c) (c + 1) (getD nexts c 0)
+pub record Linked (up : ℕ → ℕ) (n i : ℕ) (children siblings : List ℕ) : Type 0 where
+  pub first : (a : ℕ) → a < n → NextChild up n a i (getD children a 0)
+  pub next : (c : ℕ) → i ≤ c → c < n → NextChild up n (up c) (c + 1) (getD siblings c 0)

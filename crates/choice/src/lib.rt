@@ -72,26 +72,26 @@ fn better_place(
 }
 
 // Row i becomes the first child of its parent's row; the child that was first comes after it.
-fn link_child(parents: &[u16], i: usize, firsts: &mut [u16], nexts: &mut [u16])
-    requires { ⌜ (i < length (now parents)) × (getD (now parents) i 0 < length (now firsts)) × (i < length (now nexts)) × (i < 2048) ⌝ }
-    ensures { λ r. ⌜ (now (nexts .exit) ≡ set (now (nexts .entry)) i (getD (now (firsts .entry)) (getD (now (parents .entry)) i 0) 0))
-        × (now (firsts .exit) ≡ set (now (firsts .entry)) (getD (now (parents .entry)) i 0) i) ⌝ }
+fn link_child(parents: &[u16], i: usize, children: &mut [u16], siblings: &mut [u16])
+    requires { ⌜ (i < length (now parents)) × (getD (now parents) i 0 < length (now children)) × (i < length (now siblings)) × (i < 2048) ⌝ }
+    ensures { λ r. ⌜ (now (siblings .exit) ≡ set (now (siblings .entry)) i (getD (now (children .entry)) (getD (now (parents .entry)) i 0) 0))
+        × (now (children .exit) ≡ set (now (children .entry)) (getD (now (parents .entry)) i 0) i) ⌝ }
 {
     let p = search_tree::link_at(parents, i);
-    nexts[i] = firsts[p];
-    search_tree::put_link(firsts, p, i);
+    siblings[i] = children[p];
+    search_tree::put_link(children, p, i);
 }
 
 // The children of each row, linked in the order of their rows. One turn for each row.
-fn link_children(parents: &[u16], used: usize, firsts: &mut [u16], nexts: &mut [u16])
+fn link_children(parents: &[u16], used: usize, children: &mut [u16], siblings: &mut [u16])
     requires { ⌜ (0 < used) × (used ≤ 2048) × (length (now parents) ≡ 2048) × ((i : ℕ) → i < used → getD (now parents) i 0 < used)
-        × (now firsts ≡ replicate 2048 0) × (length (now nexts) ≡ 2048) ⌝ }
-    ensures { λ r. ⌜ Linked (λ i. getD (now (parents .entry)) i 0) used 1 (now (firsts .exit)) (now (nexts .exit)) ⌝ }
+        × (now children ≡ replicate 2048 0) × (length (now siblings) ≡ 2048) ⌝ }
+    ensures { λ r. ⌜ Linked (λ i. getD (now (parents .entry)) i 0) used 1 (now (children .exit)) (now (siblings .exit)) ⌝ }
 {
     let mut i: usize = used;
     while 1 < i {
         i -= 1;
-        link_child(parents, i, firsts, nexts);
+        link_child(parents, i, children, siblings);
     }
 }
 
@@ -99,24 +99,24 @@ fn link_children(parents: &[u16], used: usize, firsts: &mut [u16], nexts: &mut [
 fn best_child(
     blocks: &[u64],
     used: usize,
-    firsts: &[u16],
-    nexts: &[u16],
+    children: &[u16],
+    siblings: &[u16],
     weights: &[u32],
     whole: bool,
     lim: u64,
     a: usize,
 ) -> usize
-    requires { ⌜ (4 * used ≤ length (now blocks)) × (used ≤ length (now firsts)) × (used ≤ length (now nexts)) × (used ≤ length (now weights)) × (a < used)
-        × BlocksSound (now blocks) used × Linked (λ i. parentPlace (now blocks) i) used 1 (now firsts) (now nexts) ⌝ }
+    requires { ⌜ (4 * used ≤ length (now blocks)) × (used ≤ length (now children)) × (used ≤ length (now siblings)) × (used ≤ length (now weights)) × (a < used)
+        × BlocksSound (now blocks) used × Linked (λ i. parentPlace (now blocks) i) used 1 (now children) (now siblings) ⌝ }
     ensures { λ r. ⌜ (r < used) × (bestChild (weightIn (now (blocks .entry)) used (now (weights .entry))) lim (blockAt (now (blocks .entry)) a .number)
         (blocksIn whole (now (blocks .entry)) used) ≡ foundAt (now (blocks .entry)) r) ⌝ }
 {
     let parent = rows::block_at(blocks, a);
     let mut best: usize = 0;
-    let mut c = search_tree::link_at(firsts, a);
+    let mut c = search_tree::link_at(children, a);
     while c != 0 {
         best = better_place(blocks, weights, whole, lim, parent.block.number, c, best);
-        c = search_tree::link_at(nexts, c);
+        c = search_tree::link_at(siblings, c);
     }
     best
 }
@@ -136,12 +136,12 @@ fn leaf(
     ensures { λ r. ⌜ (r < used) × (blockAt (now (blocks .entry)) r .number
         ≡ walk (weightIn (now (blocks .entry)) used (now (weights .entry))) (blocksIn whole (now (blocks .entry)) used) lim) ⌝ }
 {
-    let mut firsts = [0u16; 2048];
-    let mut nexts = [0u16; 2048];
-    link_children(parents, used, &mut firsts, &mut nexts);
+    let mut children = [0u16; 2048];
+    let mut siblings = [0u16; 2048];
+    link_children(parents, used, &mut children, &mut siblings);
     let mut a: usize = 0;
     loop {
-        let c = best_child(blocks, used, &firsts, &nexts, weights, whole, lim, a);
+        let c = best_child(blocks, used, &children, &siblings, weights, whole, lim, a);
         if c == 0 {
             break a;
         }

@@ -40,7 +40,7 @@ use Rattle.verdicts.specs.Lent.{lent, lentVerdict}
 use Rattle.verdicts.proofs.Passed.{passes}
 use Rattle.verdicts.proofs.Lent.{open-refused, open-done}
 use Rattle.verdicts.proofs.Room as places
-use Rattle.verdicts.proofs.Room.{receive-room-blocks, receive-room-votes}
+use Rattle.verdicts.proofs.Room.{receive-room-blocks, receive-few-blocks, receive-room-votes}
 use Rattle.verdicts.proofs.Calls.{receive-refused, receive-done, propose-refused, propose-done, vote-refused, vote-done, merge-refused, merge-done}
 use Rattle.answers.specs.declared.Call.{Call}
 use Rattle.answers.specs.declared.Call.the-variants as call
@@ -112,6 +112,9 @@ module _ (s : Settings) (m : Lent) (beat : ℕ) (bytes : List ℕ) {v : Verdict}
 
   pub receive-block-room : v ≡ Pass → 4 * length (addBlocks (entries (rowsOf makeBlock (m .blocks) (m .blocksUsed))) (packetOf bytes .blocks)) ≤ length (m .blocks)
   receive-block-room e = receive-room-blocks s m beat bytes (said Pass h e)
+
+  pub receive-few : v ≡ Pass → length (addBlocks (entries (rowsOf makeBlock (m .blocks) (m .blocksUsed))) (packetOf bytes .blocks)) ≤ 2048
+  receive-few e = receive-few-blocks s m beat bytes (said Pass h e)
 
   pub receive-vote-room : {from : ℕ} → v ≡ Pass → from ≡ keptFrom s (m .clock .merged) → 4 * length (addSince from (entries (rowsOf makeVote (m .votes) (m .votesUsed))) (packetOf bytes .votes)) ≤ length (m .votes)
   receive-vote-room e f = rw f (receive-room-votes s m beat bytes (said Pass h e))

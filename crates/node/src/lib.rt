@@ -97,6 +97,8 @@ pub fn receive(
 {
     let block_rows = *blocks_used;
     let vote_rows = *votes_used;
+    let mut block_firsts = [0u64; 1056];
+    let mut vote_firsts = [0u64; 1152];
     let verdict = verdicts::receive_verdict(
         settings,
         clock,
@@ -106,14 +108,16 @@ pub fn receive(
         vote_rows,
         beat,
         bytes,
+        &mut block_firsts,
+        &mut vote_firsts,
     );
     match verdict {
         Verdict::Refuse(refusal) => refused(refusal, clock),
         Verdict::Pass => {
             let brought = receiving::brings(clock, beat, bytes);
-            receiving::receive_blocks(blocks, blocks_used, bytes, brought);
+            receiving::receive_blocks(blocks, blocks_used, bytes, &block_firsts, brought);
             let from = own::kept_from(settings, clock.merged);
-            receiving::receive_votes(votes, votes_used, bytes, from, brought);
+            receiving::receive_votes(votes, votes_used, bytes, &vote_firsts, from, brought);
             let new_blocks = *blocks_used - block_rows;
             let new_votes = *votes_used - vote_rows;
             Moved {

@@ -3,3 +3,5 @@ pub mod Fields
 pub mod Reading
 pub mod Entries
 pub mod Form
+pub mod Turns
+pub mod Headers

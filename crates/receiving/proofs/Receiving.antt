@@ -1,9 +1,8 @@
 -- The tables after Receive: entries added, and shown if the packet is brought into view. Assumes nothing.
-use Prim.Native.Nat.{ℕ, _≤_}
-use mathlib.Core.Bool.{Bool, true, false}
+use Prim.Native.Nat.{ℕ}
+use mathlib.Core.Bool.{true, false}
 use mathlib.Core.List.{List, _++_}
 use mathlib.Core.Path.{_≡_, refl, ap, sym, _∙_}
-use native.Mathlib.Omega.{arith}
 use lib.ListN.{length, drop}
 use Rattle.protocol.specs.declared.Block.{Block}
 use Rattle.protocol.specs.declared.Vote.{Vote}
@@ -11,7 +10,7 @@ use Rattle.protocol.specs.Lists.{any}
 use Rattle.protocol.specs.Chain.{known}
 use Rattle.protocol.specs.Store.{Marked, entries, inView, allWaiting, show, sameVote}
 use Rattle.protocol.specs.Packet.{Packet}
-use Rattle.protocol.specs.Lent.{Make, rowsOf, stored, makeBlock, blockRow, marksSound}
+use Rattle.protocol.specs.Lent.{rowsOf, stored, makeBlock, blockRow}
 use Rattle.protocol.specs.Calls.Receive.{addBlocks, addSince, blocksAfter, votesAfter, stoodOn, receiveInto}
 use Rattle.protocol.proofs.Store.FirstBad.{votes-allowed}
 use Rattle.protocol.proofs.Store.Growth.{Added, added-blocks, table-grow}
@@ -20,12 +19,12 @@ use Rattle.protocol.proofs.Store.Sound.{vote-true}
 use Rattle.protocol.proofs.Store.Follow.{found-known}
 use Rattle.protocol.proofs.Store.Tables.{Table, Closed, table-true, table-holds, table-sound}
 use Rattle.protocol.proofs.Basics.Members.{all-holds}
-use Rattle.protocol.proofs.Store.Views.{entries-waiting, length-show, show-none, grown-none}
-use Rattle.protocol.proofs.Lent.Rows.{Codec, block-codec, rows-stored, marks-stored}
-use Rattle.rows.proofs.Stored.{stored-longer}
+use Rattle.protocol.proofs.Store.Views.{entries-waiting, show-none, grown-none}
+use Rattle.protocol.proofs.Lent.Rows.{block-codec}
 use Rattle.storing.specs.Grown.{grown, Holds}
 use Rattle.storing.proofs.Adding.{grown-new, entries-grown}
 use Rattle.receiving.specs.Accepted.{Carried, Accepted, onlyBlocks, onlyVotes}
+use Rattle.receiving.proofs.Held.{rows-held, shown-held}
 
 -- ---- an accepted packet is carried by the table that it was added to
 
@@ -92,24 +91,6 @@ module _ (from : ℕ) (ms : List (Marked Vote)) (p : Packet) where
   pub votes-brought : receiveInto from true 0 (onlyVotes ms) p .votes ≡ show (λ a. any (sameVote a) (p .votes)) (grown (addSince from) ms (p .votes))
   unfolding receiveInto votesAfter grown
   votes-brought = refl
-
--- ---- rows shown over rows that were added
-
-module _ {A : Type 0} {make : Make (Marked A)} {row : Marked A → List ℕ} (codec : Codec (Marked A) make row)
-    (rs : List (Marked A)) (ws₀ : List ℕ) {ws : List ℕ} {u : ℕ} (h : Holds (Marked A) row rs ws₀ ws u) where
-  pub rows-held : rowsOf make ws u ≡ rs
-  rows-held = ap (λ (w : List ℕ). rowsOf make w u) (h .words) ∙ rows-stored codec rs ws₀ u (sym (h .used))
-
-  pub marks-held : marksSound ws u ≡ true
-  marks-held = ap (λ (w : List ℕ). marksSound w u) (h .words) ∙ marks-stored codec rs ws₀ u (sym (h .used))
-
-  pub shown-held : (q : A → Bool) {ws′ : List ℕ} → ws′ ≡ stored row (show q (rowsOf make ws u)) ws → Holds (Marked A) row (show q rs) ws₀ ws′ u
-  shown-held q e =
-      let l : length rs ≤ length (show q rs) = omega (arith, length-show q rs) in
-      record {
-        words = e ∙ ap (λ (r : List (Marked A)). stored row (show q r) ws) rows-held ∙ ap (stored row (show q rs)) (h .words) ∙ stored-longer codec (show q rs) rs ws₀ l;
-        used = h .used ∙ sym (length-show q rs);
-      }
 
 pub blocks-shown : (ms : List (Marked Block)) (p : Packet) (ws₀ : List ℕ) {ws ws′ : List ℕ} {u : ℕ} → Holds (Marked Block) blockRow (grown addBlocks ms (p .blocks)) ws₀ ws u
     → ws′ ≡ stored blockRow (show (λ b. stoodOn (entries (rowsOf makeBlock ws u)) p b) (rowsOf makeBlock ws u)) ws

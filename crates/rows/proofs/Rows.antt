@@ -12,7 +12,7 @@ use lib.Seq.{getD-drop, drop-drop, drop-cons, take-suc}
 use Rattle.protocol.specs.Lists.{any, all}
 use Rattle.protocol.specs.Lent.{Make, rowsOf}
 use Rattle.protocol.proofs.Lent.Rows.{length-rowsOf}
-use Rattle.rows.specs.Rows.{rowAt, fold}
+use Rattle.rows.specs.Rows.{rowAt}
 
 module _ {A : Type 0} (make : Make A) where
   -- ---- the rows
@@ -99,24 +99,3 @@ module _ {A : Type 0} (make : Make A) where
     pub all-end : n ≤ i → all p (drop i (rowsOf make ws n)) ≡ true
     unfolding all
     all-end h = rw (drop-end ws n i h)
-
-  -- a loop with a state s, that a step makes s′
-  module _ {S : Type 0} (f : S → A → S) (ws : List ℕ) (n i : ℕ) (s : S) where
-    pub fold-step : {a : A} {s′ : S} → i < n → a ≡ rowAt make ws i → s′ ≡ f s a
-        → fold f s (drop i (rowsOf make ws n)) ≡ fold f s′ (drop (i + 1) (rowsOf make ws n))
-    unfolding fold
-    fold-step h r e = rw (drop-read ws n i h r, e)
-
-    pub fold-end : n ≤ i → fold f s (drop i (rowsOf make ws n)) ≡ s
-    unfolding fold
-    fold-end h = rw (drop-end ws n i h)
-
-  -- the same from the front: the state after the first i + 1 rows
-  pub fold-take : {S : Type 0} (f : S → A → S) (s : S) (ws : List ℕ) (n i : ℕ) → i < n
-      → fold f s (take (i + 1) (rowsOf make ws n)) ≡ f (fold f s (take i (rowsOf make ws n))) (rowAt make ws i)
-  unfolding fold
-  fold-take {S = S} f s ws n i h = rw (take-rowsOf ws n i h) (snoc s (take i (rowsOf make ws n)))
-    where
-      snoc : (t : S) (xs : List A) → fold f t (xs ++ (rowAt make ws i ∷ [])) ≡ f (fold f t xs) (rowAt make ws i)
-      snoc t [] = refl
-      snoc t (y ∷ xs) = snoc (f t y) xs

@@ -1,6 +1,6 @@
 -- Rows by their place in lent words, and the structs of code as marked entries. Assumes nothing.
 use Prim.Native.Nat.{ℕ, _+_, _*_}
-use mathlib.Core.List.{List, [], _∷_, _++_}
+use mathlib.Core.List.{List, _++_}
 use lib.ListN.{getD, take, drop}
 use Rattle.protocol.specs.declared.Block.{Block}
 use Rattle.protocol.specs.declared.Vote.{Vote}
@@ -22,8 +22,3 @@ markedVote r = record { entry = r .vote; shown = r .shown }
 -- the words with row i replaced
 unfoldable pub putRow : List ℕ → ℕ → List ℕ → List ℕ
 putRow ws i new = take (4 * i) ws ++ (new ++ drop (4 * i + 4) ws)
-
--- what a loop with a state computes
-unfoldable pub fold : {A S : Type 0} → (S → A → S) → S → List A → S
-fold f s [] = s
-fold f s (a ∷ rest) = fold f (f s a) rest

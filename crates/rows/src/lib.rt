@@ -5,9 +5,7 @@ use protocol::Vote;
 ghost use mathlib.Core.Bool.{_||_};
 ghost use mathlib.Core.Path.{_≡_};
 ghost use Prim.Native.Nat.{_+_, _*_, _<_, _≤_};
-ghost use lib.ListN.{length, getD, drop};
-ghost use Rattle.protocol.specs.Lists.{any};
-ghost use Rattle.protocol.specs.Store.{entries, sameVote};
+ghost use lib.ListN.{length, getD};
 ghost use Rattle.protocol.specs.Lent.{rowsOf, makeBlock, makeVote, blockRow, voteRow};
 ghost use Rattle.rows.specs.Rows.{rowAt, putRow, markedBlock, markedVote};
 ghost use Rattle.rows.specs.Find.{placeOf};
@@ -114,31 +112,4 @@ pub fn find_block(blocks: &[u64], used: usize, number: u64) -> Place
         i += 1;
     }
     Place::Missing
-}
-
-pub fn same_vote(a: Vote, b: Vote) -> bool
-    ensures { λ r. ⌜ r ≡ sameVote a b ⌝ }
-{
-    if a.voter == b.voter {
-        if a.slot == b.slot {
-            return a.number == b.number;
-        }
-    }
-    false
-}
-
-// Whether the vote stands in a row from `first` on.
-pub fn find_vote(votes: &[u64], first: usize, used: usize, vote: Vote) -> bool
-    requires { ⌜ 4 * used ≤ length (now votes) ⌝ }
-    ensures { λ r. ⌜ r ≡ any (sameVote vote) (entries (drop first (rowsOf makeVote (now (votes .entry)) used))) ⌝ }
-{
-    let mut place = first;
-    while place < used {
-        let row = vote_at(votes, place);
-        if same_vote(vote, row.vote) {
-            return true;
-        }
-        place += 1;
-    }
-    false
 }

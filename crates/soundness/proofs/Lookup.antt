@@ -11,9 +11,9 @@ use Rattle.protocol.specs.Store.{Marked, entries, inView}
 use Rattle.protocol.specs.Lent.{rowsOf, makeBlock}
 use Rattle.rows.specs.Rows.{rowAt}
 use Rattle.rows.proofs.Find.{place-below, found-at, found-none}
-use Rattle.block_index.specs.Index.{numbersDiffer, placeOfNumber}
-use Rattle.block_index.proofs.Numbers.{place-before}
-use Rattle.block_index.proofs.Found.{at-place, missing-place, view-at}
+use Rattle.index.specs.Places.{numbersDiffer, placeOfNumber}
+use Rattle.index.proofs.Tables.{place-before}
+use Rattle.index.proofs.Found.{at-place, missing-place, view-at}
 
 -- a test of the block with number x, in view if the entry that asks is shown
 abbrev tested : (Block → Bool) → Bool → List (Marked Block) → ℕ → Bool

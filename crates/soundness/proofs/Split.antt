@@ -18,8 +18,7 @@ use Rattle.rows.proofs.Views.{any-entries}
 use Rattle.ranges.specs.Rows.{blockInRange, voteInRange}
 use Rattle.search_tree.specs.Lists.{distinct}
 use Rattle.search_tree.proofs.Lists.{distinct-end}
-use Rattle.block_index.specs.Index.{numbersDiffer}
-use Rattle.vote_index.specs.Index.{votesDiffer}
+use Rattle.index.specs.Places.{numbersDiffer, votesDiffer}
 use Rattle.soundness.specs.Parts.{parentSound, parentsSound, chainSound, votedSound, tablesSound}
 
 -- ---- blocks

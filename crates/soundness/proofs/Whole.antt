@@ -12,8 +12,7 @@ use Rattle.protocol.specs.Sound.{settingsSound, placesSound, clockSound, sound}
 use Rattle.protocol.specs.Lent.{Lent, rowsOf, makeBlock, makeVote, placesIn, placesOf, nodeOf, marksSound, lentSound}
 use Rattle.protocol.proofs.Lent.Rows.{length-rowsOf}
 use Rattle.ranges.specs.Rows.{blockInRange, voteInRange}
-use Rattle.block_index.specs.Index.{numbersDiffer}
-use Rattle.vote_index.specs.Index.{votesDiffer}
+use Rattle.index.specs.Places.{numbersDiffer, votesDiffer}
 use Rattle.soundness.specs.Parts.{chainSound, votedSound, tablesSound}
 use Rattle.soundness.proofs.Split.{blocks-split, votes-split}
 

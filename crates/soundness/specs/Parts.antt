@@ -10,9 +10,8 @@ use Rattle.protocol.specs.declared.Vote.{Vote}
 use Rattle.protocol.specs.Lists.{all}
 use Rattle.protocol.specs.Chain.{genesis, find, foundWith, known}
 use Rattle.protocol.specs.Store.{Marked, entries, inView, sameBlock}
-use Rattle.protocol.specs.Lent.{rowsOf, makeBlock}
-use Rattle.block_index.specs.Index.{numbersDiffer, BlockIndex}
-use Rattle.vote_index.specs.Index.{votesDiffer}
+use Rattle.protocol.specs.Lent.{rowsOf, makeBlock, makeVote}
+use Rattle.index.specs.Places.{numbersDiffer, votesDiffer, BlockIndex, VoteIndex}
 
 -- the parent of m stands among the earlier blocks with a lower slot, in view if m is
 unfoldable pub parentSound : List (Marked Block) → Marked Block → Bool
@@ -43,3 +42,9 @@ pub record Indexed (ws : List ℕ) (n : ℕ) (ls : List ℕ) : Type 0 where
   pub fit : 4 * n ≤ length ws
   pub index : BlockIndex ws n ls
   pub differ : numbersDiffer (rowsOf makeBlock ws n) ≡ true
+
+-- and of the votes, none of which stands twice
+pub record TablesIndexed (bw : List ℕ) (bu : ℕ) (bl : List ℕ) (vw : List ℕ) (vu : ℕ) (vl : List ℕ) : Type 0 where
+  pub blocks : Indexed bw bu bl
+  pub votes : VoteIndex vw vu vl
+  pub differ : votesDiffer (rowsOf makeVote vw vu) ≡ true

@@ -3,9 +3,9 @@
 // table. Then one pass over the blocks builds an index of their numbers, one looks each parent up and one each vote's block, and one
 // over the votes builds an index of them, by which no vote stands twice.
 // The whole test costs two descents for each block and two for each vote. Most numbers make a descent a step or two. The worst that
-// dishonest nodes can choose make it 28 steps for a block's number and 45 for a vote, so the whole takes less than 750,000 steps on
+// dishonest nodes can choose make it 27 steps for a block's number and 45 for a vote, so the whole takes less than 750,000 steps on
 // the largest tables, and never more than in proportion to the entries.
-// Stack: 20 KiB for the links of 2,048 blocks and 80 KiB for those of 8,192 votes.
+// Stack: 32 KiB for the links of 2,048 blocks and 80 KiB for those of 8,192 votes.
 use protocol::Clock;
 use protocol::Settings;
 use rows::BlockRow;
@@ -20,8 +20,9 @@ ghost use Rattle.protocol.specs.Chain.{genesis, known};
 ghost use Rattle.protocol.specs.Store.{entries, sameBlock};
 ghost use Rattle.protocol.specs.Lent.{rowsOf, makeBlock, makeVote, lentSound};
 ghost use Rattle.rows.specs.Rows.{markedBlock, markedVote};
-ghost use Rattle.vote_index.specs.Index.{votesDiffer};
-ghost use Rattle.soundness.specs.Parts.{parentSound, chainSound, votedSound, tablesSound, Indexed};
+ghost use Rattle.search_tree.specs.Tree.{Blank};
+ghost use Rattle.index.specs.Index.{Room};
+ghost use Rattle.soundness.specs.Parts.{parentSound, chainSound, votedSound, tablesSound, Indexed, TablesIndexed};
 
 // Whether the number is a block's. The cost is one step for each block before it.
 pub fn known_block(blocks: &[u64], used: usize, number: u64) -> bool
@@ -54,7 +55,7 @@ fn parent_sound(blocks: &[u64], used: usize, links: &[u16], i: usize, row: Block
     requires { ⌜ (i ≤ used) × Indexed (now blocks) used (now links) ⌝ }
     ensures { λ r. ⌜ r ≡ parentSound (rowsOf makeBlock (now (blocks .entry)) i) (markedBlock row) ⌝ }
 {
-    let place = block_index::place(blocks, used, links, row.block.parent);
+    let place = index::place(blocks, used, links, row.block.parent);
     if place == 0 {
         return false;
     }
@@ -99,7 +100,7 @@ fn voted_sound(blocks: &[u64], used: usize, links: &[u16], row: VoteRow) -> bool
     requires { ⌜ Indexed (now blocks) used (now links) ⌝ }
     ensures { λ r. ⌜ r ≡ votedSound (rowsOf makeBlock (now (blocks .entry)) used) (markedVote row) ⌝ }
 {
-    let place = block_index::place(blocks, used, links, row.vote.number);
+    let place = index::place(blocks, used, links, row.vote.number);
     if place == 0 {
         return false;
     }
@@ -135,49 +136,52 @@ fn all_voted_sound(
     true
 }
 
-// Whether no vote stands twice. The cost is a descent for each vote. Stack: 80 KiB of links.
-fn votes_differ(votes: &[u64], used: usize) -> bool
-    requires { ⌜ (4 * used ≤ length (now votes)) × (used ≤ 8192) ⌝ }
-    ensures { λ r. ⌜ r ≡ votesDiffer (rowsOf makeVote (now (votes .entry)) used) ⌝ }
+// The rules that look at several rows; and the links, all free before, are indices of both tables if these keep them. The cost is two
+// descents for each row.
+fn tables_sound(
+    blocks: &[u64],
+    blocks_used: usize,
+    votes: &[u64],
+    votes_used: usize,
+    block_links: &mut [u16],
+    vote_links: &mut [u16],
+) -> bool
+    requires { ⌜ (4 * «blocks_used» ≤ length (now blocks)) × (4 * «votes_used» ≤ length (now votes))
+        × Room «blocks_used» (now «block_links») × Blank (now «block_links») × Room «votes_used» (now «vote_links») × Blank (now «vote_links») ⌝ }
+    ensures { λ r. ⌜ (r ≡ tablesSound (rowsOf makeBlock (now (blocks .entry)) «blocks_used») (rowsOf makeVote (now (votes .entry)) «votes_used»))
+        × (r ≡ true → TablesIndexed (now (blocks .entry)) «blocks_used» (now («block_links» .exit)) (now (votes .entry)) «votes_used» (now («vote_links» .exit))) ⌝ }
 {
-    let mut links = [0u16; 40960];
-    vote_index::build(votes, used, &mut links)
+    if !index::build_blocks(blocks, blocks_used, block_links) {
+        return false;
+    }
+    if !chain_sound(blocks, blocks_used, block_links) {
+        return false;
+    }
+    if !all_voted_sound(blocks, blocks_used, block_links, votes, votes_used) {
+        return false;
+    }
+    index::build_votes(votes, votes_used, vote_links)
 }
 
-// The rules that look at several rows. The cost is two descents for each row. Stack: 20 KiB of links.
-fn tables_sound(blocks: &[u64], blocks_used: usize, votes: &[u64], votes_used: usize) -> bool
-    requires { ⌜ (4 * «blocks_used» ≤ length (now blocks)) × («blocks_used» ≤ 2048) × (4 * «votes_used» ≤ length (now votes)) × («votes_used» ≤ 8192) ⌝ }
-    ensures { λ r. ⌜ r ≡ tablesSound (rowsOf makeBlock (now (blocks .entry)) «blocks_used») (rowsOf makeVote (now (votes .entry)) «votes_used») ⌝ }
-{
-    let mut links = [0u16; 10240];
-    if !block_index::build(blocks, blocks_used, &mut links) {
-        return false;
-    }
-    if !chain_sound(blocks, blocks_used, &links) {
-        return false;
-    }
-    if !all_voted_sound(blocks, blocks_used, &links, votes, votes_used) {
-        return false;
-    }
-    votes_differ(votes, votes_used)
-}
-
-// Whether lent memory is sound. Nothing is asked of what is lent.
-pub fn lent_sound(
+// Whether lent memory is sound. If it is, the links, all free before, are indices of both tables. Nothing is asked of what is lent.
+pub fn sound_indexed(
     settings: Settings,
     clock: Clock,
     blocks: &[u64],
     blocks_used: usize,
     votes: &[u64],
     votes_used: usize,
+    block_links: &mut [u16],
+    vote_links: &mut [u16],
 ) -> bool
-    ensures { λ r. ⌜ r ≡ lentSound settings (record {
+    requires { ⌜ Room 2048 (now «block_links») × Blank (now «block_links») × Room 8192 (now «vote_links») × Blank (now «vote_links») ⌝ }
+    ensures { λ r. ⌜ (r ≡ lentSound settings (record {
       blocks = now (blocks .entry);
       votes = now (votes .entry);
       blocksUsed = «blocks_used»;
       votesUsed = «votes_used»;
       clock = clock;
-    }) ⌝ }
+    })) × (r ≡ true → TablesIndexed (now (blocks .entry)) «blocks_used» (now («block_links» .exit)) (now (votes .entry)) «votes_used» (now («vote_links» .exit))) ⌝ }
 {
     if !ranges::settings_sound(settings) {
         return false;
@@ -201,5 +205,43 @@ pub fn lent_sound(
     if !ranges::votes_in_range(votes, votes_used, settings.nodes, slot) {
         return false;
     }
-    tables_sound(blocks, blocks_used, votes, votes_used)
+    tables_sound(
+        blocks,
+        blocks_used,
+        votes,
+        votes_used,
+        block_links,
+        vote_links,
+    )
+}
+
+// Whether lent memory is sound. Nothing is asked of what is lent. Stack: 112 KiB of links.
+pub fn lent_sound(
+    settings: Settings,
+    clock: Clock,
+    blocks: &[u64],
+    blocks_used: usize,
+    votes: &[u64],
+    votes_used: usize,
+) -> bool
+    ensures { λ r. ⌜ r ≡ lentSound settings (record {
+      blocks = now (blocks .entry);
+      votes = now (votes .entry);
+      blocksUsed = «blocks_used»;
+      votesUsed = «votes_used»;
+      clock = clock;
+    }) ⌝ }
+{
+    let mut block_links = [0u16; 16384];
+    let mut vote_links = [0u16; 40960];
+    sound_indexed(
+        settings,
+        clock,
+        blocks,
+        blocks_used,
+        votes,
+        votes_used,
+        &mut block_links,
+        &mut vote_links,
+    )
 }

@@ -1,5 +1,4 @@
 -- Entries added to a table, once for blocks and votes: `has` says whether an entry is there already. Assumes nothing.
-use Prim.Native.Nat.{_+_}
 use mathlib.Core.Bool.{Bool, true, false, cond}
 use mathlib.Core.List.{List, [], _∷_, _++_, append-assoc, append-nil}
 use mathlib.Core.Path.{_≡_, refl, ap, sym, _∙_}
@@ -25,16 +24,13 @@ module _ {A : Type 0} (has : List A → A → Bool) where
       go true = refl
       go false = entries-append ms (waiting a ∷ [])
 
-  pub length-enter : (ms : List (Marked A)) (a : A) → length (enter ms a) ≡ length (addOne has (entries ms) a)
-  length-enter ms a = sym (length-entries (enter ms a)) ∙ ap length (entries-enter ms a)
-
   -- ---- one after the other
 
-  unfoldable pub enterAll : List (Marked A) → List A → List (Marked A)
+  unfoldable enterAll : List (Marked A) → List A → List (Marked A)
   enterAll ms [] = ms
   enterAll ms (a ∷ rest) = enterAll (enter ms a) rest
 
-  pub entered-end : (ms : List (Marked A)) (xs : List A) (a : A) → enterAll ms (xs ++ (a ∷ [])) ≡ enter (enterAll ms xs) a
+  entered-end : (ms : List (Marked A)) (xs : List A) (a : A) → enterAll ms (xs ++ (a ∷ [])) ≡ enter (enterAll ms xs) a
   unfolding enterAll
   entered-end ms [] a = refl
   entered-end ms (x ∷ xs) a = entered-end (enter ms x) xs a
@@ -60,16 +56,21 @@ module _ {A : Type 0} (has : List A → A → Bool) where
         ap (λ (l : List A). ms ++ allWaiting l)
         (ap (drop (length ms)) (adds-new has add is (entries ms) xs) ∙ drop-at (entries ms) (newOf has (entries ms) xs) (length ms) (length-entries ms))
 
-    pub grown-entered : (ms : List (Marked A)) (xs : List A) → grown add ms xs ≡ enterAll ms xs
+    grown-entered : (ms : List (Marked A)) (xs : List A) → grown add ms xs ≡ enterAll ms xs
     grown-entered ms xs = grown-new ms xs ∙ sym (entered ms xs)
+
+    -- none, and one more at the end
+    pub grown-none : (ms : List (Marked A)) → grown add ms [] ≡ ms
+    unfolding enterAll
+    grown-none ms = grown-entered ms []
+
+    pub grown-end : (ms : List (Marked A)) (xs : List A) (a : A) → grown add ms (xs ++ (a ∷ [])) ≡ enter (grown add ms xs) a
+    grown-end ms xs a = grown-entered ms (xs ++ (a ∷ [])) ∙ entered-end ms xs a ∙ ap (λ (r : List (Marked A)). enter r a) (sym (grown-entered ms xs))
 
     entries-entered : (ms : List (Marked A)) (xs : List A) → entries (enterAll ms xs) ≡ add (entries ms) xs
     unfolding enterAll addOne
     entries-entered ms [] = sym (is .none (entries ms))
     entries-entered ms (x ∷ xs) = entries-entered (enter ms x) xs ∙ ap (λ (l : List A). add l xs) (entries-enter ms x) ∙ sym (is .one (entries ms) x xs)
-
-    pub length-entered : (ms : List (Marked A)) (xs : List A) → length (enterAll ms xs) ≡ length (add (entries ms) xs)
-    length-entered ms xs = sym (length-entries (enterAll ms xs)) ∙ ap length (entries-entered ms xs)
 
     pub entries-grown : (ms : List (Marked A)) (xs : List A) → entries (grown add ms xs) ≡ add (entries ms) xs
     entries-grown ms xs = ap entries (grown-entered ms xs) ∙ entries-entered ms xs

@@ -1,3 +1,2 @@
--- What tables hold after a packet was added, and tables with an index. Assumes nothing.
+-- What tables hold after a packet was added. Assumes nothing.
 pub mod Grown
-pub mod Indexed

@@ -8,7 +8,7 @@ use Rattle.protocol.specs.Store.{Marked}
 use Rattle.protocol.specs.Lent.{rowsOf, makeBlock}
 use Rattle.protocol.proofs.Lent.Rows.{length-rowsOf}
 use Rattle.search_tree.proofs.Lists.{place-within}
-use Rattle.block_index.specs.Index.{placeOfNumber}
+use Rattle.index.specs.Places.{placeOfNumber}
 use Rattle.subtrees.specs.Places.{blockAt, placeIn, parentPlace}
 
 -- also where there is no row

@@ -8,7 +8,7 @@ use Rattle.protocol.specs.Lent.{rowsOf, makeBlock}
 use Rattle.protocol.specs.Sound.{blocksSound}
 use Rattle.rows.specs.Rows.{rowAt}
 use Rattle.ballots.specs.Latest.{selected}
-use Rattle.block_index.specs.Index.{placeOfNumber}
+use Rattle.index.specs.Places.{placeOfNumber}
 use Rattle.subtrees.specs.Filled.{Filled}
 
 abbrev pub blockAt : List ℕ → ℕ → Block

@@ -5,7 +5,9 @@ ghost use Prim.Native.Nat.{_*_, _<_, _≤_};
 ghost use lib.Bits.{bitOr};
 ghost use lib.ListN.{length, getD, set, replicate};
 ghost use Rattle.masks.specs.Masks.{maskOf, bitOf, added};
-ghost use Rattle.block_index.specs.Index.{BlockIndex};
+ghost use Rattle.search_tree.specs.Tree.{Blank};
+ghost use Rattle.index.specs.Index.{Room};
+ghost use Rattle.index.specs.Places.{BlockIndex};
 ghost use Rattle.subtrees.specs.Places.{placeIn, Parents};
 ghost use Rattle.subtrees.specs.Subtrees.{voted, Subtrees};
 
@@ -14,7 +16,7 @@ fn place_in(blocks: &[u64], n: usize, links: &[u16], x: u64) -> usize
     requires { ⌜ (4 * n ≤ length (now blocks)) × BlockIndex (now blocks) n (now links) ⌝ }
     ensures { λ r. ⌜ r ≡ placeIn (now (blocks .entry)) n x ⌝ }
 {
-    let place = block_index::place(blocks, n, links, x);
+    let place = index::place(blocks, n, links, x);
     if place == 0 {
         return 0;
     }
@@ -23,7 +25,7 @@ fn place_in(blocks: &[u64], n: usize, links: &[u16], x: u64) -> usize
 
 // The place of each row's parent, each looked up once among the rows before it; and the index of all rows. The cost is two descents for each row.
 fn parent_places(blocks: &[u64], used: usize, links: &mut [u16], parents: &mut [u16])
-    requires { ⌜ (4 * used ≤ length (now blocks)) × (used ≤ 2048) × (now links ≡ replicate 10240 0) × (length (now parents) ≡ 2048) ⌝ }
+    requires { ⌜ (4 * used ≤ length (now blocks)) × (used ≤ 2048) × Room used (now links) × Blank (now links) × (length (now parents) ≡ 2048) ⌝ }
     ensures { λ r. ⌜ BlockIndex (now (blocks .entry)) used (now (links .exit)) × Parents (now (blocks .entry)) used (now (parents .exit)) ⌝ }
 {
     let mut i: usize = 0;
@@ -31,7 +33,7 @@ fn parent_places(blocks: &[u64], used: usize, links: &mut [u16], parents: &mut [
         let row = rows::block_at(blocks, i);
         let p = place_in(blocks, i, links, row.block.parent);
         search_tree::put_link(parents, i, p);
-        block_index::add(blocks, i, links);
+        index::add_block(blocks, i, links);
         i += 1;
     }
 }
@@ -90,7 +92,7 @@ fn hand_on(parents: &[u16], i: usize, masks: &mut [u64])
 }
 
 // The voters of each subtree, in one pass from the last row to the first: a row has all its voters when it hands them to its parent's row.
-// The cost is two descents for each row, one for each voter with a vote, and one step for each row. Stack: 20 KiB for the links of 2,048 blocks.
+// The cost is two descents for each row, one for each voter with a vote, and one step for each row. Stack: 32 KiB for the links of 2,048 blocks.
 pub fn supporters(
     blocks: &[u64],
     used: usize,
@@ -104,7 +106,7 @@ pub fn supporters(
     ensures { λ r. ⌜ Parents (now (blocks .entry)) used (now (parents .exit))
         × Subtrees (now (blocks .entry)) used (now (slots .entry)) (now (numbers .entry)) 1 (now (masks .exit)) ⌝ }
 {
-    let mut links = [0u16; 10240];
+    let mut links = [0u16; 16384];
     parent_places(blocks, used, &mut links, parents);
     place_voters(blocks, used, &links, slots, numbers, masks);
     let mut i: usize = used;

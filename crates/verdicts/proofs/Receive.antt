@@ -20,10 +20,9 @@ use Rattle.verdicts.specs.declared.Verdict.the-variants.{Pass}
 use Rattle.verdicts.specs.Verdict.{verdictOf}
 use Rattle.verdicts.specs.Lent.{lentVerdict, beatTests}
 use Rattle.verdicts.proofs.Passed.{Ready}
-use Rattle.verdicts.proofs.Sequence.{passed-before, sound-before, receive-front}
+use Rattle.verdicts.proofs.Sequence.{passed-before, receive-front}
 
--- what code knows: the tests of every call with a beat passed; then its answers t, i, j, u and the counts
-module _ (s : Settings) (m : Lent) (beat : ℕ) (bytes : List ℕ) {v : Verdict} (told : verdictOf v ≡ lentVerdict s (beatTests s beat) m) (is : v ≡ Pass) where
+module _ (s : Settings) (m : Lent) (beat : ℕ) (bytes : List ℕ) where
   abbrev blocks : List Block
   blocks = entries (rowsOf makeBlock (m .blocks) (m .blocksUsed))
 
@@ -47,54 +46,57 @@ module _ (s : Settings) (m : Lent) (beat : ℕ) (bytes : List ℕ) {v : Verdict}
   abbrev decided : rules.Verdict
   decided = lentVerdict s (λ p x. receiveTests s p x beat bytes) m
 
-  rest : decided
-      ≡ first (
-      test 8 (not (wellFormed bytes))
-      ∷ testSection 9 badBlock (packetOf bytes .blocks)
-      ∷ testSection 20 badVote (packetOf bytes .votes)
-      ∷ test 21 (not (headerAllowed (packetOf bytes)))
-      ∷ test 10 (ltb (placesIn (m .blocks)) blockCount || ltb (placesIn (m .votes)) voteCount)
-      ∷ []
-      )
-  unfolding receiveTests blocksAfter votesAfter nodeOf placesOf
-  rest = passed-before s (beatTests s beat) (λ p x. receiveTests s p x beat bytes) 2 (λ p x. receive-front s p x beat bytes) m told is
+  -- the tests of the header, which was found u, and of the places are left
+  abbrev pub Left : Bool → Type 0
+  Left u = decided ≡ first (test 21 (not u) ∷ test 10 (ltb (placesIn (m .blocks)) blockCount || ltb (placesIn (m .votes)) voteCount) ∷ [])
 
-  R : Ready s m
-  R = sound-before s (beatTests s beat) m told is
+  -- what code knows: the tests of every call with a beat passed; then its answers t, i, j
+  module _ {v : Verdict} (told : verdictOf v ≡ lentVerdict s (beatTests s beat) m) (is : v ≡ Pass) where
+    rest : decided
+        ≡ first (
+        test 8 (not (wellFormed bytes))
+        ∷ testSection 9 badBlock (packetOf bytes .blocks)
+        ∷ testSection 20 badVote (packetOf bytes .votes)
+        ∷ test 21 (not (headerAllowed (packetOf bytes)))
+        ∷ test 10 (ltb (placesIn (m .blocks)) blockCount || ltb (placesIn (m .votes)) voteCount)
+        ∷ []
+        )
+    unfolding receiveTests blocksAfter votesAfter nodeOf placesOf
+    rest = passed-before s (beatTests s beat) (λ p x. receiveTests s p x beat bytes) 2 (λ p x. receive-front s p x beat bytes) m told is
 
-  pub misformed : {t : Bool} → t ≡ wellFormed bytes → t ≡ false → refuse (by 8) ≡ decided
-  misformed f e = sym (rest ∙ unfold first in (rw (sym f ∙ e)))
+    pub misformed : {t : Bool} → t ≡ wellFormed bytes → t ≡ false → refuse (by 8) ≡ decided
+    misformed f e = sym (rest ∙ unfold first in (rw (sym f ∙ e)))
 
-  module _ {t : Bool} (f : t ≡ wellFormed bytes) (formed : t ≡ true) {b : ℕ} (counted : b ≡ length (packetOf bytes .blocks)) {i : ℕ} (bad : i ≡ badBlock) where
-    pub block-refused : i < b → refuse (byEntry 9 i) ≡ decided
-    block-refused h = sym (rest ∙ unfold first in (rw (sym f ∙ formed, sym bad, sym counted, lt-ltb i b h)))
+    module _ {t : Bool} (f : t ≡ wellFormed bytes) (formed : t ≡ true) {b : ℕ} (counted : b ≡ length (packetOf bytes .blocks)) {i : ℕ} (bad : i ≡ badBlock) where
+      pub block-refused : i < b → refuse (byEntry 9 i) ≡ decided
+      block-refused h = sym (rest ∙ unfold first in (rw (sym f ∙ formed, sym bad, sym counted, lt-ltb i b h)))
 
-    module _ (good : b ≤ i) {a : ℕ} (counted-votes : a ≡ length (packetOf bytes .votes)) {j : ℕ} (bad-vote : j ≡ badVote) where
-      pub vote-refused : j < a → refuse (byEntry 20 j) ≡ decided
-      vote-refused h = sym (rest ∙ unfold first in (rw (sym f ∙ formed, sym bad, sym counted, le-ltb i b good, sym bad-vote, sym counted-votes, lt-ltb j a h)))
+      module _ (good : b ≤ i) {a : ℕ} (counted-votes : a ≡ length (packetOf bytes .votes)) {j : ℕ} (bad-vote : j ≡ badVote) where
+        pub vote-refused : j < a → refuse (byEntry 20 j) ≡ decided
+        vote-refused h = sym (rest ∙ unfold first in (rw (sym f ∙ formed, sym bad, sym counted, le-ltb i b good, sym bad-vote, sym counted-votes, lt-ltb j a h)))
 
-      module _ (good-votes : a ≤ j) {u : Bool} (g : u ≡ headerAllowed (packetOf bytes)) where
-        -- the tests of the entries passed
-        left : decided ≡ first (test 21 (not u) ∷ test 10 (ltb (placesIn (m .blocks)) blockCount || ltb (placesIn (m .votes)) voteCount) ∷ [])
-        left =
+        pub entries-passed : a ≤ j → {u : Bool} → u ≡ headerAllowed (packetOf bytes) → Left u
+        entries-passed good-votes g =
             rest ∙ unfold first in (rw (sym f ∙ formed, sym bad, sym counted, le-ltb i b good, sym bad-vote, sym counted-votes, le-ltb j a good-votes, sym g))
 
-        pub header-refused : u ≡ false → refuse (by 21) ≡ decided
-        header-refused e = sym (left ∙ unfold first in (rw e))
+  -- the memory is sound; then the counts
+  module _ (R : Ready s m) (u : Bool) (left : Left u) where
+    pub header-refused : u ≡ false → refuse (by 21) ≡ decided
+    header-refused e = sym (left ∙ unfold first in (rw e))
 
-        module _ (allowed : u ≡ true) {p : ℕ} (places : p ≡ placesIn (m .blocks)) {n : ℕ} (new : m .blocksUsed + n ≡ blockCount) where
-          pub blocks-full : p - m .blocksUsed < n → refuse (by 10) ≡ decided
-          blocks-full h = sym (left ∙ unfold first in (rw (allowed, sym new, sym places, lt-ltb p (m .blocksUsed + n) (omega arith))))
+    module _ (allowed : u ≡ true) {p : ℕ} (places : p ≡ placesIn (m .blocks)) {n : ℕ} (new : m .blocksUsed + n ≡ blockCount) where
+      pub blocks-full : p - m .blocksUsed < n → refuse (by 10) ≡ decided
+      blocks-full h = sym (left ∙ unfold first in (rw (allowed, sym new, sym places, lt-ltb p (m .blocksUsed + n) (omega arith))))
 
-          module _ (fit : n ≤ p - m .blocksUsed) where
-            blocks-fit : ltb p (m .blocksUsed + n) ≡ false
-            blocks-fit = le-ltb p (m .blocksUsed + n) (omega (arith, R .fit-blocks))
+      module _ (fit : n ≤ p - m .blocksUsed) where
+        blocks-fit : ltb p (m .blocksUsed + n) ≡ false
+        blocks-fit = le-ltb p (m .blocksUsed + n) (omega (arith, R .fit-blocks))
 
-            module _ {q : ℕ} (vote-places : q ≡ placesIn (m .votes)) {from : ℕ} (kept : from ≡ keptFrom s (m .clock .merged)) {k : ℕ} (new-votes : m .votesUsed + k ≡ votesSince from) where
-              pub votes-full : q - m .votesUsed < k → refuse (by 10) ≡ decided
-              votes-full h =
-                  sym (left ∙ unfold first in (rw (allowed, sym new, sym places, blocks-fit, sym (new-votes ∙ ap votesSince kept), sym vote-places, lt-ltb q (m .votesUsed + k) (omega arith))))
+        module _ {q : ℕ} (vote-places : q ≡ placesIn (m .votes)) {from : ℕ} (kept : from ≡ keptFrom s (m .clock .merged)) {k : ℕ} (new-votes : m .votesUsed + k ≡ votesSince from) where
+          pub votes-full : q - m .votesUsed < k → refuse (by 10) ≡ decided
+          votes-full h =
+              sym (left ∙ unfold first in (rw (allowed, sym new, sym places, blocks-fit, sym (new-votes ∙ ap votesSince kept), sym vote-places, lt-ltb q (m .votesUsed + k) (omega arith))))
 
-              pub room : k ≤ q - m .votesUsed → pass ≡ decided
-              room h =
-                  sym (left ∙ unfold first in (rw (allowed, sym new, sym places, blocks-fit, sym (new-votes ∙ ap votesSince kept), sym vote-places, le-ltb q (m .votesUsed + k) (omega (arith, R .fit-votes)))))
+          pub room : k ≤ q - m .votesUsed → pass ≡ decided
+          room h =
+              sym (left ∙ unfold first in (rw (allowed, sym new, sym places, blocks-fit, sym (new-votes ∙ ap votesSince kept), sym vote-places, le-ltb q (m .votesUsed + k) (omega (arith, R .fit-votes)))))

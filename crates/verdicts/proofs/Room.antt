@@ -19,6 +19,8 @@ use Rattle.protocol.proofs.Calls.Refusal.{passed}
 use Rattle.protocol.proofs.Calls.Passed.{receives, proposes, votes}
 use Rattle.protocol.proofs.Lent.Rows.{length-rowsOf, places-fit}
 use Rattle.verdicts.specs.Lent.{lentVerdict}
+use Rattle.protocol.proofs.Store.Sound.{places-few}
+use Rattle.soundness.proofs.Facts.{sound-memory}
 use Rattle.verdicts.proofs.Passed.{passes}
 
 module _ (s : Settings) (m : Lent) where
@@ -27,6 +29,12 @@ module _ (s : Settings) (m : Lent) where
     pub receive-room-blocks : 4 * length (addBlocks (entries (rowsOf makeBlock (m .blocks) (m .blocksUsed))) (packetOf bytes .blocks)) ≤ length (m .blocks)
     unfolding nodeOf placesOf blocksAfter
     receive-room-blocks = places-fit (m .blocks) _ (receives s (placesOf m) (nodeOf m) beat bytes (passes s _ m e .1) .room-blocks)
+
+    pub receive-few-blocks : length (addBlocks (entries (rowsOf makeBlock (m .blocks) (m .blocksUsed))) (packetOf bytes .blocks)) ≤ 2048
+    unfolding nodeOf placesOf blocksAfter
+    receive-few-blocks =
+        let p = passes s _ m e in
+        omega (arith, receives s (placesOf m) (nodeOf m) beat bytes (p .1) .room-blocks, places-few (placesOf m) (sound-memory s m (p .0) .node .places) .0)
 
     pub receive-room-votes : 4 * length (addSince (keptFrom s (m .clock .merged)) (entries (rowsOf makeVote (m .votes) (m .votesUsed))) (packetOf bytes .votes)) ≤ length (m .votes)
     unfolding nodeOf placesOf votesAfter

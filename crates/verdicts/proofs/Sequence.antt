@@ -20,6 +20,10 @@ use Rattle.verdicts.specs.Verdict.{refusalOf, verdictOf}
 use Rattle.verdicts.specs.Lent.{lentVerdict, beatTests, dueTests}
 use Rattle.verdicts.proofs.Passed.{refuse-not-pass, Ready, pass-ready}
 
+-- a refusal does not pass
+pub not-passed : {r : Refusal} → Refuse r ≡ Pass → ⊥
+not-passed {r} e = refuse-not-pass (refusalOf r) (ap verdictOf e)
+
 -- ---- tests ts, and then tests us
 
 first-pass : (ts us : List Test) → first ts ≡ pass → first (ts ++ us) ≡ first us

@@ -1,9 +1,10 @@
 // The verdict of each call: its tests in document 01's order, for any memory that a caller may lend. Nothing is changed here.
-// The first test, whether the memory is sound, goes over all pairs of entries. Receive looks each entry of the packet up; the other
-// tests look through one table at most.
+// The first test, whether the memory is sound, takes two descents in an index for each entry; Receive takes two more for each entry of the packet.
+// The other tests look through one table at most.
 use protocol::Clock;
 use protocol::Settings;
 ghost use mathlib.Core.Path.{_≡_};
+ghost use lib.ListN.{replicate};
 ghost use Rattle.protocol.specs.Refusal.{first};
 ghost use Rattle.protocol.specs.Lent.{placesIn};
 ghost use Rattle.protocol.specs.Calls.Open.{openTests};
@@ -13,6 +14,11 @@ ghost use Rattle.protocol.specs.Calls.Vote.{voteTests};
 ghost use Rattle.protocol.specs.Calls.Merge.{mergeTests};
 ghost use Rattle.protocol.specs.Calls.Query.{queryTests};
 ghost use Rattle.protocol.specs.Calls.Write.{writeTests};
+ghost use Rattle.search_tree.specs.Tree.{Blank};
+ghost use Rattle.index.specs.Index.{Room};
+ghost use Rattle.soundness.specs.Parts.{TablesIndexed};
+ghost use Rattle.verdicts.specs.declared.Verdict.the-variants.{Pass};
+ghost use Rattle.verdicts.specs.Firsts.{FirstsNoted};
 ghost use Rattle.verdicts.specs.Verdict.{numberOf, indexOf, verdictOf};
 ghost use Rattle.verdicts.specs.Lent.{lent, lentVerdict, beatTests, dueTests};
 
@@ -143,7 +149,45 @@ pub fn open_verdict(settings: Settings, blocks: &[u64], votes: &[u64]) -> Verdic
 
 // ---- what several calls begin with
 
-// Sound memory, and a beat that is not below the one seen, of a slot within the limit.
+// Sound memory, and a beat that is not below the one seen, of a slot within the limit. If both hold, the links, all free before, are indices of
+// both tables.
+fn indexed_verdict(
+    settings: Settings,
+    clock: Clock,
+    blocks: &[u64],
+    blocks_used: usize,
+    votes: &[u64],
+    votes_used: usize,
+    beat: u64,
+    block_links: &mut [u16],
+    vote_links: &mut [u16],
+) -> Verdict
+    requires { ⌜ Room 2048 (now «block_links») × Blank (now «block_links») × Room 8192 (now «vote_links») × Blank (now «vote_links») ⌝ }
+    ensures { λ r. ⌜ (verdictOf r ≡ lentVerdict settings (beatTests settings beat) (lent (now (blocks .entry)) (now (votes .entry)) «blocks_used» «votes_used» clock))
+        × (r ≡ Pass → TablesIndexed (now (blocks .entry)) «blocks_used» (now («block_links» .exit)) (now (votes .entry)) «votes_used» (now («vote_links» .exit))) ⌝ }
+{
+    if !soundness::sound_indexed(
+        settings,
+        clock,
+        blocks,
+        blocks_used,
+        votes,
+        votes_used,
+        block_links,
+        vote_links,
+    ) {
+        return Verdict::Refuse(Refusal::Unsound);
+    }
+    if beat < clock.seen {
+        return Verdict::Refuse(Refusal::Beat);
+    }
+    if beat / 3 > 1000000000 {
+        return Verdict::Refuse(Refusal::Beat);
+    }
+    Verdict::Pass
+}
+
+// The same with no use for the indices. Stack: 112 KiB of links.
 fn beat_verdict(
     settings: Settings,
     clock: Clock,
@@ -155,16 +199,19 @@ fn beat_verdict(
 ) -> Verdict
     ensures { λ r. ⌜ verdictOf r ≡ lentVerdict settings (beatTests settings beat) (lent (now (blocks .entry)) (now (votes .entry)) «blocks_used» «votes_used» clock) ⌝ }
 {
-    if !soundness::lent_sound(settings, clock, blocks, blocks_used, votes, votes_used) {
-        return Verdict::Refuse(Refusal::Unsound);
-    }
-    if beat < clock.seen {
-        return Verdict::Refuse(Refusal::Beat);
-    }
-    if beat / 3 > 1000000000 {
-        return Verdict::Refuse(Refusal::Beat);
-    }
-    Verdict::Pass
+    let mut block_links = [0u16; 16384];
+    let mut vote_links = [0u16; 40960];
+    indexed_verdict(
+        settings,
+        clock,
+        blocks,
+        blocks_used,
+        votes,
+        votes_used,
+        beat,
+        &mut block_links,
+        &mut vote_links,
+    )
 }
 
 // And a beat of this phase that is not done.
@@ -203,6 +250,10 @@ fn due_verdict(
 
 // ---- the calls
 
+// Receive. The sets, empty before, hold the first places of the packet's entries if the verdict is to pass: so the entries need not be looked up
+// again when they are stored. The cost beside soundness is two descents for each block and two for each vote of the packet, if there are at most
+// 4,096 blocks and 16,384 votes in table and packet together; a longer packet, which no honest node sends, costs its entries times all entries.
+// Stack: 192 KiB of links.
 pub fn receive_verdict(
     settings: Settings,
     clock: Clock,
@@ -212,10 +263,16 @@ pub fn receive_verdict(
     votes_used: usize,
     beat: u64,
     bytes: &[u8],
+    block_firsts: &mut [u64],
+    vote_firsts: &mut [u64],
 ) -> Verdict
-    ensures { λ r. ⌜ verdictOf r ≡ lentVerdict settings (λ p x. receiveTests settings p x beat (now (bytes .entry))) (lent (now (blocks .entry)) (now (votes .entry)) «blocks_used» «votes_used» clock) ⌝ }
+    requires { ⌜ (now «block_firsts» ≡ replicate 1056 0) × (now «vote_firsts» ≡ replicate 1152 0) ⌝ }
+    ensures { λ r. ⌜ (verdictOf r ≡ lentVerdict settings (λ p x. receiveTests settings p x beat (now (bytes .entry))) (lent (now (blocks .entry)) (now (votes .entry)) «blocks_used» «votes_used» clock))
+        × (r ≡ Pass → FirstsNoted (now (blocks .entry)) «blocks_used» (now (votes .entry)) «votes_used» (now (bytes .entry)) (now («block_firsts» .exit)) (now («vote_firsts» .exit))) ⌝ }
 {
-    let begun = beat_verdict(
+    let mut block_links = [0u16; 24576];
+    let mut vote_links = [0u16; 73728];
+    let begun = indexed_verdict(
         settings,
         clock,
         blocks,
@@ -223,6 +280,8 @@ pub fn receive_verdict(
         votes,
         votes_used,
         beat,
+        &mut block_links,
+        &mut vote_links,
     );
     if let Verdict::Refuse(_) = begun {
         return begun;
@@ -231,22 +290,53 @@ pub fn receive_verdict(
         return Verdict::Refuse(Refusal::Form);
     }
     let header = packets::header_of(bytes);
-    let block = admission::first_bad_block(beat / 3, blocks, blocks_used, bytes);
-    if block < header.blocks as usize {
-        return Verdict::Refuse(Refusal::Block(block));
+    let block_count = header.blocks as usize;
+    let slot = beat / 3;
+    let blocks_fit = index::fits(blocks_used, block_count, 4096);
+    let admitted = admission::admit_blocks(
+        slot,
+        blocks,
+        blocks_used,
+        bytes,
+        blocks_fit,
+        &mut block_links,
+        block_firsts,
+    );
+    if admitted.bad < block_count {
+        return Verdict::Refuse(Refusal::Block(admitted.bad));
     }
-    let vote = admission::first_bad_vote(settings.nodes, beat / 3, blocks, blocks_used, bytes);
-    if vote < header.votes as usize {
+    let vote_count = header.votes as usize;
+    let vote = admission::admit_votes(
+        settings.nodes,
+        slot,
+        blocks,
+        blocks_used,
+        bytes,
+        blocks_fit,
+        &block_links,
+        block_firsts,
+    );
+    if vote < vote_count {
         return Verdict::Refuse(Refusal::Vote(vote));
     }
     if !admission::header_allowed(bytes) {
         return Verdict::Refuse(Refusal::Header);
     }
-    if ranges::places_in(blocks) - blocks_used < counting::new_blocks(blocks, blocks_used, bytes) {
+    if ranges::places_in(blocks) - blocks_used < admitted.new {
         return Verdict::Refuse(Refusal::Places);
     }
     let from = own::kept_from(settings, clock.merged);
-    if ranges::places_in(votes) - votes_used < counting::new_votes(votes, votes_used, bytes, from) {
+    let votes_fit = index::fits(votes_used, vote_count, 16384);
+    let new_votes = admission::new_votes(
+        votes,
+        votes_used,
+        bytes,
+        from,
+        votes_fit,
+        &mut vote_links,
+        vote_firsts,
+    );
+    if ranges::places_in(votes) - votes_used < new_votes {
         return Verdict::Refuse(Refusal::Places);
     }
     Verdict::Pass

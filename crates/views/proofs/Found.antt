@@ -1,25 +1,20 @@
--- The block with a number, or a vote, comes into view at the place that was found. Assumes nothing.
+-- The block with a number comes into view at the place that was found. Assumes nothing.
 use Prim.Native.Nat.{ℕ, _-_, _*_, _≤_, _<_}
-use mathlib.Core.Bool.{Bool, true}
+use mathlib.Core.Bool.{true}
 use mathlib.Core.List.{List}
 use mathlib.Core.Path.{_≡_, sym, _∙_}
 use borrow.Author.Tests.{eqb-true, eq-eqb}
 use lib.Dec.{eqb}
 use lib.ListN.{length}
 use Rattle.protocol.specs.declared.Block.{Block}
-use Rattle.protocol.specs.declared.Vote.{Vote}
-use Rattle.protocol.specs.Store.{Marked, visible, show, sameVote}
-use Rattle.protocol.specs.Lent.{rowsOf, stored, makeBlock, makeVote, blockRow, voteRow, marksSound}
-use Rattle.protocol.proofs.Store.Views.{vote-same, same-vote}
-use Rattle.protocol.proofs.Lent.Rows.{block-codec, vote-codec}
+use Rattle.protocol.specs.Store.{Marked, visible, show}
+use Rattle.protocol.specs.Lent.{rowsOf, stored, makeBlock, blockRow, marksSound}
+use Rattle.protocol.proofs.Lent.Rows.{block-codec}
 use Rattle.rows.specs.Rows.{rowAt, putRow}
-use Rattle.block_index.specs.Index.{numbersDiffer, placeOfNumber}
-use Rattle.vote_index.specs.Index.{votesDiffer, placeOfVote}
+use Rattle.index.specs.Places.{numbersDiffer, placeOfNumber}
 use Rattle.views.specs.Ancestors.{Ordered}
 use Rattle.views.proofs.Order.{numbered, apart-differ, ordered-apart}
 use Rattle.views.proofs.One.{one-below, one-none, one-at}
-
--- ---- the block with number x
 
 module _ (ws : List ℕ) (n x : ℕ) {place : ℕ} (e : place ≡ placeOfNumber (rowsOf makeBlock ws n) x) where
   pub block-below : (place ≡ 0 → ⊥) → place - 1 < n
@@ -38,25 +33,3 @@ module _ (ws : List ℕ) (n x : ℕ) {place : ℕ} (e : place ≡ placeOfNumber 
         one-at (numbered x) block-codec ws n e h s (λ a b. eqb (a .entry .number) (b .entry .number))
         (λ a b p q. eq-eqb (a .entry .number) (b .entry .number) (eqb-true (a .entry .number) x p ∙ sym (eqb-true (b .entry .number) x q)))
         (apart-differ (rowsOf makeBlock ws n) (ordered-apart (rowsOf makeBlock ws n) O))
-
--- ---- vote v
-
-module _ (ws : List ℕ) (n : ℕ) (v : Vote) {place : ℕ} (e : place ≡ placeOfVote (rowsOf makeVote ws n) v) where
-  abbrev isVote : Vote → Bool
-  isVote a = sameVote a v
-
-  pub vote-below : (place ≡ 0 → ⊥) → place - 1 < n
-  unfolding placeOfVote
-  vote-below = one-below isVote vote-codec ws n e
-
-  module _ (h : 4 * n ≤ length ws) (s : marksSound ws n ≡ true) where
-    pub vote-none : place ≡ 0 → ws ≡ stored voteRow (show isVote (rowsOf makeVote ws n)) ws
-    unfolding placeOfVote
-    vote-none = one-none isVote vote-codec ws n e h s
-
-    pub vote-at : {m : Marked Vote} {ws′ : List ℕ} → votesDiffer (rowsOf makeVote ws n) ≡ true → (place ≡ 0 → ⊥) → m ≡ rowAt makeVote ws (place - 1)
-        → ws′ ≡ putRow ws (place - 1) (voteRow (visible (m .entry))) → ws′ ≡ stored voteRow (show isVote (rowsOf makeVote ws n)) ws
-    unfolding placeOfVote votesDiffer
-    vote-at =
-        one-at isVote vote-codec ws n e h s (λ a b. sameVote (a .entry) (b .entry))
-        (λ a b p q. same-vote (a .entry) (b .entry) (vote-same (a .entry) v p ∙ sym (vote-same (b .entry) v q)))

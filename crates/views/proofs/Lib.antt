@@ -1,4 +1,5 @@
 -- The laws of what comes into view, and the proofs of the functions. Assumes nothing.
+pub mod Named
 pub mod Shows
 pub mod Order
 pub mod Ancestors

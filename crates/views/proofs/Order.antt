@@ -1,5 +1,5 @@
 -- Tables in order: numbers stand once, and parents stand before their children. Assumes nothing.
-use Prim.Native.Nat.{ℕ, zero, suc, _+_, _<_}
+use Prim.Native.Nat.{ℕ, zero, suc, _<_}
 use mathlib.Core.Bool.{Bool, true, false, cond}
 use mathlib.Core.List.{List, [], _∷_, _++_, List·Memᴰ, List·Memᴰ·head, List·Memᴰ·tail, List·Memᴰ·cases-cons, List·Memᴰ·not-nil, Memᴰ·append-right, append-assoc, append-nil, head-eq-of-cons-eq}
 use mathlib.Core.Logic.{_⊎_, inl, inr}
@@ -20,7 +20,7 @@ use Rattle.protocol.proofs.Store.Follow.{allFollow, blockFollows, follow-apart}
 use Rattle.protocol.proofs.Store.Tables.{Table, table-true, table-holds, table-sound}
 use Rattle.protocol.proofs.Store.Views.{entries-all, view-all, view-stored}
 use Rattle.search_tree.specs.Lists.{distinct}
-use Rattle.block_index.specs.Index.{numbersDiffer}
+use Rattle.index.specs.Places.{numbersDiffer}
 use Rattle.views.specs.Ancestors.{Ordered}
 use Rattle.views.proofs.Shows.{all-show}
 

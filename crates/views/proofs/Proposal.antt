@@ -21,7 +21,8 @@ use Rattle.protocol.proofs.Filters.Relations.{Cast}
 use Rattle.protocol.proofs.Store.Tables.{Closed}
 use Rattle.protocol.proofs.Basics.Members.{any-true, any-holds}
 use Rattle.protocol.proofs.Store.Views.{entries-show, view-stored, show-brings, show-from}
-use Rattle.views.specs.Ancestors.{Ordered, showAncestors, named}
+use Rattle.index.specs.Firsts.{named}
+use Rattle.views.specs.Ancestors.{Ordered, showAncestors}
 use Rattle.views.proofs.Shows.{show-both, show-agree}
 use Rattle.views.proofs.Order.{entry-in, shown-row, ordered-sound, ordered-apart}
 use Rattle.views.proofs.Ancestors.{down}

@@ -1,12 +1,10 @@
 -- What comes into view twice, by equal tests, or not at all. Assumes nothing.
 use Prim.Native.Nat.{ℕ, zero, suc}
-use mathlib.Core.Bool.{Bool, true, false, _||_, or-assoc, or-false, or-true}
-use mathlib.Core.List.{List, [], _∷_, _++_, List·Memᴰ, List·Memᴰ·head, List·Memᴰ·tail}
-use mathlib.Core.Path.{_≡_, refl, ap, sym, _∙_}
+use mathlib.Core.Bool.{Bool, true, false, _||_, or-assoc, or-true}
+use mathlib.Core.List.{List, [], _∷_, List·Memᴰ, List·Memᴰ·head, List·Memᴰ·tail}
+use mathlib.Core.Path.{_≡_, refl, sym, _∙_}
 use lib.ListN.{drop}
-use Rattle.protocol.specs.Lists.{any}
 use Rattle.protocol.specs.Store.{Marked, entries, show, showAll}
-use Rattle.protocol.proofs.Basics.Members.{any-append}
 
 module _ {A : Type 0} where
   pub show-both : (p q : A → Bool) (ms : List (Marked A)) → show q (show p ms) ≡ show (λ a. p a || q a) ms
@@ -29,13 +27,6 @@ module _ {A : Type 0} where
       go : (t : Bool) → (t ≡ false → p (m .entry) ≡ q (m .entry)) → (t || p (m .entry)) ≡ (t || q (m .entry))
       go true h = refl
       go false h = h refl
-
-  -- one by one: what passes for some of the entries ds, and then for c
-  pub show-one : {B : Type 0} (q : B → A → Bool) (ds : List B) (c : B) (ms : List (Marked A))
-      → show (q c) (show (λ a. any (λ d. q d a) ds) ms) ≡ show (λ a. any (λ d. q d a) (ds ++ (c ∷ []))) ms
-  unfolding any
-  show-one {B = B} q ds c ms =
-      show-both (λ a. any (λ d. q d a) ds) (q c) ms ∙ show-ext (λ a. any (λ d. q d a) ds || q c a) (λ a. any (λ d. q d a) (ds ++ (c ∷ []))) ms (λ a n. sym (any-append (λ d. q d a) ds (c ∷ []) ∙ ap (λ (b : Bool). any (λ d. q d a) ds || b) (or-false (q c a))))
 
   -- what passes is in view already
   pub show-idle : (p : A → Bool) (ms : List (Marked A)) → ((m : Marked A) → List·Memᴰ m ms → p (m .entry) ≡ true → m .shown ≡ true) → show p ms ≡ ms

@@ -1,14 +1,12 @@
 -- Blocks that come into view with those that stand on them. Assumes nothing.
 use Prim.Native.Nat.{ℕ}
-use mathlib.Core.Bool.{Bool, true, _||_}
+use mathlib.Core.Bool.{true}
 use mathlib.Core.List.{List}
 use mathlib.Core.Path.{_≡_}
-use lib.Dec.{eqb}
 use Rattle.protocol.specs.declared.Block.{Block}
 use Rattle.protocol.specs.Lists.{any}
 use Rattle.protocol.specs.Chain.{above}
 use Rattle.protocol.specs.Store.{Marked, entries, inView, show, showAll}
-use Rattle.protocol.specs.Packet.{Packet}
 use Rattle.protocol.specs.Sound.{blocksSound}
 
 -- block 0 stands first and every other block after its parent, whichever are in view
@@ -18,7 +16,3 @@ Ordered ms = (slot : ℕ) × (blocksSound slot (showAll ms) ≡ true)
 -- the blocks that a block in view stands on come into view
 unfoldable pub showAncestors : List (Marked Block) → List (Marked Block)
 showAncestors ms = show (λ b. any (λ c. above (entries ms) (c .number) (b .number)) (inView ms)) ms
-
--- a block of the packet, or one that a vote of it is for
-unfoldable pub named : Packet → Block → Bool
-named p b = any (λ c. eqb (b .number) (c .number)) (p .blocks) || any (λ a. eqb (b .number) (a .number)) (p .votes)

@@ -1,3 +1,3 @@
--- Blocks that come into view with those that stand on them, and the indices by which entries are looked up. Assumes nothing.
+-- Rows that a packet names, and blocks that come into view with those that stand on them. Assumes nothing.
+pub mod Named
 pub mod Ancestors
-pub mod Indexed

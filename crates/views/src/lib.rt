@@ -1,130 +1,87 @@
-// Bringing a proposal's entries into view: its votes and blocks one by one, and then all that they stand on in one pass.
-// Each entry and each parent is looked up in an index of the table, in links that the caller lends. A descent meets at most 28 blocks
-// or 45 votes of sound tables, whatever numbers, voters and slots are looked up. A mark is in no key, so the index serves until a row is added.
-// Tables that sound memory never has get no index and are searched, a step for each row: those with more than 2,048 blocks or 8,192 votes,
-// and those in which a vote stands twice. No function keeps an array: the largest call takes less than 1 KB of stack.
-use protocol::Vote;
+// Bringing a proposal's entries into view: its own in one pass over each table, and then all that its blocks stand on in another.
+// Which rows are the packet's own was found when it was tested: they are in a set of places, or stand behind those that were there before it.
+// A parent is looked up in an index of the blocks, in links that the caller lends; a descent meets at most 27 blocks, whatever numbers are looked
+// up. A mark is in no key, so the index serves until a row is added. No function keeps an array: the largest call takes less than 1 KB of stack.
 use rows::BlockRow;
-use rows::Place;
 use rows::VoteRow;
-ghost use mathlib.Core.Bool.{true, _&&_};
+ghost use mathlib.Core.Bool.{true};
 ghost use mathlib.Core.Path.{_≡_};
 ghost use Prim.Native.Nat.{_*_, _≤_};
-ghost use lib.Dec.{eqb, leb};
-ghost use lib.ListN.{length, replicate};
-ghost use Rattle.protocol.specs.Store.{show, sameVote};
+ghost use lib.Dec.{eqb};
+ghost use lib.ListN.{length};
+ghost use Rattle.protocol.specs.declared.Block.{Block};
+ghost use Rattle.protocol.specs.declared.Vote.{Vote};
+ghost use Rattle.protocol.specs.Store.{show};
 ghost use Rattle.protocol.specs.Lent.{rowsOf, stored, makeBlock, makeVote, blockRow, voteRow, marksSound};
-ghost use Rattle.block_index.specs.Index.{placeOfNumber};
-ghost use Rattle.vote_index.specs.Index.{votesDiffer};
+ghost use Rattle.index.specs.Places.{BlockIndex};
 ghost use Rattle.views.specs.Ancestors.{Ordered, showAncestors};
-ghost use Rattle.views.specs.Indexed.{BlocksIndexed, VotesIndexed};
+ghost use Rattle.views.specs.Named.{namedAt, ShownAt};
 
-// ---- votes
+// ---- the packet's own entries
 
-// The index of the votes, in links that are all free; and whether they have one: if there are no more than 8,192 and none stands twice.
-// The cost is a descent for each row.
-pub fn index_votes(votes: &[u64], used: usize, links: &mut [u16]) -> bool
-    requires { ⌜ (4 * used ≤ length (now votes)) × (now links ≡ replicate 40960 0) ⌝ }
-    ensures { λ r. ⌜ (r ≡ (leb used 8192 && votesDiffer (rowsOf makeVote (now (votes .entry)) used)))
-        × (r ≡ true → VotesIndexed (now (votes .entry)) used (now (links .exit))) ⌝ }
+// Whether the packet names row j: it stands at place `before` or later, or is in the set.
+fn is_named(before: usize, firsts: &[u64], j: usize) -> bool
+    requires { ⌜ before ≤ 64 * length (now firsts) ⌝ }
+    ensures { λ r. ⌜ r ≡ namedAt before (now (firsts .entry)) j ⌝ }
 {
-    if used > 8192 {
-        return false;
+    if before <= j {
+        return true;
     }
-    vote_index::build(votes, used, links)
+    bitset::has(firsts, j)
 }
 
-// The vote comes into view, found by the index. The cost is a descent.
-fn show_found_vote(votes: &mut [u64], used: usize, links: &[u16], vote: Vote)
-    requires { ⌜ (4 * used ≤ length (now votes)) × (marksSound (now votes) used ≡ true) × VotesIndexed (now votes) used (now links) ⌝ }
-    ensures { λ r. ⌜ now (votes .exit) ≡ stored voteRow (show (λ a. sameVote a vote) (rowsOf makeVote (now (votes .entry)) used)) (now (votes .entry)) ⌝ }
+// The blocks that the packet names come into view: those at place `before` and later, and those whose place is in `firsts`.
+// The cost is one step for each row.
+pub fn show_named_blocks(blocks: &mut [u64], before: usize, used: usize, firsts: &[u64])
+    requires { ⌜ (4 * used ≤ length (now blocks)) × (marksSound (now blocks) used ≡ true) × (before ≤ used) × (before ≤ 64 * length (now firsts)) ⌝ }
+    ensures { λ r. ⌜ ShownAt Block makeBlock blockRow (now (blocks .entry)) used (namedAt before (now (firsts .entry))) (now (blocks .exit)) ⌝ }
 {
-    let place = vote_index::place(votes, used, links, vote);
-    if place != 0 {
-        let row = rows::vote_at(votes, place - 1);
-        let held = row.vote;
-        rows::put_vote(
-            votes,
-            place - 1,
-            VoteRow {
-                vote: held,
-                shown: true,
-            },
-        );
-    }
-}
-
-// The same with no index: every row is compared. The cost is a step for each row.
-fn show_equal_votes(votes: &mut [u64], used: usize, vote: Vote)
-    requires { ⌜ (4 * used ≤ length (now votes)) × (marksSound (now votes) used ≡ true) ⌝ }
-    ensures { λ r. ⌜ now (votes .exit) ≡ stored voteRow (show (λ a. sameVote a vote) (rowsOf makeVote (now (votes .entry)) used)) (now (votes .entry)) ⌝ }
-{
-    let mut i: usize = 0;
-    while i < used {
-        let row = rows::vote_at(votes, i);
-        let held = row.vote;
-        if rows::same_vote(held, vote) {
-            rows::put_vote(
-                votes,
-                i,
-                VoteRow {
-                    vote: held,
+    for j in 0..used {
+        if is_named(before, firsts, j) {
+            let row = rows::block_at(blocks, j);
+            let block = row.block;
+            rows::put_block(
+                blocks,
+                j,
+                BlockRow {
+                    block: block,
                     shown: true,
                 },
             );
         }
-        i += 1;
     }
 }
 
-// This vote comes into view. `indexed` is what `index_votes` answered when it wrote the links; marks may have changed since.
-// The cost is a descent if that is true.
-pub fn show_vote(votes: &mut [u64], used: usize, links: &[u16], indexed: bool, vote: Vote)
-    requires { ⌜ (4 * used ≤ length (now votes)) × (marksSound (now votes) used ≡ true) × (indexed ≡ true → VotesIndexed (now votes) used (now links)) ⌝ }
-    ensures { λ r. ⌜ now (votes .exit) ≡ stored voteRow (show (λ a. sameVote a vote) (rowsOf makeVote (now (votes .entry)) used)) (now (votes .entry)) ⌝ }
+// The same of the votes.
+pub fn show_named_votes(votes: &mut [u64], before: usize, used: usize, firsts: &[u64])
+    requires { ⌜ (4 * used ≤ length (now votes)) × (marksSound (now votes) used ≡ true) × (before ≤ used) × (before ≤ 64 * length (now firsts)) ⌝ }
+    ensures { λ r. ⌜ ShownAt Vote makeVote voteRow (now (votes .entry)) used (namedAt before (now (firsts .entry))) (now (votes .exit)) ⌝ }
 {
-    if indexed {
-        show_found_vote(votes, used, links, vote);
-    } else {
-        show_equal_votes(votes, used, vote);
+    for j in 0..used {
+        if is_named(before, firsts, j) {
+            let row = rows::vote_at(votes, j);
+            let vote = row.vote;
+            rows::put_vote(
+                votes,
+                j,
+                VoteRow {
+                    vote: vote,
+                    shown: true,
+                },
+            );
+        }
     }
 }
 
-// ---- blocks
+// ---- what its blocks stand on
 
-// The index of the blocks, in links that are all free, if there are no more than 2,048. The cost is a descent for each row.
-pub fn index_blocks(blocks: &[u64], used: usize, links: &mut [u16])
-    requires { ⌜ (4 * used ≤ length (now blocks)) × (now links ≡ replicate 10240 0) ⌝ }
-    ensures { λ r. ⌜ BlocksIndexed (now (blocks .entry)) used (now (links .exit)) ⌝ }
-{
-    if used <= 2048 {
-        block_index::build(blocks, used, links);
-    }
-}
-
-// One more than the place of the block with the number, or 0. The cost is a descent, or with no index a step for each row.
-fn place_of(blocks: &[u64], used: usize, links: &[u16], number: u64) -> usize
-    requires { ⌜ (4 * used ≤ length (now blocks)) × BlocksIndexed (now blocks) used (now links) ⌝ }
-    ensures { λ r. ⌜ r ≡ placeOfNumber (rowsOf makeBlock (now (blocks .entry)) used) number ⌝ }
-{
-    if used <= 2048 {
-        return block_index::place(blocks, used, links, number);
-    }
-    let place = rows::find_block(blocks, used, number);
-    match place {
-        Place::At(k) => k + 1,
-        Place::Missing => 0,
-    }
-}
-
-// The block with this number comes into view. The links are those that `index_blocks` wrote; marks may have changed since.
-// The cost is a descent.
-pub fn show_block(blocks: &mut [u64], used: usize, links: &[u16], number: u64)
+// The block with this number comes into view. The cost is a descent.
+fn show_block(blocks: &mut [u64], used: usize, links: &[u16], number: u64)
     requires { ⌜ (4 * used ≤ length (now blocks)) × (marksSound (now blocks) used ≡ true) × Ordered (rowsOf makeBlock (now blocks) used)
-        × BlocksIndexed (now blocks) used (now links) ⌝ }
+        × BlockIndex (now blocks) used (now links) ⌝ }
     ensures { λ r. ⌜ now (blocks .exit) ≡ stored blockRow (show (λ b. eqb (b .number) number) (rowsOf makeBlock (now (blocks .entry)) used)) (now (blocks .entry)) ⌝ }
 {
-    let place = place_of(blocks, used, links, number);
+    let place = index::place(blocks, used, links, number);
     if place != 0 {
         let row = rows::block_at(blocks, place - 1);
         let block = row.block;
@@ -140,10 +97,11 @@ pub fn show_block(blocks: &mut [u64], used: usize, links: &[u16], number: u64)
 }
 
 // The blocks that a block in view stands on come into view: parents stand before their children, so one pass from the last row
-// to the first is enough. The cost is a descent for each row in view.
+// to the first is enough. The links are those that `index::build_blocks` wrote; marks may have changed since. The cost is a descent for each
+// row in view.
 pub fn show_ancestors(blocks: &mut [u64], used: usize, links: &[u16])
     requires { ⌜ (4 * used ≤ length (now blocks)) × (marksSound (now blocks) used ≡ true) × Ordered (rowsOf makeBlock (now blocks) used)
-        × BlocksIndexed (now blocks) used (now links) ⌝ }
+        × BlockIndex (now blocks) used (now links) ⌝ }
     ensures { λ r. ⌜ now (blocks .exit) ≡ stored blockRow (showAncestors (rowsOf makeBlock (now (blocks .entry)) used)) (now (blocks .entry)) ⌝ }
 {
     let mut i = used;

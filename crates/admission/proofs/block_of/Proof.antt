@@ -7,7 +7,7 @@ use mathlib.Core.Path.{_≡_, refl, ap, _∙_}
 use lib.ListN.{getD}
 use Rattle.protocol.specs.declared.Block.{Block}
 use Rattle.protocol.specs.Chain.{found, missing, genesis}
-use Rattle.known_blocks.specs.Known.{foundAt}
+use Rattle.index.specs.Places.{foundAt}
 use Rattle.admission.proofs.block_of.Statement.{statement}
 use Rattle.admission.proofs.block_of.Tie as tie
 

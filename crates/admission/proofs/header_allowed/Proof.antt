@@ -16,8 +16,8 @@ use Rattle.protocol.specs.Packet.{packetOf}
 use Rattle.protocol.specs.Calls.Receive.{headerAllowed}
 use Rattle.packets.specs.declared.Header.{Header}
 use Rattle.packets.specs.Header.{headerOf}
-use Rattle.admission.proofs.Header.{header-kind, header-slot, header-number, header-blocks}
-use Rattle.admission.proofs.Entries.{any-hit, any-miss, any-end}
+use Rattle.packets.proofs.Headers.{header-kind, header-slot, header-number, header-blocks}
+use Rattle.packets.proofs.Turns.{any-hit, any-miss, any-end}
 use Rattle.admission.proofs.header_allowed.Statement.{statement}
 use Rattle.admission.proofs.header_allowed.Tie as tie
 
@@ -69,18 +69,6 @@ returns-3 c =
     sym (l .inv .1 ∙ any-end _ _ genesis _ (l .i) (l .inv .0) (c .loop-test .left))
 
 pub header-allowed-spec : {M : Type 1} → statement M
-header-allowed-spec =
-    tie.close
-    (tie.spec
-    Inv-loop
-    μ-loop
-    (λ c κs. search needs)
-    returns
-    loop-holds
-    (λ c κs. search needs)
-    (λ c κs. search needs)
-    returns-2
-    (λ c. search needs)
-    (λ c. search needs)
-    loop-again
-    returns-3)
+header-allowed-spec {M} =
+    let s = tie.spec {M = M} Inv-loop μ-loop (λ c κs. search needs) returns loop-holds (λ c κs. search needs) (λ c κs. search needs) returns-2 in
+    tie.close (s (λ c. search needs) (λ c. search needs) loop-again returns-3)

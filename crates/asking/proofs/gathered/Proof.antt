@@ -32,22 +32,7 @@ unfolding gather
 returns-7 c h d p q = fast-answers h d _ (was-block h _ (sym (ap answerOf (c .before .before .before .before .before .before .before .head2 .given .1)) ∙ p)) (was-block d _ (sym (ap answerOf (c .before .before .before .before .deep2 .given .1)) ∙ q)) (ap answerOf (c .before .fast2 .given .1))
 
 pub gathered-spec : {M : Type 1} → statement M
-gathered-spec =
-    tie.close
-    (tie.spec
-    (λ c. search needs)
-    (λ c. search needs)
-    (λ c. search needs)
-    (λ c. search needs)
-    (λ c. search needs)
-    (λ c. search needs)
-    (λ c. search needs)
-    (λ c. search needs)
-    (λ c. search needs)
-    returns
-    returns-2
-    returns-3
-    returns-4
-    returns-5
-    returns-6
-    returns-7)
+gathered-spec {M} =
+    let s₁ = tie.spec {M = M} (λ c. search needs) (λ c. search needs) (λ c. search needs) (λ c. search needs) (λ c. search needs) (λ c. search needs) in
+    let s₂ = s₁ (λ c. search needs) (λ c. search needs) (λ c. search needs) returns returns-2 returns-3 returns-4 returns-5 returns-6 in
+    tie.close (s₂ returns-7)

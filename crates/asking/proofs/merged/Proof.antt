@@ -24,17 +24,6 @@ returns-2 c =
     step-done _ _ (merge-lawful _ _) _ (v .before .before .before .before .before .before .before .before .before .before .before .before .pre) (v .before .before .before .before .before .merge .ensures) _ (v .verdict .ensures) (c .before .before .before .before .before .enum-told .given .1) (c .queried .ensures)
 
 pub merged-spec : {M : Type 1} → statement M
-merged-spec =
-    tie.close
-    (tie.spec
-    (λ c κs. search needs)
-    (λ c κs. search needs)
-    (λ c. search needs)
-    (λ c. search needs)
-    queried-requires
-    (λ c. search needs)
-    (λ c. search needs)
-    returns
-    (λ c. search needs)
-    (λ c. search needs)
-    returns-2)
+merged-spec {M} =
+    let s = tie.spec {M = M} (λ c κs. search needs) (λ c κs. search needs) (λ c. search needs) (λ c. search needs) queried-requires (λ c. search needs) in
+    tie.close (s (λ c. search needs) returns (λ c. search needs) (λ c. search needs) returns-2)

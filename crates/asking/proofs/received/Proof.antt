@@ -24,17 +24,6 @@ returns-2 c =
     step-done _ _ (receive-lawful _ _ _) _ (v .before .before .before .before .before .before .before .before .before .before .before .before .before .pre) (v .before .before .before .before .before .receive .ensures) _ (v .verdict .ensures) (c .before .before .before .before .before .before .before .before .before .enum-told .given .1) (c .before .before .before .before .merged .ensures)
 
 pub received-spec : {M : Type 1} → statement M
-received-spec =
-    tie.close
-    (tie.spec
-    (λ c κs. search needs)
-    (λ c κs. search needs)
-    (λ c. search needs)
-    (λ c. search needs)
-    merged-requires
-    (λ c. search needs)
-    (λ c. search needs)
-    returns
-    (λ c. search needs)
-    (λ c. search needs)
-    returns-2)
+received-spec {M} =
+    let s = tie.spec {M = M} (λ c κs. search needs) (λ c κs. search needs) (λ c. search needs) (λ c. search needs) merged-requires (λ c. search needs) in
+    tie.close (s (λ c. search needs) returns (λ c. search needs) (λ c. search needs) returns-2)

@@ -25,13 +25,4 @@ returns-4 c = sym (ap (λ (r : Reply). verdictIn (replyOf r)) (c .before .reply 
 
 pub verdict-spec : {M : Type 1} → statement M
 verdict-spec =
-    tie.close
-    (tie.spec
-    (λ c. search needs)
-    (λ c. search needs)
-    (λ c. search needs)
-    (λ c. search needs)
-    returns
-    returns-2
-    returns-3
-    returns-4)
+    tie.close (tie.spec (λ c. search needs) (λ c. search needs) (λ c. search needs) (λ c. search needs) returns returns-2 returns-3 returns-4)

@@ -12,7 +12,7 @@ vote-at-requires-2 : tie.Need-vote-at-requires-2
 vote-at-requires-2 c κs =
     let f = c .before .before .before in
     let a = f .before .before .before in
-    omega (arith, placed-below (a .add .ensures .0) (f .if1 .taken), a .before .before .before .before .pre .0)
+    omega (arith, placed-below (a .slot-add .ensures .0) (f .if1 .taken), a .before .before .before .before .pre .0)
 
 with-requires : tie.Need-with-requires
 with-requires c κs =
@@ -29,9 +29,9 @@ returns c =
     let f = v .before in
     let a = f .before .before .before in
     let s = a .before .before .before .before in (
-      double-turn _ _ _ _ (v .vote-at .ensures) _ _ (s .pre .4) (a .add .ensures .0) _ (m .vote-at2 .ensures) (f .if1 .taken) (sym (k .counts .ensures) ∙ m .before .if2 .taken)
+      double-turn _ _ _ _ (v .vote-at .ensures) _ _ (s .pre .4) (a .slot-add .ensures .0) _ (m .vote-at2 .ensures) (f .if1 .taken) (sym (k .counts .ensures) ∙ m .before .if2 .taken)
           (c .with .ensures) (d .if3 .taken),
-      a .add .ensures .1,
+      a .slot-add .ensures .1,
     )
 
 returns-2 : tie.Need-returns-2
@@ -42,9 +42,9 @@ returns-2 c =
     let f = v .before in
     let a = f .before .before .before in
     let s = a .before .before .before .before in (
-      again-turn _ _ _ _ (v .vote-at .ensures) _ _ (s .pre .4) (a .add .ensures .0) _ (m .vote-at2 .ensures) (f .if1 .taken) (sym (k .counts .ensures) ∙ m .before .if2 .taken)
+      again-turn _ _ _ _ (v .vote-at .ensures) _ _ (s .pre .4) (a .slot-add .ensures .0) _ (m .vote-at2 .ensures) (f .if1 .taken) (sym (k .counts .ensures) ∙ m .before .if2 .taken)
           (c .if3 .left),
-      a .add .ensures .1,
+      a .slot-add .ensures .1,
     )
 
 returns-3 : tie.Need-returns-3
@@ -53,29 +53,15 @@ returns-3 c =
     let v = k .before in
     let a = v .before .before .before .before in
     let s = a .before .before .before .before in
-    (out-turn _ _ _ _ (v .vote-at .ensures) _ _ (s .pre .4) (sym (k .counts .ensures) ∙ c .if2 .left), a .add .ensures .1)
+    (out-turn _ _ _ _ (v .vote-at .ensures) _ _ (s .pre .4) (sym (k .counts .ensures) ∙ c .if2 .left), a .slot-add .ensures .1)
 
 returns-4 : tie.Need-returns-4
 returns-4 c =
     let a = c .before .before .before in
     let s = a .before .before .before .before in
-    (alone-turn _ _ _ _ refl _ _ (s .pre .4) (a .add .ensures .0) (c .if1 .left), a .add .ensures .1)
+    (alone-turn _ _ _ _ refl _ _ (s .pre .4) (a .slot-add .ensures .0) (c .if1 .left), a .slot-add .ensures .1)
 
 pub equivocators-next-spec : {M : Type 1} → statement M
-equivocators-next-spec =
-    tie.close
-    (tie.spec
-    (λ c κs. search needs)
-    (λ c κs. search needs)
-    (λ c κs. search needs)
-    (λ c. search needs)
-    vote-at-requires-2
-    with-requires
-    (λ c. search needs)
-    returns
-    (λ c. search needs)
-    returns-2
-    (λ c. search needs)
-    returns-3
-    (λ c. search needs)
-    returns-4)
+equivocators-next-spec {M} =
+    let s = tie.spec {M = M} (λ c κs. search needs) (λ c κs. search needs) (λ c κs. search needs) (λ c. search needs) vote-at-requires-2 with-requires in
+    tie.close (s (λ c. search needs) returns (λ c. search needs) returns-2 (λ c. search needs) returns-3 (λ c. search needs) returns-4)

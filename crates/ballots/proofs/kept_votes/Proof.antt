@@ -65,16 +65,4 @@ returns c =
 
 pub kept-votes-spec : {M : Type 1} → statement M
 kept-votes-spec =
-    tie.close
-    (tie.spec
-    Inv-loop
-    μ-loop
-    gather-requires
-    loop-holds
-    drop-voter-requires
-    add-v
-    loop-less
-    loop-again
-    same-length
-    same-length-2
-    returns)
+    tie.close (tie.spec Inv-loop μ-loop gather-requires loop-holds drop-voter-requires add-v loop-less loop-again same-length same-length-2 returns)

@@ -72,20 +72,6 @@ returns-3 c =
     out-turn _ _ _ _ (v .vote-at .ensures) _ _ (s .pre .4) (sym (d .counts .ensures) ∙ c .if1 .left)
 
 pub latest-next-spec : {M : Type 1} → statement M
-latest-next-spec =
-    tie.close
-    (tie.spec
-    vote-at-requires
-    counts-requires
-    mul-is-later
-    slice-read-is-later
-    is-later-requires
-    mul-slots
-    slice-write-slots
-    mul-numbers
-    slice-write-numbers
-    same-length
-    same-length-2
-    returns
-    returns-2
-    returns-3)
+latest-next-spec {M} =
+    let s = tie.spec {M = M} vote-at-requires counts-requires mul-is-later slice-read-is-later is-later-requires mul-slots slice-write-slots mul-numbers in
+    tie.close (s slice-write-numbers same-length same-length-2 returns returns-2 returns-3)

@@ -44,17 +44,6 @@ returns-4 c =
     ∙ sym (ap (answerOf _) (t .reply3 .given .1))
 
 pub answer-of-spec : {M : Type 1} → statement M
-answer-of-spec =
-    tie.close
-    (tie.spec
-    (λ c. search needs)
-    (λ c. search needs)
-    (λ c. search needs)
-    (λ c. search needs)
-    (λ c. search needs)
-    (λ c κs. search needs)
-    (λ c κs. search needs)
-    returns
-    returns-2
-    returns-3
-    returns-4)
+answer-of-spec {M} =
+    let s = tie.spec {M = M} (λ c. search needs) (λ c. search needs) (λ c. search needs) (λ c. search needs) (λ c. search needs) (λ c κs. search needs) in
+    tie.close (s (λ c κs. search needs) returns returns-2 returns-3 returns-4)

@@ -12,14 +12,6 @@ returns c =
     opens _ _ _ _ (k .before .settings-in .ensures) (k .clock-in .ensures) (n .«open» .ensures) (o .clock-out .ensures) (c .answer-of .ensures)
 
 pub likvost-open-spec : {M : Type 1} → statement M
-likvost-open-spec =
-    tie.close
-    (tie.spec
-    (λ c κs. search needs)
-    (λ c κs. search needs)
-    (λ c κs. search needs)
-    (λ c κs. search needs)
-    (λ c κs. search needs)
-    (λ c. search needs)
-    (λ c. search needs)
-    returns)
+likvost-open-spec {M} =
+    let s = tie.spec {M = M} (λ c κs. search needs) (λ c κs. search needs) (λ c κs. search needs) (λ c κs. search needs) (λ c κs. search needs) in
+    tie.close (s (λ c. search needs) (λ c. search needs) returns)

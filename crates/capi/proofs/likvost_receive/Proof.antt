@@ -12,14 +12,6 @@ returns c =
     receives _ _ _ _ _ _ (k .before .settings-in .ensures) (k .clock-in .ensures) (n .receive .ensures) (o .clock-out .ensures) (c .answer-of .ensures)
 
 pub likvost-receive-spec : {M : Type 1} → statement M
-likvost-receive-spec =
-    tie.close
-    (tie.spec
-    (λ c κs. search needs)
-    (λ c κs. search needs)
-    (λ c κs. search needs)
-    (λ c κs. search needs)
-    (λ c κs. search needs)
-    (λ c. search needs)
-    (λ c. search needs)
-    returns)
+likvost-receive-spec {M} =
+    let s = tie.spec {M = M} (λ c κs. search needs) (λ c κs. search needs) (λ c κs. search needs) (λ c κs. search needs) (λ c κs. search needs) in
+    tie.close (s (λ c. search needs) (λ c. search needs) returns)

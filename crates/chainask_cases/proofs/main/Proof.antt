@@ -11,15 +11,6 @@ abbrev μ-loop : tie.MeasureT-loop
 μ-loop n i₀ i = n - i
 
 pub main-spec : {M : Type 1} → statement M
-main-spec =
-    tie.close
-    (tie.spec
-    Inv-loop
-    μ-loop
-    (λ c κs. search needs)
-    (λ c. search needs)
-    (λ c κs. search needs)
-    (λ c. search needs)
-    (λ c. search needs)
-    (λ c. search needs)
-    (λ c. search needs))
+main-spec {M} =
+    let s = tie.spec {M = M} Inv-loop μ-loop (λ c κs. search needs) (λ c. search needs) (λ c κs. search needs) (λ c. search needs) (λ c. search needs) in
+    tie.close (s (λ c. search needs) (λ c. search needs))

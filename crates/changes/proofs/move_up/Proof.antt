@@ -74,17 +74,6 @@ returns c =
     (l .loop .inv .2 ∙ ap (λ m. stored voteRow (showAll m) (now (s .args .votes))) e, l .loop .inv .3 ∙ ap length e)
 
 pub move-up-spec : {M : Type 1} → statement M
-move-up-spec =
-    tie.close
-    (tie.spec
-    Inv-loop
-    μ-loop
-    loop-holds
-    vote-at-requires
-    put-vote-requires
-    add-kept
-    (λ c. search needs)
-    (λ c. search needs)
-    loop-again
-    (λ c. search needs)
-    returns)
+move-up-spec {M} =
+    let s = tie.spec {M = M} Inv-loop μ-loop loop-holds vote-at-requires put-vote-requires add-kept (λ c. search needs) (λ c. search needs) loop-again in
+    tie.close (s (λ c. search needs) returns)

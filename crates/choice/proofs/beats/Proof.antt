@@ -18,15 +18,6 @@ returns-3 : tie.Need-returns-3
 returns-3 c = beats-less _ _ _ _ (c .before .if1 .left) (c .if2 .left)
 
 pub beats-spec : {M : Type 1} → statement M
-beats-spec =
-    tie.close
-    (tie.spec
-    (λ c. search needs)
-    (λ c. search needs)
-    (λ c. search needs)
-    (λ c. search needs)
-    returns
-    (λ c κs. search needs)
-    (λ c κs. search needs)
-    returns-2
-    returns-3)
+beats-spec {M} =
+    let s = tie.spec {M = M} (λ c. search needs) (λ c. search needs) (λ c. search needs) (λ c. search needs) returns (λ c κs. search needs) in
+    tie.close (s (λ c κs. search needs) returns-2 returns-3)

@@ -8,11 +8,11 @@ use Rattle.choice.proofs.best_child.Statement.{statement}
 use Rattle.choice.proofs.best_child.Tie as tie
 
 abbrev Inv-loop : tie.InvT-loop
-Inv-loop blocks used firsts nexts weights whole lim a parent best₀ c₀ best c =
+Inv-loop blocks used children siblings weights whole lim a parent best₀ c₀ best c =
     Scan whole blocks used weights lim a (parent .block .number) c best
 
 abbrev μ-loop : tie.MeasureT-loop
-μ-loop blocks used firsts nexts weights whole lim a parent best₀ c₀ best c = left used c
+μ-loop blocks used children siblings weights whole lim a parent best₀ c₀ best c = left used c
 
 loop-holds : tie.Need-loop-holds Inv-loop μ-loop
 loop-holds c =
@@ -53,16 +53,6 @@ returns c =
     (i .low, scan-end (s .pre .6) (held (s .args .whole) _ _ (s .pre .5)) (ap (λ o. o .entry .number) (b .block-at .ensures)) (s .pre .4) i (c .loop-test .left))
 
 pub best-child-spec : {M : Type 1} → statement M
-best-child-spec =
-    tie.close
-    (tie.spec
-    Inv-loop
-    μ-loop
-    (λ c κs. search needs)
-    (λ c κs. search needs)
-    loop-holds
-    better-place-requires
-    link-at-requires-2
-    loop-less
-    loop-again
-    returns)
+best-child-spec {M} =
+    let s = tie.spec {M = M} Inv-loop μ-loop (λ c κs. search needs) (λ c κs. search needs) loop-holds better-place-requires link-at-requires-2 loop-less in
+    tie.close (s loop-again returns)

@@ -59,14 +59,4 @@ returns-5 c =
 
 pub better-place-spec : {M : Type 1} → statement M
 better-place-spec =
-    tie.close
-    (tie.spec
-    block-at-requires
-    selects-requires
-    is-child-requires
-    beats-requires
-    returns
-    returns-2
-    returns-3
-    returns-4
-    returns-5)
+    tie.close (tie.spec block-at-requires selects-requires is-child-requires beats-requires returns returns-2 returns-3 returns-4 returns-5)

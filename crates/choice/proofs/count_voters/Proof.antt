@@ -30,19 +30,6 @@ returns c =
     rw e at (l .inv .2)
 
 pub count-voters-spec : {M : Type 1} → statement M
-count-voters-spec =
-    tie.close
-    (tie.spec
-    Inv-loop
-    μ-loop
-    loop-holds
-    (λ c. search needs)
-    (λ c. search needs)
-    (λ c κs. search needs)
-    (λ c. search needs)
-    (λ c. search needs)
-    (λ c. search needs)
-    (λ c. search needs)
-    loop-again
-    (λ c. search needs)
-    returns)
+count-voters-spec {M} =
+    let s = tie.spec {M = M} Inv-loop μ-loop loop-holds (λ c. search needs) (λ c. search needs) (λ c κs. search needs) (λ c. search needs) in
+    tie.close (s (λ c. search needs) (λ c. search needs) (λ c. search needs) loop-again (λ c. search needs) returns)

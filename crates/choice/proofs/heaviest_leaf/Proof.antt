@@ -39,15 +39,6 @@ returns c =
     (k .weigh .ensures .0, e .0, e .1 ∙ walk-weighed (s .pre .0) _ _ _ _ (k .weigh .ensures .1) (w .count-voters .ensures))
 
 pub heaviest-leaf-spec : {M : Type 1} → statement M
-heaviest-leaf-spec =
-    tie.close
-    (tie.spec
-    (λ c. search needs)
-    weigh-requires
-    (λ c. search needs)
-    (λ c. search needs)
-    count-voters-requires
-    (λ c. search needs)
-    leaf-requires
-    (λ c. search needs)
-    returns)
+heaviest-leaf-spec {M} =
+    let s = tie.spec {M = M} (λ c. search needs) weigh-requires (λ c. search needs) (λ c. search needs) count-voters-requires (λ c. search needs) in
+    tie.close (s leaf-requires (λ c. search needs) returns)

@@ -14,10 +14,10 @@ use Rattle.choice.proofs.leaf.Statement.{statement}
 use Rattle.choice.proofs.leaf.Tie as tie
 
 abbrev Inv-loop : tie.InvT-loop
-Inv-loop blocks used parents weights whole lim firsts nexts a₀ a = Way whole blocks used weights lim a
+Inv-loop blocks used parents weights whole lim children siblings a₀ a = Way whole blocks used weights lim a
 
 abbrev μ-loop : tie.MeasureT-loop
-μ-loop blocks used parents weights whole lim firsts nexts a₀ a = used - a
+μ-loop blocks used parents weights whole lim children siblings a₀ a = used - a
 
 link-children-requires : tie.Need-link-children-requires Inv-loop μ-loop
 link-children-requires c κs =
@@ -75,18 +75,6 @@ returns c =
     (l .loop .inv .inside, way-end (held (s .args .whole) _ _ (s .pre .4)) (now (s .args .weights)) (s .args .lim) _ _ (l .loop .inv) (e .1) (c .if1 .taken))
 
 pub leaf-spec : {M : Type 1} → statement M
-leaf-spec =
-    tie.close
-    (tie.spec
-    Inv-loop
-    μ-loop
-    (λ c. search needs)
-    (λ c. search needs)
-    link-children-requires
-    loop-holds
-    (λ c. search needs)
-    (λ c. search needs)
-    best-child-requires
-    loop-less
-    loop-again
-    returns)
+leaf-spec {M} =
+    let s = tie.spec {M = M} Inv-loop μ-loop (λ c. search needs) (λ c. search needs) link-children-requires loop-holds (λ c. search needs) in
+    tie.close (s (λ c. search needs) best-child-requires loop-less loop-again returns)

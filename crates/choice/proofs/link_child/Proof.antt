@@ -12,20 +12,11 @@ returns c =
     let k = c .before .before in
     let p = k .before .before .before in
     let a = p .before .before .before .before .args in (
-      ap (λ (x : ℕ). set (now (a .nexts)) (a .i) (getD (now (a .firsts)) x 0)) (p .link-at .ensures),
-      k .put-link .ensures ∙ ap (λ (x : ℕ). set (now (a .firsts)) x (a .i)) (p .link-at .ensures),
+      ap (λ (x : ℕ). set (now (a .siblings)) (a .i) (getD (now (a .children)) x 0)) (p .link-at .ensures),
+      k .put-link .ensures ∙ ap (λ (x : ℕ). set (now (a .children)) x (a .i)) (p .link-at .ensures),
     )
 
 pub link-child-spec : {M : Type 1} → statement M
-link-child-spec =
-    tie.close
-    (tie.spec
-    (λ c κs. search needs)
-    (λ c. search needs)
-    (λ c. search needs)
-    (λ c. search needs)
-    (λ c. search needs)
-    (λ c κs. search needs)
-    (λ c. search needs)
-    (λ c. search needs)
-    returns)
+link-child-spec {M} =
+    let s = tie.spec {M = M} (λ c κs. search needs) (λ c. search needs) (λ c. search needs) (λ c. search needs) (λ c. search needs) (λ c κs. search needs) in
+    tie.close (s (λ c. search needs) (λ c. search needs) returns)

@@ -10,11 +10,11 @@ use Rattle.choice.proofs.link_children.Statement.{statement}
 use Rattle.choice.proofs.link_children.Tie as tie
 
 abbrev Inv-loop : tie.InvT-loop
-Inv-loop parents used firsts₀ nexts₀ i₀ firsts nexts i =
-    (i ≤ used) × (1 ≤ i) × (length firsts ≡ 2048) × (length nexts ≡ 2048) × Linked (λ j. getD parents j 0) used i firsts nexts
+Inv-loop parents used firsts₀ nexts₀ i₀ children siblings i =
+    (i ≤ used) × (1 ≤ i) × (length children ≡ 2048) × (length siblings ≡ 2048) × Linked (λ j. getD parents j 0) used i children siblings
 
 abbrev μ-loop : tie.MeasureT-loop
-μ-loop parents used firsts₀ nexts₀ i₀ firsts nexts i = i
+μ-loop parents used firsts₀ nexts₀ i₀ children siblings i = i
 
 loop-holds : tie.Need-loop-holds Inv-loop μ-loop
 loop-holds c =
@@ -61,16 +61,6 @@ returns c =
     rw e at (l .inv .4)
 
 pub link-children-spec : {M : Type 1} → statement M
-link-children-spec =
-    tie.close
-    (tie.spec
-    Inv-loop
-    μ-loop
-    loop-holds
-    (λ c. search needs)
-    link-child-requires
-    (λ c. search needs)
-    loop-again
-    same-length
-    same-length-2
-    returns)
+link-children-spec {M} =
+    let s = tie.spec {M = M} Inv-loop μ-loop loop-holds (λ c. search needs) link-child-requires (λ c. search needs) loop-again same-length same-length-2 in
+    tie.close (s returns)

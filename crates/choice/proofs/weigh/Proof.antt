@@ -53,15 +53,6 @@ returns c =
     (p .supporters .ensures .0, words-are (s .pre .0) (s .args .whole) (s .args .expiry) (s .args .t) (k .kept-votes .ensures) (p .supporters .ensures .1))
 
 pub weigh-spec : {M : Type 1} → statement M
-weigh-spec =
-    tie.close
-    (tie.spec
-    slice-aggregate-kept-votes
-    slice-aggregate-kept-votes-2
-    kept-votes-requires
-    slice-aggregate-supporters
-    slice-aggregate-supporters-2
-    supporters-requires
-    same-length
-    same-length-2
-    returns)
+weigh-spec {M} =
+    let s = tie.spec {M = M} slice-aggregate-kept-votes slice-aggregate-kept-votes-2 kept-votes-requires slice-aggregate-supporters in
+    tie.close (s slice-aggregate-supporters-2 supporters-requires same-length same-length-2 returns)

@@ -51,13 +51,4 @@ returns c =
 
 pub climb-down-spec : {M : Type 1} → statement M
 climb-down-spec =
-    tie.close
-    (tie.spec
-    Inv-loop
-    μ-loop
-    loop-holds
-    block-at-requires
-    link-at-requires
-    loop-less
-    loop-again
-    returns)
+    tie.close (tie.spec Inv-loop μ-loop loop-holds block-at-requires link-at-requires loop-less loop-again returns)

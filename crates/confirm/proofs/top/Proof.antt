@@ -72,20 +72,6 @@ returns-2 c =
     sym (l .inv .1 ∙ top-end _ _ _ _ (c .loop-test .left))
 
 pub top-spec : {M : Type 1} → statement M
-top-spec =
-    tie.close
-    (tie.spec
-    Inv-loop
-    μ-loop
-    loop-holds
-    sub-i
-    block-at-requires
-    mul-is-quorum
-    shared-slice-read-is-quorum
-    is-quorum-requires
-    returns
-    loop-less
-    loop-again
-    loop-less-2
-    loop-again-2
-    returns-2)
+top-spec {M} =
+    let s = tie.spec {M = M} Inv-loop μ-loop loop-holds sub-i block-at-requires mul-is-quorum shared-slice-read-is-quorum is-quorum-requires returns in
+    tie.close (s loop-less loop-again loop-less-2 loop-again-2 returns-2)

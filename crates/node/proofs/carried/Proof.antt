@@ -25,26 +25,8 @@ returns-4 c =
     carries-merge _ _ _ _ (r .before .before .before .before .before .enum-told3 .given .1) (r .merge .ensures)
 
 pub carried-spec : {M : Type 1} → statement M
-carried-spec =
-    tie.close
-    (tie.spec
-    (λ c. search needs)
-    (λ c κs. search needs)
-    (λ c. search needs)
-    (λ c κs. search needs)
-    (λ c. search needs)
-    (λ c κs. search needs)
-    (λ c. search needs)
-    (λ c κs. search needs)
-    (λ c. search needs)
-    (λ c. search needs)
-    returns
-    (λ c. search needs)
-    (λ c. search needs)
-    returns-2
-    (λ c. search needs)
-    (λ c. search needs)
-    returns-3
-    (λ c. search needs)
-    (λ c. search needs)
-    returns-4)
+carried-spec {M} =
+    let s₁ = tie.spec {M = M} (λ c. search needs) (λ c κs. search needs) (λ c. search needs) (λ c κs. search needs) (λ c. search needs) in
+    let s₂ = s₁ (λ c κs. search needs) (λ c. search needs) (λ c κs. search needs) (λ c. search needs) (λ c. search needs) returns in
+    let s₃ = s₂ (λ c. search needs) (λ c. search needs) returns-2 (λ c. search needs) (λ c. search needs) returns-3 (λ c. search needs) in
+    tie.close (s₃ (λ c. search needs) returns-4)

@@ -28,19 +28,7 @@ returns-2 c =
     (v .merge-votes .ensures .0) (v .merge-votes .ensures .1)
 
 pub merge-spec : {M : Type 1} → statement M
-merge-spec =
-    tie.close
-    (tie.spec
-    (λ c κs. search needs)
-    (λ c. search needs)
-    (λ c κs. search needs)
-    (λ c. search needs)
-    (λ c κs. search needs)
-    show-all-blocks-requires
-    merge-votes-requires
-    (λ c. search needs)
-    (λ c. search needs)
-    returns
-    (λ c. search needs)
-    (λ c. search needs)
-    returns-2)
+merge-spec {M} =
+    let s₁ = tie.spec {M = M} (λ c κs. search needs) (λ c. search needs) (λ c κs. search needs) (λ c. search needs) (λ c κs. search needs) in
+    let s₂ = s₁ show-all-blocks-requires merge-votes-requires (λ c. search needs) (λ c. search needs) returns (λ c. search needs) in
+    tie.close (s₂ (λ c. search needs) returns-2)

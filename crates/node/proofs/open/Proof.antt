@@ -23,17 +23,6 @@ returns-2 c =
     (λ i. record { blocks = d .clear .ensures .0 i; votes = d .clear .ensures .1 i; blocksUsed = 1; votesUsed = 0; clock = freshClock })
 
 pub open-spec : {M : Type 1} → statement M
-open-spec =
-    tie.close
-    (tie.spec
-    (λ c κs. search needs)
-    (λ c. search needs)
-    (λ c κs. search needs)
-    (λ c. search needs)
-    clear-requires
-    (λ c. search needs)
-    (λ c. search needs)
-    returns
-    (λ c. search needs)
-    (λ c. search needs)
-    returns-2)
+open-spec {M} =
+    let s = tie.spec {M = M} (λ c κs. search needs) (λ c. search needs) (λ c κs. search needs) (λ c. search needs) clear-requires (λ c. search needs) in
+    tie.close (s (λ c. search needs) returns (λ c. search needs) (λ c. search needs) returns-2)

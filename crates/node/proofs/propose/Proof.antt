@@ -45,20 +45,7 @@ returns-2 c =
     (a .append-block .ensures .0) (a .append-block .ensures .1) (v .show-all-votes .ensures)
 
 pub propose-spec : {M : Type 1} → statement M
-propose-spec =
-    tie.close
-    (tie.spec
-    (λ c κs. search needs)
-    (λ c. search needs)
-    (λ c κs. search needs)
-    (λ c. search needs)
-    base-requires
-    show-all-blocks-requires
-    append-block-requires
-    show-all-votes-requires
-    (λ c. search needs)
-    (λ c. search needs)
-    returns
-    (λ c. search needs)
-    (λ c. search needs)
-    returns-2)
+propose-spec {M} =
+    let s₁ = tie.spec {M = M} (λ c κs. search needs) (λ c. search needs) (λ c κs. search needs) (λ c. search needs) base-requires show-all-blocks-requires in
+    let s₂ = s₁ append-block-requires show-all-votes-requires (λ c. search needs) (λ c. search needs) returns (λ c. search needs) in
+    tie.close (s₂ (λ c. search needs) returns-2)

@@ -27,18 +27,6 @@ returns-2 c =
     vote-stores _ _ _ (t .before .before .vote-verdict .ensures) (t .enum-told .given .1) (h .head .ensures) (a .append-vote .ensures .0) (a .append-vote .ensures .1)
 
 pub vote-spec : {M : Type 1} → statement M
-vote-spec =
-    tie.close
-    (tie.spec
-    (λ c κs. search needs)
-    (λ c. search needs)
-    (λ c κs. search needs)
-    (λ c. search needs)
-    head-requires
-    append-vote-requires
-    (λ c. search needs)
-    (λ c. search needs)
-    returns
-    (λ c. search needs)
-    (λ c. search needs)
-    returns-2)
+vote-spec {M} =
+    let s = tie.spec {M = M} (λ c κs. search needs) (λ c. search needs) (λ c κs. search needs) (λ c. search needs) head-requires append-vote-requires in
+    tie.close (s (λ c. search needs) (λ c. search needs) returns (λ c. search needs) (λ c. search needs) returns-2)

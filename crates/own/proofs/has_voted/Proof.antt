@@ -48,16 +48,6 @@ returns-2 : tie.Need-returns-2 Inv-loop μ-loop
 returns-2 c = sym (c .before .loop .inv ∙ any-end makeVote _ _ _ _ (c .loop-test .left))
 
 pub has-voted-spec : {M : Type 1} → statement M
-has-voted-spec =
-    tie.close
-    (tie.spec
-    Inv-loop
-    μ-loop
-    loop-holds
-    (λ c κs. search needs)
-    (λ c κs. search needs)
-    returns
-    (λ c. search needs)
-    (λ c. search needs)
-    loop-again
-    returns-2)
+has-voted-spec {M} =
+    let s = tie.spec {M = M} Inv-loop μ-loop loop-holds (λ c κs. search needs) (λ c κs. search needs) returns (λ c. search needs) (λ c. search needs) in
+    tie.close (s loop-again returns-2)

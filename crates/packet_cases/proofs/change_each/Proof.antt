@@ -35,14 +35,4 @@ returns c = search needs
 
 pub change-each-spec : {M : Type 1} → statement M
 change-each-spec =
-    tie.close
-    (tie.spec
-    Inv-loop
-    μ-loop
-    loop-holds
-    changed-requires
-    add-i
-    loop-less
-    loop-again
-    same-length
-    returns)
+    tie.close (tie.spec Inv-loop μ-loop loop-holds changed-requires add-i loop-less loop-again same-length returns)

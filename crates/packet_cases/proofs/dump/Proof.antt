@@ -39,17 +39,6 @@ returns : tie.Need-returns Inv-loop μ-loop
 returns c = search needs
 
 pub dump-spec : {M : Type 1} → statement M
-dump-spec =
-    tie.close
-    (tie.spec
-    Inv-loop
-    μ-loop
-    loop-holds
-    number-at-requires
-    print-hex-requires
-    add-i
-    loop-less
-    loop-again
-    slice-aggregate-write-all
-    write-all-requires
-    returns)
+dump-spec {M} =
+    let s = tie.spec {M = M} Inv-loop μ-loop loop-holds number-at-requires print-hex-requires add-i loop-less loop-again slice-aggregate-write-all in
+    tie.close (s write-all-requires returns)

@@ -58,22 +58,7 @@ returns-2 : tie.Need-returns-2
 returns-2 c = search needs
 
 pub show-spec : {M : Type 1} → statement M
-show-spec =
-    tie.close
-    (tie.spec
-    well-formed-requires
-    header-of-requires
-    slice-aggregate-word
-    word-requires
-    slice-aggregate-word-2
-    word-requires-2
-    slice-aggregate-word-3
-    word-requires-3
-    show-blocks-requires
-    show-votes-requires
-    slice-aggregate-write-all
-    write-all-requires
-    returns
-    slice-aggregate-write-all-2
-    write-all-requires-2
-    returns-2)
+show-spec {M} =
+    let s₁ = tie.spec {M = M} well-formed-requires header-of-requires slice-aggregate-word word-requires slice-aggregate-word-2 word-requires-2 in
+    let s₂ = s₁ slice-aggregate-word-3 word-requires-3 show-blocks-requires show-votes-requires slice-aggregate-write-all write-all-requires in
+    tie.close (s₂ returns slice-aggregate-write-all-2 write-all-requires-2 returns-2)

@@ -33,14 +33,4 @@ returns c = search needs
 
 pub show-blocks-spec : {M : Type 1} → statement M
 show-blocks-spec =
-    tie.close
-    (tie.spec
-    Inv-loop
-    μ-loop
-    loop-holds
-    block-at-requires
-    show-block-requires
-    add-i
-    loop-less
-    loop-again
-    returns)
+    tie.close (tie.spec Inv-loop μ-loop loop-holds block-at-requires show-block-requires add-i loop-less loop-again returns)

@@ -33,14 +33,4 @@ returns c = search needs
 
 pub show-votes-spec : {M : Type 1} → statement M
 show-votes-spec =
-    tie.close
-    (tie.spec
-    Inv-loop
-    μ-loop
-    loop-holds
-    vote-at-requires
-    show-vote-requires
-    add-i
-    loop-less
-    loop-again
-    returns)
+    tie.close (tie.spec Inv-loop μ-loop loop-holds vote-at-requires show-vote-requires add-i loop-less loop-again returns)

@@ -47,13 +47,4 @@ returns-6 c = sym (header (c .before .before .before .before .before .before .be
 
 pub well-formed-spec : {M : Type 1} → statement M
 well-formed-spec =
-    tie.close
-    (tie.spec
-    header-of-requires
-    packet-length-requires
-    returns
-    returns-2
-    returns-3
-    returns-4
-    returns-5
-    returns-6)
+    tie.close (tie.spec header-of-requires packet-length-requires returns returns-2 returns-3 returns-4 returns-5 returns-6)

@@ -29,15 +29,6 @@ returns-3 c =
     fast-answers _ _ _ (t .before .before .query-verdict .ensures) (t .enum-told .given .1) (sym (ap choiceIn (c .enum-told2 .given .1)) ∙ f .fast .ensures)
 
 pub fast-spec : {M : Type 1} → statement M
-fast-spec =
-    tie.close
-    (tie.spec
-    (λ c κs. search needs)
-    (λ c. search needs)
-    (λ c. search needs)
-    fast-requires
-    (λ c. search needs)
-    (λ c. search needs)
-    returns
-    returns-2
-    returns-3)
+fast-spec {M} =
+    let s = tie.spec {M = M} (λ c κs. search needs) (λ c. search needs) (λ c. search needs) fast-requires (λ c. search needs) (λ c. search needs) returns in
+    tie.close (s returns-2 returns-3)

@@ -49,17 +49,6 @@ returns-3 : tie.Need-returns-3 Inv-loop μ-loop
 returns-3 c = sym (c .before .loop .inv ∙ ranges-end makeBlock (blockInRange _) _ _ _ (c .loop-test .left))
 
 pub blocks-in-range-spec : {M : Type 1} → statement M
-blocks-in-range-spec =
-    tie.close
-    (tie.spec
-    Inv-loop
-    μ-loop
-    loop-holds
-    (λ c κs. omega arith)
-    returns
-    (λ c κs. omega arith)
-    returns-2
-    (λ c. search needs)
-    (λ c. search needs)
-    loop-again
-    returns-3)
+blocks-in-range-spec {M} =
+    let s = tie.spec {M = M} Inv-loop μ-loop loop-holds (λ c κs. omega arith) returns (λ c κs. omega arith) returns-2 (λ c. search needs) in
+    tie.close (s (λ c. search needs) loop-again returns-3)

@@ -63,19 +63,6 @@ returns-4 : tie.Need-returns-4 Inv-loop μ-loop
 returns-4 c = sym (c .before .loop .inv ∙ ranges-end makeVote (voteInRange _ _) _ _ _ (c .loop-test .left))
 
 pub votes-in-range-spec : {M : Type 1} → statement M
-votes-in-range-spec =
-    tie.close
-    (tie.spec
-    Inv-loop
-    μ-loop
-    loop-holds
-    (λ c κs. omega arith)
-    returns
-    (λ c κs. omega arith)
-    returns-2
-    (λ c κs. search needs)
-    returns-3
-    (λ c. search needs)
-    (λ c. search needs)
-    loop-again
-    returns-4)
+votes-in-range-spec {M} =
+    let s = tie.spec {M = M} Inv-loop μ-loop loop-holds (λ c κs. omega arith) returns (λ c κs. omega arith) returns-2 (λ c κs. search needs) returns-3 in
+    tie.close (s (λ c. search needs) (λ c. search needs) loop-again returns-4)

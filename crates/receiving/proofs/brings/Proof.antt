@@ -5,7 +5,7 @@ use mathlib.Core.Path.{_≡_}
 use native.Mathlib.Omega.{arith}
 use borrow.Author.Tests.{eq-eqb, ne-eqb}
 use Rattle.protocol.specs.Calls.Receive.{brings}
-use Rattle.admission.proofs.Header.{header-kind, header-slot}
+use Rattle.packets.proofs.Headers.{header-kind, header-slot}
 use Rattle.receiving.proofs.brings.Statement.{statement}
 use Rattle.receiving.proofs.brings.Tie as tie
 

@@ -35,14 +35,4 @@ returns-2 c = sym (c .before .loop .inv ∙ place-end _ _ _ _ (c .loop-test .lef
 
 pub find-block-spec : {M : Type 1} → statement M
 find-block-spec =
-    tie.close
-    (tie.spec
-    Inv-loop
-    μ-loop
-    loop-holds
-    (λ c κs. omega arith)
-    returns
-    (λ c. search needs)
-    (λ c. search needs)
-    loop-again
-    returns-2)
+    tie.close (tie.spec Inv-loop μ-loop loop-holds (λ c κs. omega arith) returns (λ c. search needs) (λ c. search needs) loop-again returns-2)

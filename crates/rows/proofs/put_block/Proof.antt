@@ -24,21 +24,7 @@ returns c =
     ∙ ap (λ (m : ℕ). putRow (now (a .blocks)) (a .i) (a .row .block .number ∷ a .row .block .parent ∷ a .row .block .slot ∷ m ∷ [])) (mark-word (a .row .shown))
 
 pub put-block-spec : {M : Type 1} → statement M
-put-block-spec =
-    tie.close
-    (tie.spec
-    (λ c. search needs)
-    (λ c. search needs)
-    (λ c. search needs)
-    (λ c. search needs)
-    (λ c. search needs)
-    slice-write-blocks-2
-    (λ c. search needs)
-    (λ c. search needs)
-    slice-write-blocks-3
-    (λ c. search needs)
-    (λ c. search needs)
-    (λ c. search needs)
-    (λ c. search needs)
-    (λ c. search needs)
-    returns)
+put-block-spec {M} =
+    let s₁ = tie.spec {M = M} (λ c. search needs) (λ c. search needs) (λ c. search needs) (λ c. search needs) (λ c. search needs) slice-write-blocks-2 in
+    let s₂ = s₁ (λ c. search needs) (λ c. search needs) slice-write-blocks-3 (λ c. search needs) (λ c. search needs) (λ c. search needs) in
+    tie.close (s₂ (λ c. search needs) (λ c. search needs) returns)

@@ -24,21 +24,7 @@ returns c =
     ∙ ap (λ (m : ℕ). putRow (now (a .votes)) (a .i) (a .row .vote .voter ∷ a .row .vote .slot ∷ a .row .vote .number ∷ m ∷ [])) (mark-word (a .row .shown))
 
 pub put-vote-spec : {M : Type 1} → statement M
-put-vote-spec =
-    tie.close
-    (tie.spec
-    (λ c. search needs)
-    (λ c. search needs)
-    (λ c. search needs)
-    (λ c. search needs)
-    (λ c. search needs)
-    slice-write-votes-2
-    (λ c. search needs)
-    (λ c. search needs)
-    slice-write-votes-3
-    (λ c. search needs)
-    (λ c. search needs)
-    (λ c. search needs)
-    (λ c. search needs)
-    (λ c. search needs)
-    returns)
+put-vote-spec {M} =
+    let s₁ = tie.spec {M = M} (λ c. search needs) (λ c. search needs) (λ c. search needs) (λ c. search needs) (λ c. search needs) slice-write-votes-2 in
+    let s₂ = s₁ (λ c. search needs) (λ c. search needs) slice-write-votes-3 (λ c. search needs) (λ c. search needs) (λ c. search needs) in
+    tie.close (s₂ (λ c. search needs) (λ c. search needs) returns)

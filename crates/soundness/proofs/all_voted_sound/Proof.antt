@@ -38,16 +38,6 @@ returns-2 : tie.Need-returns-2 Inv-loop μ-loop
 returns-2 c = sym (c .before .loop .inv ∙ all-end makeVote (votedSound _) _ _ _ (c .loop-test .left))
 
 pub all-voted-sound-spec : {M : Type 1} → statement M
-all-voted-sound-spec =
-    tie.close
-    (tie.spec
-    Inv-loop
-    μ-loop
-    (λ c. refl)
-    (λ c κs. omega arith)
-    (λ c κs. c .before .before .before .before .before .before .pre .1)
-    returns
-    (λ c. search needs)
-    (λ c. search needs)
-    loop-again
-    returns-2)
+all-voted-sound-spec {M} =
+    let s = tie.spec {M = M} Inv-loop μ-loop (λ c. refl) (λ c κs. omega arith) (λ c κs. c .before .before .before .before .before .before .pre .1) returns in
+    tie.close (s (λ c. search needs) (λ c. search needs) loop-again returns-2)

@@ -57,20 +57,7 @@ returns-4 : tie.Need-returns-4 Inv-loop μ-loop
 returns-4 c = sym (c .before .loop .inv ∙ parents-end _ _ (c .before .loop .i) (c .loop-test .left))
 
 pub chain-sound-spec : {M : Type 1} → statement M
-chain-sound-spec =
-    tie.close
-    (tie.spec
-    Inv-loop
-    μ-loop
-    returns
-    (λ c κs. omega arith)
-    (λ c κs. search needs)
-    returns-2
-    loop-holds
-    (λ c κs. omega arith)
-    (λ c κs. (omega arith, start (c .before .before) .pre))
-    returns-3
-    (λ c. search needs)
-    (λ c. search needs)
-    loop-again
-    returns-4)
+chain-sound-spec {M} =
+    let s₁ = tie.spec {M = M} Inv-loop μ-loop returns (λ c κs. omega arith) (λ c κs. search needs) returns-2 loop-holds (λ c κs. omega arith) in
+    let s₂ = s₁ (λ c κs. (omega arith, start (c .before .before) .pre)) returns-3 (λ c. search needs) (λ c. search needs) loop-again in
+    tie.close (s₂ returns-4)

@@ -8,7 +8,7 @@ use denote.Ref.{now}
 use lib.Dec.{ltb}
 use Rattle.protocol.specs.Lent.{rowsOf, makeBlock}
 use Rattle.rows.specs.Rows.{markedBlock}
-use Rattle.block_index.proofs.Numbers.{differ-before}
+use Rattle.index.proofs.Tables.{differ-before}
 use Rattle.soundness.specs.Parts.{parentSound}
 use Rattle.soundness.proofs.Lookup.{before, not-before, tested-none, tested-at, fails, shown-passes, waiting-passes}
 use Rattle.soundness.proofs.parent_sound.Statement.{statement}
@@ -60,13 +60,4 @@ returns-5 c = let d = c .before in sym (told (d .before .before .before) ∙ wai
 
 pub parent-sound-spec : {M : Type 1} → statement M
 parent-sound-spec =
-    tie.close
-    (tie.spec
-    (λ c κs. search needs)
-    returns
-    returns-2
-    (λ c. search needs)
-    (λ c κs. search needs)
-    returns-3
-    returns-4
-    returns-5)
+    tie.close (tie.spec (λ c κs. search needs) returns returns-2 (λ c. search needs) (λ c κs. search needs) returns-3 returns-4 returns-5)

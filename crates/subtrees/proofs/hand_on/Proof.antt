@@ -15,15 +15,6 @@ returns c =
     ap (λ (x : ℕ). set (now (a .masks)) x (bitOr (getD (now (a .masks)) x 0) (getD (now (a .masks)) (a .i) 0))) (p .link-at .ensures)
 
 pub hand-on-spec : {M : Type 1} → statement M
-hand-on-spec =
-    tie.close
-    (tie.spec
-    (λ c κs. search needs)
-    (λ c. search needs)
-    (λ c. search needs)
-    (λ c. search needs)
-    (λ c. search needs)
-    (λ c. search needs)
-    (λ c. search needs)
-    (λ c. search needs)
-    returns)
+hand-on-spec {M} =
+    let s = tie.spec {M = M} (λ c κs. search needs) (λ c. search needs) (λ c. search needs) (λ c. search needs) (λ c. search needs) (λ c. search needs) in
+    tie.close (s (λ c. search needs) (λ c. search needs) returns)

@@ -6,7 +6,7 @@ use mathlib.Core.Path.{_≡_, refl, ap, _∙_}
 use lib.ListN.{length}
 use denote.Ref.{now}
 use Rattle.search_tree.proofs.Tree.{index-free}
-use Rattle.block_index.specs.Index.{BlockIndex}
+use Rattle.index.specs.Places.{BlockIndex}
 use Rattle.subtrees.specs.Places.{placeIn, Parents}
 use Rattle.subtrees.proofs.Filled.{filled-none, filled-more}
 use Rattle.subtrees.proofs.Places.{place-low}
@@ -21,7 +21,7 @@ abbrev μ-loop : tie.MeasureT-loop
 μ-loop blocks used links₀ parents₀ i₀ links parents i = used - i
 
 loop-holds : tie.Need-loop-holds Inv-loop μ-loop
-loop-holds c = (omega arith, refl, refl, index-free 2048 10240 _ (c .before .before .before .pre .2) refl, filled-none _ _)
+loop-holds c = (omega arith, refl, refl, index-free _ (c .before .before .before .pre .3) (omega (arith, c .before .before .before .pre .2 .1)), filled-none _ _)
 
 block-at-requires : tie.Need-block-at-requires Inv-loop μ-loop
 block-at-requires c κs = search needs
@@ -35,12 +35,14 @@ put-link-requires : tie.Need-put-link-requires Inv-loop μ-loop
 put-link-requires c κs =
     let l = c .before .before .before .before .before .loop in
     let s = c .before .before .before .before .before .before .before .before .before in
-    (omega (arith, s .pre .3), omega (arith, c .before .place-in .ensures, place-low (now (s .args .blocks)) (l .i) (c .before .before .before .block-at .result .block .parent)))
+    (omega (arith, s .pre .4), omega (arith, c .before .place-in .ensures, place-low (now (s .args .blocks)) (l .i) (c .before .before .before .block-at .result .block .parent)))
 
-add-requires : tie.Need-add-requires Inv-loop μ-loop
-add-requires c κs =
-    let l = c .before .before .before .before .before .before .before .before .before .loop in
-    (omega arith, omega arith, l .inv .3)
+add-block-requires : tie.Need-add-block-requires Inv-loop μ-loop
+add-block-requires c κs =
+    let p = c .before .before .before .before .before .before .before .before .before in
+    let l = p .loop in
+    let s = p .before .before .before .before in
+    (omega arith, (omega (arith, s .pre .2 .0), omega (arith, s .pre .2 .1, l .inv .1)), l .inv .3)
 
 add-i : tie.Need-add-i Inv-loop μ-loop
 add-i c = search needs
@@ -57,10 +59,10 @@ loop-again c =
     let l = r .before .before .loop in
     let s = r .before .before .before .before .before .before in (
       omega arith,
-      a .add .kept .1 .1 .0 ∙ l .inv .1,
+      a .add-block .kept .1 .1 .0 ∙ l .inv .1,
       k .put-link .kept .0 ∙ l .inv .2,
-      a .add .ensures .1,
-      filled-more _ (l .i) (l .inv .4) (k .put-link .ensures) (f .place-in .ensures ∙ ap (λ o. placeIn (now (s .args .blocks)) (l .i) (o .entry .parent)) (r .block-at .ensures)) (omega (arith, s .pre .3)),
+      a .add-block .ensures,
+      filled-more _ (l .i) (l .inv .4) (k .put-link .ensures) (f .place-in .ensures ∙ ap (λ o. placeIn (now (s .args .blocks)) (l .i) (o .entry .parent)) (r .block-at .ensures)) (omega (arith, s .pre .4)),
     )
 
 same-length : tie.Need-same-length Inv-loop μ-loop
@@ -76,19 +78,6 @@ returns c =
     (rw e at (l .inv .3), rw e at (l .inv .4))
 
 pub parent-places-spec : {M : Type 1} → statement M
-parent-places-spec =
-    tie.close
-    (tie.spec
-    Inv-loop
-    μ-loop
-    loop-holds
-    block-at-requires
-    place-in-requires
-    put-link-requires
-    add-requires
-    add-i
-    loop-less
-    loop-again
-    same-length
-    same-length-2
-    returns)
+parent-places-spec {M} =
+    let s = tie.spec {M = M} Inv-loop μ-loop loop-holds block-at-requires place-in-requires put-link-requires add-block-requires add-i loop-less in
+    tie.close (s loop-again same-length same-length-2 returns)

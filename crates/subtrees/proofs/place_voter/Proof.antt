@@ -60,19 +60,6 @@ returns-2 : tie.Need-returns-2
 returns-2 c = simp (eq-eqb _ _ (c .if1 .left))
 
 pub place-voter-spec : {M : Type 1} → statement M
-place-voter-spec =
-    tie.close
-    (tie.spec
-    mul-if1
-    shared-slice-read-if1
-    mul-place-in
-    shared-slice-read-place-in
-    place-in-requires
-    mul-with
-    slice-read-with
-    with-requires
-    mul-masks
-    slice-write-masks
-    same-length
-    returns
-    returns-2)
+place-voter-spec {M} =
+    let s = tie.spec {M = M} mul-if1 shared-slice-read-if1 mul-place-in shared-slice-read-place-in place-in-requires mul-with slice-read-with in
+    tie.close (s with-requires mul-masks slice-write-masks same-length returns returns-2)

@@ -48,14 +48,4 @@ returns c = placed-all _ _ _ _ _ (c .before .loop .inv .2) (c .loop-test .left)
 
 pub place-voters-spec : {M : Type 1} → statement M
 place-voters-spec =
-    tie.close
-    (tie.spec
-    Inv-loop
-    μ-loop
-    loop-holds
-    place-voter-requires
-    (λ c. search needs)
-    (λ c. search needs)
-    loop-again
-    same-length
-    returns)
+    tie.close (tie.spec Inv-loop μ-loop loop-holds place-voter-requires (λ c. search needs) (λ c. search needs) loop-again same-length returns)

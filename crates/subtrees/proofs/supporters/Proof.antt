@@ -2,10 +2,11 @@
 use borrow.Author.Needs.{needs}
 use native.Mathlib.Omega.{arith}
 use Prim.Native.Nat.{ℕ, _+_, _-_, _≤_}
-use mathlib.Core.Path.{_≡_, refl, ap, sym, _∙_}
+use mathlib.Core.Path.{_≡_, ap, sym, _∙_}
 use Rattle.subtrees.specs.Places.{Parents}
 use lib.ListN.{length, length-replicate}
 use denote.Ref.{now}
+use Rattle.search_tree.proofs.Tree.{blank-new}
 use Rattle.subtrees.specs.Subtrees.{Subtrees}
 use Rattle.subtrees.proofs.Places.{parent-lt}
 use Rattle.subtrees.proofs.Handing.{handed-on, handed-all}
@@ -27,7 +28,8 @@ lent s = ap length (s .pre .6) ∙ length-replicate {A = ℕ} 2048 0
 parent-places-requires : tie.Need-parent-places-requires Inv-loop μ-loop
 parent-places-requires c κs =
     let s = c .before .before .before .before .before .before .before in
-    (s .pre .0, s .pre .2, refl, s .pre .5)
+    let l = length-replicate {A = ℕ} 16384 0 in
+    (s .pre .0, s .pre .2, (omega (arith, s .pre .2), omega (arith, s .pre .2, l)), blank-new 16384, s .pre .5)
 
 place-voters-requires : tie.Need-place-voters-requires Inv-loop μ-loop
 place-voters-requires c κs =
@@ -84,20 +86,6 @@ returns : tie.Need-returns Inv-loop μ-loop
 returns c = let l = c .before .loop in (l .inv .5, handed-all _ _ _ _ _ (l .inv .6) (l .inv .1) (c .loop-test .left))
 
 pub supporters-spec : {M : Type 1} → statement M
-supporters-spec =
-    tie.close
-    (tie.spec
-    Inv-loop
-    μ-loop
-    (λ c. search needs)
-    parent-places-requires
-    (λ c. search needs)
-    place-voters-requires
-    loop-holds
-    (λ c. search needs)
-    hand-on-requires
-    (λ c. search needs)
-    loop-again
-    same-length
-    same-length-2
-    returns)
+supporters-spec {M} =
+    let s = tie.spec {M = M} Inv-loop μ-loop (λ c. search needs) parent-places-requires (λ c. search needs) place-voters-requires loop-holds in
+    tie.close (s (λ c. search needs) hand-on-requires (λ c. search needs) loop-again same-length same-length-2 returns)

@@ -13,16 +13,6 @@ abbrev μ-loop : tie.MeasureT-loop
 μ-loop table₀ x i₀ table i = length table₀ - i
 
 pub fill-spec : {M : Type 1} → statement M
-fill-spec =
-    tie.close
-    (tie.spec
-    Inv-loop
-    μ-loop
-    (λ c. search needs)
-    (λ c. search needs)
-    (λ c. search needs)
-    (λ c. search needs)
-    (λ c. search needs)
-    (λ c. search needs)
-    (λ c. search needs)
-    (λ c. search needs))
+fill-spec {M} =
+    let s = tie.spec {M = M} Inv-loop μ-loop (λ c. search needs) (λ c. search needs) (λ c. search needs) (λ c. search needs) (λ c. search needs) in
+    tie.close (s (λ c. search needs) (λ c. search needs) (λ c. search needs))

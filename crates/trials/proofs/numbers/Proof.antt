@@ -13,20 +13,7 @@ abbrev μ-loop : tie.MeasureT-loop
 μ-loop line words₀ count₀ before₀ i₀ words count before i = length line - i
 
 pub numbers-spec : {M : Type 1} → statement M
-numbers-spec =
-    tie.close
-    (tie.spec
-    Inv-loop
-    μ-loop
-    (λ c. search needs)
-    (λ c. search needs)
-    (λ c κs. search needs)
-    (λ c κs. search needs)
-    (λ c. search needs)
-    (λ c κs. search needs)
-    (λ c. search needs)
-    (λ c. search needs)
-    (λ c. search needs)
-    (λ c κs. search needs)
-    (λ c. search needs)
-    (λ c. search needs))
+numbers-spec {M} =
+    let s₁ = tie.spec {M = M} Inv-loop μ-loop (λ c. search needs) (λ c. search needs) (λ c κs. search needs) (λ c κs. search needs) (λ c. search needs) in
+    let s₂ = s₁ (λ c κs. search needs) (λ c. search needs) (λ c. search needs) (λ c. search needs) (λ c κs. search needs) (λ c. search needs) in
+    tie.close (s₂ (λ c. search needs))

@@ -13,21 +13,7 @@ abbrev μ-loop : tie.MeasureT-loop
 μ-loop words bytes₀ n votes place₀ i₀ bytes place i = 32 - i
 
 pub packet-spec : {M : Type 1} → statement M
-packet-spec =
-    tie.close
-    (tie.spec
-    Inv-loop
-    μ-loop
-    (λ c κs. search needs)
-    (λ c. search needs)
-    (λ c. search needs)
-    (λ c. search needs)
-    (λ c. search needs)
-    (λ c κs. search needs)
-    (λ c κs. search needs)
-    (λ c κs. search needs)
-    (λ c. search needs)
-    (λ c. search needs)
-    (λ c. search needs)
-    (λ c. search needs)
-    (λ c. search needs))
+packet-spec {M} =
+    let s₁ = tie.spec {M = M} Inv-loop μ-loop (λ c κs. search needs) (λ c. search needs) (λ c. search needs) (λ c. search needs) (λ c. search needs) in
+    let s₂ = s₁ (λ c κs. search needs) (λ c κs. search needs) (λ c κs. search needs) (λ c. search needs) (λ c. search needs) in
+    tie.close (s₂ (λ c. search needs) (λ c. search needs) (λ c. search needs))

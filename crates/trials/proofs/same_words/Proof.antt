@@ -12,16 +12,6 @@ abbrev μ-loop : tie.MeasureT-loop
 μ-loop copy words same₀ i₀ same i = length words - i
 
 pub same-words-spec : {M : Type 1} → statement M
-same-words-spec =
-    tie.close
-    (tie.spec
-    Inv-loop
-    μ-loop
-    (λ c. search needs)
-    (λ c κs. search needs)
-    (λ c. search needs)
-    (λ c. search needs)
-    (λ c. search needs)
-    (λ c. search needs)
-    (λ c. search needs)
-    (λ c. search needs))
+same-words-spec {M} =
+    let s = tie.spec {M = M} Inv-loop μ-loop (λ c. search needs) (λ c κs. search needs) (λ c. search needs) (λ c. search needs) (λ c. search needs) in
+    tie.close (s (λ c. search needs) (λ c. search needs) (λ c. search needs))

@@ -11,15 +11,6 @@ abbrev μ-loop : tie.MeasureT-loop
 μ-loop words used i₀ i = 64 - i
 
 pub show-rows-spec : {M : Type 1} → statement M
-show-rows-spec =
-    tie.close
-    (tie.spec
-    Inv-loop
-    μ-loop
-    (λ c. search needs)
-    (λ c. search needs)
-    (λ c κs. search needs)
-    (λ c. search needs)
-    (λ c. search needs)
-    (λ c. search needs)
-    (λ c. search needs))
+show-rows-spec {M} =
+    let s = tie.spec {M = M} Inv-loop μ-loop (λ c. search needs) (λ c. search needs) (λ c κs. search needs) (λ c. search needs) (λ c. search needs) in
+    tie.close (s (λ c. search needs) (λ c. search needs))

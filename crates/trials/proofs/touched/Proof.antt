@@ -11,15 +11,6 @@ abbrev μ-loop : tie.MeasureT-loop
 μ-loop buffer end₀ i₀ end i = 100 - i
 
 pub touched-spec : {M : Type 1} → statement M
-touched-spec =
-    tie.close
-    (tie.spec
-    Inv-loop
-    μ-loop
-    (λ c. search needs)
-    (λ c. search needs)
-    (λ c. search needs)
-    (λ c. search needs)
-    (λ c. search needs)
-    (λ c. search needs)
-    (λ c. search needs))
+touched-spec {M} =
+    let s = tie.spec {M = M} Inv-loop μ-loop (λ c. search needs) (λ c. search needs) (λ c. search needs) (λ c. search needs) (λ c. search needs) in
+    tie.close (s (λ c. search needs) (λ c. search needs))

@@ -1,39 +1,18 @@
 -- `beat_verdict` meets its contract. Assumes nothing.
 use borrow.Author.Needs.{needs}
-use borrow.Author.Tests.{lt-ltb, le-ltb, not-true, not-false}
-use mathlib.Core.Path.{sym, _∙_}
-use Rattle.protocol.specs.Refusal.{first}
-use Rattle.protocol.specs.Lent.{nodeOf}
-use Rattle.verdicts.specs.Lent.{beatTests}
-use Rattle.verdicts.proofs.Sequence.{unsound-refuse, sound-pass}
+use native.Mathlib.Omega.{arith}
+use Prim.Native.Nat.{ℕ}
+use lib.ListN.{length-replicate}
+use Rattle.search_tree.proofs.Tree.{blank-new}
 use Rattle.verdicts.proofs.beat_verdict.Statement.{statement}
 use Rattle.verdicts.proofs.beat_verdict.Tie as tie
 
-returns : tie.Need-returns
-unfolding beatTests
-returns c = unsound-refuse _ _ _ (c .before .lent-sound .ensures) (not-true _ (c .if1 .taken))
-
-returns-2 : tie.Need-returns-2
-unfolding beatTests first nodeOf
-returns-2 c =
-    let d = c .before .before in
-    sym (sound-pass _ _ _ (d .before .lent-sound .ensures) (not-false _ (d .if1 .left)) ∙ simp (lt-ltb _ _ (c .if2 .taken)))
-
-returns-3 : tie.Need-returns-3
-unfolding beatTests first nodeOf
-returns-3 c =
-    let e = c .before in
-    let d = e .before .before in
-    sym (sound-pass _ _ _ (d .before .lent-sound .ensures) (not-false _ (d .if1 .left))
-    ∙ simp (le-ltb _ _ (e .if2 .left), lt-ltb _ _ (c .if3 .taken)))
-
-returns-4 : tie.Need-returns-4
-unfolding beatTests first nodeOf
-returns-4 c =
-    let e = c .before in
-    let d = e .before .before in
-    sym (sound-pass _ _ _ (d .before .lent-sound .ensures) (not-false _ (d .if1 .left))
-    ∙ simp (le-ltb _ _ (e .if2 .left), le-ltb _ _ (c .if3 .left)))
+indexed-verdict-requires : tie.Need-indexed-verdict-requires
+indexed-verdict-requires c κs =
+    let b = length-replicate {A = ℕ} 16384 0 in
+    let v = length-replicate {A = ℕ} 40960 0 in
+    ((omega arith, omega arith), blank-new 16384, (omega arith, omega arith), blank-new 40960)
 
 pub beat-verdict-spec : {M : Type 1} → statement M
-beat-verdict-spec = tie.close (tie.spec (λ c κs. search needs) returns returns-2 returns-3 returns-4)
+beat-verdict-spec =
+    tie.close (tie.spec (λ c. search needs) (λ c. search needs) indexed-verdict-requires (λ c. c .before .before .indexed-verdict .ensures .0))

@@ -72,16 +72,6 @@ returns-6 c =
     )
 
 pub open-verdict-spec : {M : Type 1} → statement M
-open-verdict-spec =
-    tie.close
-    (tie.spec
-    (λ c κs. search needs)
-    returns
-    returns-2
-    (λ c κs. search needs)
-    returns-3
-    (λ c κs. search needs)
-    returns-4
-    (λ c κs. search needs)
-    returns-5
-    returns-6)
+open-verdict-spec {M} =
+    let s = tie.spec {M = M} (λ c κs. search needs) returns returns-2 (λ c κs. search needs) returns-3 (λ c κs. search needs) returns-4 in
+    tie.close (s (λ c κs. search needs) returns-5 returns-6)

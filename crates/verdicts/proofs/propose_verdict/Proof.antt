@@ -91,19 +91,6 @@ returns-6 c =
     ))
 
 pub propose-verdict-spec : {M : Type 1} → statement M
-propose-verdict-spec =
-    tie.close
-    (tie.spec
-    (λ c κs. search needs)
-    (λ c. search needs)
-    returns
-    (λ c. search needs)
-    (λ c κs. search needs)
-    is-proposer-requires
-    returns-2
-    returns-3
-    known-block-requires
-    returns-4
-    (λ c κs. search needs)
-    returns-5
-    returns-6)
+propose-verdict-spec {M} =
+    let s = tie.spec {M = M} (λ c κs. search needs) (λ c. search needs) returns (λ c. search needs) (λ c κs. search needs) is-proposer-requires returns-2 in
+    tie.close (s returns-3 known-block-requires returns-4 (λ c κs. search needs) returns-5 returns-6)

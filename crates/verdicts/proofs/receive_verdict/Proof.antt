@@ -1,180 +1,272 @@
 -- `receive_verdict` meets its contract. Assumes nothing.
 use borrow.Author.Needs.{needs}
-use borrow.Author.Tests.{not-true, not-false}
+use borrow.Author.Tests.{not-true, not-false, leb-true}
 use native.Mathlib.Omega.{arith}
-use Rattle.admission.proofs.Header.{header-blocks, header-votes}
-use Rattle.verdicts.proofs.Sequence.{refused-before, sound-before, receive-front}
-use Rattle.verdicts.proofs.Receive.{misformed, block-refused, vote-refused, header-refused, blocks-full, votes-full, room}
+use Prim.Native.Nat.{ℕ, _+_, _≤_}
+use mathlib.Core.Path.{_≡_, ap, sym, _∙_, subst⁻¹}
+use denote.Ref.{now}
+use lib.ListN.{length, length-replicate}
+use Rattle.protocol.specs.Store.{entries}
+use Rattle.protocol.specs.Packet.{packetOf}
+use Rattle.protocol.specs.Lent.{rowsOf, makeBlock}
+use Rattle.protocol.specs.Calls.Receive.{addBlocks}
+use Rattle.protocol.proofs.Packet.Numbers.{bytes-by-index}
+use Rattle.protocol.proofs.Packet.Bytes.{read-fits}
+use Rattle.packets.proofs.Headers.{header-blocks, header-votes}
+use Rattle.search_tree.proofs.Tree.{blank-new}
+use Rattle.index.proofs.Joined.{blocks-known, votes-known}
+use Rattle.admission.proofs.Seen.{blocks-begin, votes-begin, blocks-new, blocks-named, votes-new, votes-named}
+use Rattle.soundness.specs.Parts.{TablesIndexed}
+use Rattle.admission.specs.Seen.{BlocksSeen, VotesSeen}
+use Rattle.verdicts.specs.Lent.{lent}
+use Rattle.verdicts.proofs.Passed.{Ready}
+use Rattle.verdicts.proofs.Sequence.{not-passed, refused-before, sound-before, receive-front}
+use Rattle.verdicts.proofs.Receive.{Left, misformed, block-refused, vote-refused, entries-passed, header-refused, blocks-full, votes-full, room}
 use Rattle.verdicts.proofs.receive_verdict.Statement.{statement}
 use Rattle.verdicts.proofs.receive_verdict.Tie as tie
 
+indexed-verdict-requires : tie.Need-indexed-verdict-requires
+indexed-verdict-requires c κs =
+    let b = length-replicate {A = ℕ} 24576 0 in
+    let v = length-replicate {A = ℕ} 73728 0 in
+    ((omega arith, omega arith), blank-new 24576, (omega arith, omega arith), blank-new 73728)
+
 returns : tie.Need-returns
-returns c = refused-before _ _ _ 2 (λ p x. receive-front _ p x _ _) _ (c .before .before .beat-verdict .ensures) (c .enum-told .given .1)
+returns c =
+    let x = c .before .before .before .before in
+    (refused-before _ _ _ 2 (λ p x. receive-front _ p x _ _) _ (x .indexed-verdict .ensures .0) (c .enum-told .given .1), λ e. absurd (not-passed (sym (c .enum-told .given .1) ∙ e)))
+
+-- ---- where the tests of every call with a beat passed
+
+abbrev begun : tie.After-enum-told2 → tie.After-indexed-verdict
+begun t = t .before .before .before .before
+
+abbrev start : tie.After-enum-told2 → tie.Start
+start t = begun t .before .before .before .before .before .before .before .before
+
+tables : (t : tie.After-enum-told2) → let a = start t .args in let x = begun t .indexed-verdict in
+    TablesIndexed (now (a .blocks)) (a .blocks-used) (x .last .1 .1 .1 .1 .1 .1 .1 .0) (now (a .votes)) (a .votes-used) (x .last .1 .1 .1 .1 .1 .1 .1 .1 .0)
+tables t = begun t .indexed-verdict .ensures .1 (t .enum-told2 .given .1)
+
+ready : (t : tie.After-enum-told2) → let a = start t .args in
+    Ready (a .settings) (lent (now (a .blocks)) (now (a .votes)) (a .blocks-used) (a .votes-used) (a .clock))
+ready t = sound-before _ _ _ (begun t .indexed-verdict .ensures .0) (t .enum-told2 .given .1)
+
+-- the counts of a packet
+counts : (t : tie.After-enum-told2) → let p = packetOf (now (start t .args .bytes)) in (length (p .blocks) ≤ 65535) × (length (p .votes) ≤ 65535)
+counts t =
+    let bs = now (start t .args .bytes) in
+    let fit = read-fits bs (bytes-by-index bs (λ j _. omega (arith, begun t .before .before .before .before .before .shared-slice-known3 .given j))) in
+    (fit .blockCount, fit .voteCount)
+
+-- the lengths of what is lent
+lengths : (t : tie.After-enum-told2) → let s = start t in let x = begun t .indexed-verdict in
+    (length (x .last .1 .1 .1 .1 .1 .1 .1 .0) ≡ 24576) × (length (x .last .1 .1 .1 .1 .1 .1 .1 .1 .0) ≡ 73728)
+    × (length (now (s .args .block-firsts)) ≡ 1056) × (length (now (s .args .vote-firsts)) ≡ 1152)
+lengths t =
+    let s = start t in
+    let x = begun t .indexed-verdict in (
+      x .kept .1 .1 .1 .1 .1 .1 .1 .0 ∙ length-replicate {A = ℕ} 24576 0,
+      x .kept .1 .1 .1 .1 .1 .1 .1 .1 .0 ∙ length-replicate {A = ℕ} 73728 0,
+      ap length (s .pre .0) ∙ length-replicate {A = ℕ} 1056 0,
+      ap length (s .pre .1) ∙ length-replicate {A = ℕ} 1152 0,
+    )
 
 returns-2 : tie.Need-returns-2
 returns-2 c =
     let t = c .before .before in
-    misformed _ _ _ _ (t .before .before .beat-verdict .ensures) (t .enum-told2 .given .1) (c .before .well-formed .ensures) (not-true _ (c .if1 .taken))
+    (misformed _ _ _ _ (begun t .indexed-verdict .ensures .0) (t .enum-told2 .given .1) (c .before .well-formed .ensures) (not-true _ (c .if1 .taken)), λ e. absurd (not-passed e))
 
-first-bad-block-requires : tie.Need-first-bad-block-requires
-first-bad-block-requires c κs =
-    let t = c .before .before .before in
-    sound-before _ _ _ (t .before .before .beat-verdict .ensures) (t .enum-told2 .given .1) .memory .block-words
+-- ---- blocks
+
+abbrev formed : tie.After-fits2 → tie.Else1
+formed i = i .before .before
+
+abbrev passed : tie.After-fits2 → tie.After-enum-told2
+passed i = formed i .before .before
+
+admit-blocks-requires : tie.Need-admit-blocks-requires
+admit-blocks-requires c κs =
+    let i = c .before .before in
+    let t = passed i in
+    let T = tables t in
+    let e = header-blocks _ (i .before .header-of .ensures) in
+    let l = lengths t in (
+      T .blocks .fit,
+      T .blocks .differ,
+      λ z. (
+          let f : start t .args .blocks-used + i .before .header-of .result .blocks ≤ 4096 = leb-true _ _ (sym (i .fits2 .ensures) ∙ z) in
+          ((omega (arith, f, e), omega (arith, f, e, l .0)), blocks-known _ _ _ (T .blocks .index))
+          ),
+      omega (arith, ready t .few-blocks, counts t .0, l .2),
+      subst⁻¹ (BlocksSeen _ _ _ 0) (start t .pre .0) (blocks-begin _ _ _ 1056),
+    )
+
+abbrev admitted : tie.Else2 → tie.After-admit-blocks
+admitted d = d .before .before .before .before .before
+
+abbrev fitted : tie.After-admit-blocks → tie.After-fits2
+fitted a = a .before .before .before
+
+-- all blocks are allowed
+good : (d : tie.Else2) → let i = fitted (admitted d) in length (packetOf (now (start (passed i) .args .bytes)) .blocks) ≤ admitted d .admit-blocks .result .bad
+good d = omega (arith, d .if2 .left, header-blocks _ (fitted (admitted d) .before .header-of .ensures))
 
 returns-3 : tie.Need-returns-3
 returns-3 c =
-    let b = c .before in
-    let h = b .before in
-    let f = h .before in
-    let t = f .before .before in
-    block-refused _ _ _ _ (t .before .before .beat-verdict .ensures) (t .enum-told2 .given .1) (f .before .well-formed .ensures) (not-false _ (f .if1 .left))
-    (header-blocks _ (h .header-of .ensures)) (b .first-bad-block .ensures) (c .if2 .taken)
+    let a = c .before .before .before .before .before in
+    let i = fitted a in
+    let f = formed i in
+    let t = passed i in (
+      block-refused _ _ _ _ (begun t .indexed-verdict .ensures .0) (t .enum-told2 .given .1) (f .before .well-formed .ensures) (not-false _ (f .if1 .left))
+          (header-blocks _ (i .before .header-of .ensures)) (a .admit-blocks .ensures .0) (c .if2 .taken),
+      λ e. absurd (not-passed e),
+    )
 
-first-bad-vote-requires : tie.Need-first-bad-vote-requires
-first-bad-vote-requires c κs =
-    let t = c .before .before .before .before .before in
-    sound-before _ _ _ (t .before .before .beat-verdict .ensures) (t .enum-told2 .given .1) .memory .block-words
+-- ---- votes
+
+admit-votes-requires : tie.Need-admit-votes-requires
+admit-votes-requires c κs =
+    let d = c .before .before in
+    let a = admitted d in
+    let t = passed (fitted a) in
+    let T = tables t in
+    let x = a .admit-blocks .ensures .1 (good d) in
+    (T .blocks .fit, T .blocks .differ, x .1, omega (arith, ready t .few-blocks, counts t .0, lengths t .2, a .admit-blocks .kept .1 .1 .1 .1 .1 .1 .0), x .2)
+
+abbrev asked : tie.Else3 → tie.After-admit-votes
+asked w = w .before .before .before
+
+abbrev before-votes : tie.After-admit-votes → tie.Else2
+before-votes v = v .before .before .before
 
 returns-4 : tie.Need-returns-4
 returns-4 c =
-    let v = c .before in
-    let d = v .before in
-    let b = d .before in
-    let h = b .before in
-    let f = h .before in
-    let t = f .before .before in
-    vote-refused _ _ _ _ (t .before .before .beat-verdict .ensures) (t .enum-told2 .given .1) (f .before .well-formed .ensures) (not-false _ (f .if1 .left))
-    (header-blocks _ (h .header-of .ensures)) (b .first-bad-block .ensures) (d .if2 .left)
-    (header-votes _ (h .header-of .ensures)) (v .first-bad-vote .ensures) (c .if3 .taken)
+    let v = c .before .before .before in
+    let d = before-votes v in
+    let a = admitted d in
+    let i = fitted a in
+    let f = formed i in
+    let t = passed i in
+    let h = i .before .header-of .ensures in (
+      vote-refused _ _ _ _ (begun t .indexed-verdict .ensures .0) (t .enum-told2 .given .1) (f .before .well-formed .ensures) (not-false _ (f .if1 .left))
+          (header-blocks _ h) (a .admit-blocks .ensures .0) (d .if2 .left) (header-votes _ h) (v .admit-votes .ensures .0) (c .if3 .taken),
+      λ e. absurd (not-passed e),
+    )
+
+-- ---- the header and places
+
+-- where the header was looked at
+abbrev told : tie.After-header-allowed → tie.After-enum-told2
+told a = passed (fitted (admitted (before-votes (asked (a .before)))))
+
+left : (c : tie.After-header-allowed) → let a = start (told c) .args in let m = lent (now (a .blocks)) (now (a .votes)) (a .blocks-used) (a .votes-used) (a .clock) in
+    Left (a .settings) m (a .beat) (now (a .bytes)) (c .header-allowed .result)
+left c =
+    let w = c .before in
+    let v = asked w in
+    let d = before-votes v in
+    let a = admitted d in
+    let i = fitted a in
+    let f = formed i in
+    let t = passed i in
+    let h = i .before .header-of .ensures in
+    entries-passed _ _ _ _ (begun t .indexed-verdict .ensures .0) (t .enum-told2 .given .1) (f .before .well-formed .ensures) (not-false _ (f .if1 .left))
+    (header-blocks _ h) (a .admit-blocks .ensures .0) (d .if2 .left) (header-votes _ h) (v .admit-votes .ensures .0) (w .if3 .left) (c .header-allowed .ensures)
 
 returns-5 : tie.Need-returns-5
-returns-5 c =
-    let a = c .before in
-    let w = a .before in
-    let v = w .before in
-    let d = v .before in
-    let b = d .before in
-    let h = b .before in
-    let f = h .before in
-    let t = f .before .before in
-    header-refused _ _ _ _ (t .before .before .beat-verdict .ensures) (t .enum-told2 .given .1) (f .before .well-formed .ensures) (not-false _ (f .if1 .left))
-    (header-blocks _ (h .header-of .ensures)) (b .first-bad-block .ensures) (d .if2 .left)
-    (header-votes _ (h .header-of .ensures)) (v .first-bad-vote .ensures) (w .if3 .left)
-    (a .header-allowed .ensures) (not-true _ (c .if4 .taken))
+returns-5 c = let a = c .before in (header-refused _ _ _ _ (ready (told a)) (a .header-allowed .result) (left a) (not-true _ (c .if4 .taken)), λ e. absurd (not-passed e))
+
+-- how many blocks are new
+new-blocks : (c : tie.After-header-allowed) → let b = admitted (before-votes (asked (c .before))) in let a = start (told c) .args in
+    a .blocks-used + b .admit-blocks .result .new ≡ length (addBlocks (entries (rowsOf makeBlock (now (a .blocks)) (a .blocks-used))) (packetOf (now (a .bytes)) .blocks))
+new-blocks c = let d = before-votes (asked (c .before)) in admitted d .admit-blocks .ensures .1 (good d) .0
 
 sub-if5 : tie.Need-sub-if5
-sub-if5 c =
-    let t = c .before .before .before .before .before .before .before .before .before .before in
-    let R = sound-before _ _ _ (t .before .before .beat-verdict .ensures) (t .enum-told2 .given .1) in
-    omega (arith, R .fit-blocks, c .places-in .ensures)
-
-new-blocks-requires : tie.Need-new-blocks-requires
-new-blocks-requires c κs =
-    let t = c .before .before .before .before .before .before .before .before .before .before in
-    sound-before _ _ _ (t .before .before .beat-verdict .ensures) (t .enum-told2 .given .1) .memory .block-words
+sub-if5 c = omega (arith, ready (told (c .before .before)) .fit-blocks, c .places-in .ensures)
 
 returns-6 : tie.Need-returns-6
 returns-6 c =
-    let n = c .before in
-    let p = n .before in
+    let p = c .before .before in
     let g = p .before in
     let a = g .before in
-    let w = a .before in
-    let v = w .before in
-    let d = v .before in
-    let b = d .before in
-    let h = b .before in
-    let f = h .before in
-    let t = f .before .before in
-    blocks-full _ _ _ _ (t .before .before .beat-verdict .ensures) (t .enum-told2 .given .1) (f .before .well-formed .ensures) (not-false _ (f .if1 .left))
-    (header-blocks _ (h .header-of .ensures)) (b .first-bad-block .ensures) (d .if2 .left)
-    (header-votes _ (h .header-of .ensures)) (v .first-bad-vote .ensures) (w .if3 .left)
-    (a .header-allowed .ensures) (not-false _ (g .if4 .left))
-    (p .places-in .ensures) (n .new-blocks .ensures) (c .if5 .taken)
+    (blocks-full _ _ _ _ (ready (told a)) (a .header-allowed .result) (left a) (not-false _ (g .if4 .left)) (p .places-in .ensures) (new-blocks a) (c .if5 .taken), λ e. absurd (not-passed e))
 
-sub-if6 : tie.Need-sub-if6
-sub-if6 c =
-    let t = c .before .before .before .before .before .before .before .before .before .before .before .before .before .before in
-    let R = sound-before _ _ _ (t .before .before .beat-verdict .ensures) (t .enum-told2 .given .1) in
-    omega (arith, R .fit-votes, c .places-in2 .ensures)
+-- where there is room for the blocks
+abbrev roomy : tie.After-fits3 → tie.Else5
+roomy k = k .before .before
+
+abbrev allowed : tie.After-fits3 → tie.After-header-allowed
+allowed k = roomy k .before .before .before .before
 
 new-votes-requires : tie.Need-new-votes-requires
 new-votes-requires c κs =
-    let t = c .before .before .before .before .before .before .before .before .before .before .before .before .before .before in
-    sound-before _ _ _ (t .before .before .beat-verdict .ensures) (t .enum-told2 .given .1) .memory .vote-words
+    let k = c .before .before in
+    let t = told (allowed k) in
+    let T = tables t in
+    let l = lengths t in
+    let h = fitted (admitted (before-votes (asked (allowed k .before)))) .before in
+    let e = header-votes _ (h .header-of .ensures) in (
+      ready t .memory .vote-words,
+      T .differ,
+      λ z. (
+          let f : start t .args .votes-used + h .header-of .result .votes ≤ 16384 = leb-true _ _ (sym (k .fits3 .ensures) ∙ z) in
+          ((omega (arith, f, e), omega (arith, f, e, l .1)), votes-known _ _ _ (T .votes))
+          ),
+      omega (arith, ready t .few-votes, counts t .1, l .3),
+      subst⁻¹ (VotesSeen _ _ _ 0) (start t .pre .1) (votes-begin _ _ _ 1152),
+    )
+
+abbrev counted : tie.After-places-in2 → tie.After-new-votes
+counted q = q .before .before .before .before
+
+abbrev noted : tie.After-places-in2 → tie.After-fits3
+noted q = counted q .before .before .before
+
+sub-if6 : tie.Need-sub-if6
+sub-if6 q = omega (arith, ready (told (allowed (noted q))) .fit-votes, q .places-in2 .ensures)
 
 returns-7 : tie.Need-returns-7
 returns-7 c =
-    let k = c .before in
-    let q = k .before in
-    let e = q .before in
-    let o = e .before in
-    let n = o .before in
-    let p = n .before in
-    let g = p .before in
-    let a = g .before in
-    let w = a .before in
-    let v = w .before in
-    let d = v .before in
-    let b = d .before in
-    let h = b .before in
-    let f = h .before in
-    let t = f .before .before in
-    votes-full _ _ _ _ (t .before .before .beat-verdict .ensures) (t .enum-told2 .given .1) (f .before .well-formed .ensures) (not-false _ (f .if1 .left))
-    (header-blocks _ (h .header-of .ensures)) (b .first-bad-block .ensures) (d .if2 .left)
-    (header-votes _ (h .header-of .ensures)) (v .first-bad-vote .ensures) (w .if3 .left)
-    (a .header-allowed .ensures) (not-false _ (g .if4 .left))
-    (p .places-in .ensures) (n .new-blocks .ensures) (o .if5 .left)
-    (q .places-in2 .ensures) (e .kept-from .ensures) (k .new-votes .ensures) (c .if6 .taken)
+    let q = c .before in
+    let k = noted q in
+    let o = roomy k in
+    let p = o .before .before in
+    let a = allowed k in (
+      votes-full _ _ _ _ (ready (told a)) (a .header-allowed .result) (left a) (not-false _ (p .before .if4 .left)) (p .places-in .ensures) (new-blocks a) (o .if5 .left)
+          (q .places-in2 .ensures) (k .before .kept-from .ensures) (counted q .new-votes .ensures .0) (c .if6 .taken),
+      λ e. absurd (not-passed e),
+    )
 
 returns-8 : tie.Need-returns-8
 returns-8 c =
-    let k = c .before in
-    let q = k .before in
-    let e = q .before in
-    let o = e .before in
-    let n = o .before in
-    let p = n .before in
-    let g = p .before in
-    let a = g .before in
-    let w = a .before in
-    let v = w .before in
-    let d = v .before in
-    let b = d .before in
-    let h = b .before in
-    let f = h .before in
-    let t = f .before .before in
-    room _ _ _ _ (t .before .before .beat-verdict .ensures) (t .enum-told2 .given .1) (f .before .well-formed .ensures) (not-false _ (f .if1 .left))
-    (header-blocks _ (h .header-of .ensures)) (b .first-bad-block .ensures) (d .if2 .left)
-    (header-votes _ (h .header-of .ensures)) (v .first-bad-vote .ensures) (w .if3 .left)
-    (a .header-allowed .ensures) (not-false _ (g .if4 .left))
-    (p .places-in .ensures) (n .new-blocks .ensures) (o .if5 .left)
-    (q .places-in2 .ensures) (e .kept-from .ensures) (k .new-votes .ensures) (c .if6 .left)
+    let q = c .before in
+    let n = counted q in
+    let k = noted q in
+    let o = roomy k in
+    let p = o .before .before in
+    let a = allowed k in
+    let t = told a in
+    let v = asked (a .before) in
+    let b = admitted (before-votes v) in
+    let named = v .admit-votes .ensures .1 (omega (arith, a .before .if3 .left, header-votes _ (fitted b .before .header-of .ensures))) in (
+      room _ _ _ _ (ready t) (a .header-allowed .result) (left a) (not-false _ (p .before .if4 .left)) (p .places-in .ensures) (new-blocks a) (o .if5 .left)
+          (q .places-in2 .ensures) (k .before .kept-from .ensures) (n .new-votes .ensures .0) (c .if6 .left),
+      λ e. record {
+        blocks-fit = omega (arith, ready t .few-blocks, counts t .0, lengths t .2, b .admit-blocks .kept .1 .1 .1 .1 .1 .1 .0, v .admit-votes .kept .1 .1 .1 .1 .1 .1 .1 .0);
+        votes-fit = omega (arith, ready t .few-votes, counts t .1, lengths t .3, n .new-votes .kept .1 .1 .1 .1 .1 .1 .0);
+        blocks-new = blocks-new _ _ _ _ named;
+        blocks-named = blocks-named _ _ _ _ named;
+        votes-new = votes-new _ _ _ _ (n .new-votes .ensures .1);
+        votes-named = votes-named _ _ _ _ (n .new-votes .ensures .1);
+      },
+    )
 
 pub receive-verdict-spec : {M : Type 1} → statement M
-receive-verdict-spec =
-    tie.close
-    (tie.spec
-    (λ c κs. search needs)
-    (λ c. search needs)
-    returns
-    (λ c. search needs)
-    (λ c κs. search needs)
-    returns-2
-    (λ c κs. search needs)
-    first-bad-block-requires
-    returns-3
-    first-bad-vote-requires
-    returns-4
-    (λ c κs. search needs)
-    returns-5
-    (λ c κs. search needs)
-    sub-if5
-    new-blocks-requires
-    returns-6
-    (λ c κs. search needs)
-    (λ c κs. search needs)
-    sub-if6
-    new-votes-requires
-    returns-7
-    returns-8)
+receive-verdict-spec {M} =
+    let s₁ = tie.spec {M = M} (λ c. search needs) (λ c. search needs) indexed-verdict-requires (λ c. search needs) returns (λ c. search needs) in
+    let s₂ = s₁ (λ c κs. search needs) returns-2 (λ c κs. search needs) (λ c κs. search needs) (λ c. search needs) admit-blocks-requires in
+    let s₃ = s₂ (λ c. search needs) returns-3 (λ c. search needs) admit-votes-requires (λ c. search needs) returns-4 (λ c κs. search needs) in
+    let s₄ = s₃ (λ c. search needs) returns-5 (λ c κs. search needs) sub-if5 (λ c. search needs) returns-6 (λ c κs. search needs) in
+    let s₅ = s₄ (λ c κs. search needs) (λ c. sym (lengths (told (allowed (c .before))) .1)) new-votes-requires (λ c κs. search needs) sub-if6 in
+    tie.close (s₅ (λ c. search needs) (λ c. search needs) returns-7 (λ c. search needs) (λ c. search needs) returns-8)

@@ -64,17 +64,6 @@ returns-5 c =
     ))
 
 pub vote-verdict-spec : {M : Type 1} → statement M
-vote-verdict-spec =
-    tie.close
-    (tie.spec
-    (λ c κs. search needs)
-    (λ c. search needs)
-    returns
-    (λ c. search needs)
-    (λ c κs. search needs)
-    returns-2
-    has-voted-requires
-    returns-3
-    (λ c κs. search needs)
-    returns-4
-    returns-5)
+vote-verdict-spec {M} =
+    let s = tie.spec {M = M} (λ c κs. search needs) (λ c. search needs) returns (λ c. search needs) (λ c κs. search needs) returns-2 has-voted-requires in
+    tie.close (s returns-3 (λ c κs. search needs) returns-4 returns-5)

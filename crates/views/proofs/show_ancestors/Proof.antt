@@ -48,18 +48,6 @@ returns : tie.Need-returns Inv-loop μ-loop
 returns c = pass-end _ _ _ (c .before .loop .i) (omega arith) (c .before .loop .inv .2)
 
 pub show-ancestors-spec : {M : Type 1} → statement M
-show-ancestors-spec =
-    tie.close
-    (tie.spec
-    Inv-loop
-    μ-loop
-    loop-holds
-    (λ c. search needs)
-    (λ c κs. omega arith)
-    show-block-requires
-    (λ c. search needs)
-    loop-again
-    (λ c. search needs)
-    loop-again-2
-    (λ c. search needs)
-    returns)
+show-ancestors-spec {M} =
+    let s = tie.spec {M = M} Inv-loop μ-loop loop-holds (λ c. search needs) (λ c κs. omega arith) show-block-requires (λ c. search needs) loop-again in
+    tie.close (s (λ c. search needs) loop-again-2 (λ c. search needs) returns)

@@ -54,15 +54,4 @@ returns c =
 
 pub count-sent-spec : {M : Type 1} → statement M
 count-sent-spec =
-    tie.close
-    (tie.spec
-    Inv-loop
-    μ-loop
-    loop-holds
-    row-at-requires
-    is-sent-requires
-    add-n
-    add-i
-    loop-less
-    loop-again
-    returns)
+    tie.close (tie.spec Inv-loop μ-loop loop-holds row-at-requires is-sent-requires add-n add-i loop-less loop-again returns)

@@ -48,13 +48,4 @@ returns-2 c = rw (sym (c .before .is-sent .ensures) ∙ c .if1 .left) (omega ari
 
 pub put-row-spec : {M : Type 1} → statement M
 put-row-spec =
-    tie.close
-    (tie.spec
-    is-sent-requires
-    put-three-requires
-    add-result
-    add-result-2
-    add-result-3
-    same-length
-    returns
-    returns-2)
+    tie.close (tie.spec is-sent-requires put-three-requires add-result add-result-2 add-result-3 same-length returns returns-2)

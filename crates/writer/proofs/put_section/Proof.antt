@@ -50,15 +50,6 @@ returns c =
     )
 
 pub put-section-spec : {M : Type 1} → statement M
-put-section-spec =
-    tie.close
-    (tie.spec
-    count-sent-requires
-    put-number-requires
-    sub-put-rows
-    part-put-rows-start
-    part-put-rows-end
-    put-rows-requires
-    add-result
-    same-length
-    returns)
+put-section-spec {M} =
+    let s = tie.spec {M = M} count-sent-requires put-number-requires sub-put-rows part-put-rows-start part-put-rows-end put-rows-requires add-result in
+    tie.close (s same-length returns)

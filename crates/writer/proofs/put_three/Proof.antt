@@ -34,14 +34,6 @@ returns c =
     three-behind (a .widths) (a .row) (a .buf .now) (p1 .put-number .last .0) (p2 .put-number2 .last .0) (p3 .put-number3 .last .0) (a .at) (p1 .put-number .ensures) (p2 .put-number2 .ensures) (p3 .put-number3 .ensures)
 
 pub put-three-spec : {M : Type 1} → statement M
-put-three-spec =
-    tie.close
-    (tie.spec
-    put-number-requires
-    add-put-number
-    put-number-requires-2
-    add-put-number-2
-    add-put-number-3
-    put-number-requires-3
-    same-length
-    returns)
+put-three-spec {M} =
+    let s = tie.spec {M = M} put-number-requires add-put-number put-number-requires-2 add-put-number-2 add-put-number-3 put-number-requires-3 same-length in
+    tie.close (s returns)

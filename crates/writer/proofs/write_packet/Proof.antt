@@ -99,18 +99,6 @@ returns c =
     (lent-rest (head ++ bs) vs (a .buf .now) _ (p3 .put-section2 .last .0) (13 + p2 .put-section .result) at middle (p3 .put-section2 .ensures .1))
 
 pub write-packet-spec : {M : Type 1} → statement M
-write-packet-spec =
-    tie.close
-    (tie.spec
-    put-three-requires
-    sub-put-section
-    part-put-section-start
-    part-put-section-end
-    put-section-requires
-    add-at
-    sub-put-section-2
-    part-put-section-start-2
-    part-put-section-end-2
-    put-section-requires-2
-    same-length
-    returns)
+write-packet-spec {M} =
+    let s = tie.spec {M = M} put-three-requires sub-put-section part-put-section-start part-put-section-end put-section-requires add-at sub-put-section-2 in
+    tie.close (s part-put-section-start-2 part-put-section-end-2 put-section-requires-2 same-length returns)

@@ -36,16 +36,6 @@ returns-2 c =
     write-fills _ _ _ _ (t .before .before .write-verdict .ensures) (t .enum-told .given .1) (l .written-length .ensures) (w .write-packet .ensures)
 
 pub write-spec : {M : Type 1} → statement M
-write-spec =
-    tie.close
-    (tie.spec
-    (λ c κs. search needs)
-    (λ c. search needs)
-    (λ c. search needs)
-    written-length-requires
-    header-block-requires
-    write-packet-requires
-    (λ c. search needs)
-    returns
-    (λ c. search needs)
-    returns-2)
+write-spec {M} =
+    let s = tie.spec {M = M} (λ c κs. search needs) (λ c. search needs) (λ c. search needs) written-length-requires header-block-requires in
+    tie.close (s write-packet-requires (λ c. search needs) returns (λ c. search needs) returns-2)

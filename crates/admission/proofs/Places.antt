@@ -1,0 +1,84 @@
+-- What a place among the table's entries and the packet's says: the block found by a number, and whether the packet's next entry is new.
+-- Assumes nothing.
+use Prim.Native.Nat.{ℕ, _+_, _-_, _≤_}
+use mathlib.Core.Bool.{Bool, true, not, Bool·not-not}
+use mathlib.Core.List.{List, _++_}
+use mathlib.Core.Path.{_≡_, ap, sym, _∙_}
+use native.Mathlib.Omega.{arith}
+use lib.Dec.{eqb}
+use lib.ListN.{length, getD, take}
+use Rattle.protocol.specs.declared.Block.{Block}
+use Rattle.protocol.specs.declared.Vote.{Vote}
+use Rattle.protocol.specs.Chain.{Found, find, foundWith, genesis}
+use Rattle.protocol.specs.Store.{entries, sameVote}
+use Rattle.protocol.specs.Packet.{packetOf}
+use Rattle.protocol.specs.Lent.{rowsOf, makeBlock, makeVote}
+use Rattle.protocol.specs.Calls.Receive.{addBlocks}
+use Rattle.protocol.proofs.Basics.Members.{any-append}
+use Rattle.protocol.proofs.Store.New.{any-added}
+use Rattle.packets.specs.Header.{noVote}
+use Rattle.rows.proofs.Find.{known-any}
+use Rattle.search_tree.specs.Tree.{Placed}
+use Rattle.search_tree.proofs.Lists.{any-placed}
+use Rattle.index.specs.declared.Key.{Key}
+use Rattle.index.specs.declared.Kind.the-variants.{KnownBlocks, KnownVotes}
+use Rattle.index.specs.Keys.{numberKey, voteKey}
+use Rattle.index.specs.Index.{keyAt}
+use Rattle.index.specs.Places.{knownBlocks, placeOfBlock, placeAmong, foundAt}
+use Rattle.index.specs.Firsts.{blockNew, voteNew}
+use Rattle.index.proofs.Known.{known-front, known-past}
+use Rattle.index.proofs.Joined.{block-placed, vote-placed, vote-among, place-found}
+use Rattle.admission.proofs.Known.{added-joined}
+
+no-place : (place : ℕ) {t : Bool} → not (eqb place 0) ≡ t → eqb place 0 ≡ not t
+no-place place e = sym (Bool·not-not (eqb place 0)) ∙ ap not e
+
+back : (used i : ℕ) → used + i - used ≡ i
+back used i = omega arith
+
+module _ (ws : List ℕ) (used : ℕ) (bytes : List ℕ) (i : ℕ) where
+  -- the keys of the packet's next entries
+  pub block-key : keyAt KnownBlocks ws used bytes (used + i) ≡ numberKey (getD (packetOf bytes .blocks) i genesis .number)
+  block-key =
+      let bs = packetOf bytes .blocks in
+      let h : used ≤ used + i = omega arith in
+      ap (λ (b : Block). numberKey (b .number)) (sym (known-past makeBlock ws used bs (used + i) genesis h) ∙ ap (λ (n : ℕ). getD bs n genesis) (back used i))
+
+  pub vote-key : keyAt KnownVotes ws used bytes (used + i) ≡ voteKey (getD (packetOf bytes .votes) i noVote)
+  vote-key =
+      let vs = packetOf bytes .votes in
+      let h : used ≤ used + i = omega arith in
+      ap voteKey (sym (known-past makeVote ws used vs (used + i) noVote h) ∙ ap (λ (n : ℕ). getD vs n noVote) (back used i))
+
+  -- what was read at the place of x, where the packet's first i blocks are known
+  module _ (l : i ≤ length (packetOf bytes .blocks)) where
+    pub place-told : (x : ℕ) {k : Key} {place : ℕ} {f : Found} → k ≡ numberKey x → Placed (keyAt KnownBlocks ws used bytes) (used + i) k place
+        → f ≡ foundAt (knownBlocks ws used bytes) place → f ≡ find (addBlocks (entries (rowsOf makeBlock ws used)) (take i (packetOf bytes .blocks))) x
+    place-told x e s r =
+        let known = knownBlocks ws used bytes in
+        let bs = packetOf bytes .blocks in
+        let p = block-placed ws used bytes (used + i) x (omega arith) e s in
+        r ∙ ap (foundAt known) p ∙ place-found known (used + i) x
+        ∙ ap (λ l. find l x) (known-front makeBlock ws used bs i) ∙ sym (added-joined (entries (rowsOf makeBlock ws used)) (take i bs) x)
+
+    pub block-new : (place : ℕ) → Placed (keyAt KnownBlocks ws used bytes) (used + i) (keyAt KnownBlocks ws used bytes (used + i)) place
+        → eqb place 0 ≡ blockNew ws used bytes i
+    unfolding placeOfBlock
+    block-new place s =
+        let old = entries (rowsOf makeBlock ws used) in
+        let bs = packetOf bytes .blocks in
+        let x = getD bs i genesis .number in
+        let f : place ≡ placeOfBlock (old ++ take i bs) x
+        = block-placed ws used bytes (used + i) x (omega arith) block-key s ∙ ap (λ (l : List Block). placeOfBlock l x) (known-front makeBlock ws used bs i) in
+        no-place place (ap (λ (k : ℕ). not (eqb k 0)) f
+        ∙ sym (ap (foundWith (λ c. true)) (added-joined old (take i bs) x) ∙ known-any (old ++ take i bs) x ∙ any-placed (λ b. eqb (b .number) x) (old ++ take i bs) 0))
+
+  pub vote-new : i ≤ length (packetOf bytes .votes) → (place : ℕ)
+      → Placed (keyAt KnownVotes ws used bytes) (used + i) (keyAt KnownVotes ws used bytes (used + i)) place → eqb place 0 ≡ voteNew ws used bytes i
+  vote-new l place s =
+      let old = entries (rowsOf makeVote ws used) in
+      let vs = packetOf bytes .votes in
+      let a = getD vs i noVote in
+      let f : place ≡ placeAmong (old ++ take i vs) a
+      = vote-placed ws used bytes (used + i) a (omega arith) vote-key s ∙ ap (λ (l : List Vote). placeAmong l a) (known-front makeVote ws used vs i) in
+      no-place place (vote-among (old ++ take i vs) a f ∙ any-append (sameVote a) old (take i vs) ∙ sym (any-added old (take i vs) a))

@@ -1,0 +1,2 @@
+-- The laws of sets in words, and the proofs of the functions. Assumes nothing.
+pub mod Bitset

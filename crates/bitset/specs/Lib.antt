@@ -1,0 +1,2 @@
+-- Sets of small numbers in lent words. Assumes nothing.
+pub mod Bitset

@@ -1,2 +1,0 @@
--- The index by which new entries are counted. Assumes nothing.
-pub mod Known

@@ -1,0 +1,109 @@
+-- What an index says of the blocks and votes of a table and then a packet. Assumes nothing.
+use Prim.Native.Nat.{ℕ, zero, suc, _+_, _-_, _≤_, _<_}
+use mathlib.Core.Bool.{Bool, true, false, not, cond}
+use mathlib.Core.List.{List, [], _∷_}
+use mathlib.Core.Logic.{_⊎_, inl, inr}
+use mathlib.Core.Path.{_≡_, refl, ap, sym, _∙_}
+use native.Mathlib.Omega.{arith}
+use lib.Dec.{eqb}
+use lib.ListN.{length, getD, take}
+use lib.Seq.{length-take-le, getD-take}
+use Rattle.protocol.specs.declared.Block.{Block}
+use Rattle.protocol.specs.declared.Vote.{Vote}
+use Rattle.protocol.specs.Lists.{any}
+use Rattle.protocol.specs.Chain.{Found, found, missing, find, genesis}
+use Rattle.protocol.specs.Store.{sameVote, visible}
+use Rattle.protocol.specs.Packet.{packetOf}
+use Rattle.protocol.specs.Lent.{rowsOf, makeBlock, makeVote}
+use Rattle.packets.specs.Header.{noVote}
+use Rattle.search_tree.specs.Lists.{placeFrom}
+use Rattle.search_tree.specs.Tree.{Placed}
+use Rattle.search_tree.proofs.Tree.{index-same}
+use Rattle.search_tree.proofs.Lists.{place-past}
+use Rattle.index.specs.declared.Key.{Key}
+use Rattle.index.specs.declared.Kind.the-variants.{Blocks, Votes, KnownBlocks, KnownVotes}
+use Rattle.index.specs.Keys.{numberKey, voteKey}
+use Rattle.index.specs.Index.{keyAt, IndexOf}
+use Rattle.index.specs.Places.{BlockIndex, VoteIndex, numbersDiffer, votesDiffer, knownBlocks, knownVotes, placeOfBlock, placeAmong, foundAt}
+use Rattle.index.proofs.Known.{length-known, known-row}
+use Rattle.index.proofs.Places.{placed, Differ, keys-differ}
+use Rattle.index.proofs.Tables.{number-tells, vote-tells, has-place, numbers-differ, votes-differ}
+
+module _ (ws : List ℕ) (used : ℕ) (bytes : List ℕ) (n : ℕ) where
+  pub block-placed : (x : ℕ) {k : Key} {place : ℕ} → n ≤ used + length (packetOf bytes .blocks) → k ≡ numberKey x
+      → Placed (keyAt KnownBlocks ws used bytes) n k place → place ≡ placeOfBlock (take n (knownBlocks ws used bytes)) x
+  unfolding placeOfBlock
+  block-placed x h e s =
+      let bs = knownBlocks ws used bytes in
+      let l : n ≤ length bs = omega (arith, length-known makeBlock ws used (packetOf bytes .blocks)) in
+      placed genesis (number-tells (λ b. b .number) x) (rw e at s) (take n bs) (length-take-le n bs l) (λ j m. ap (λ b. numberKey (b .number)) (getD-take n bs j genesis m))
+
+  pub vote-placed : (v : Vote) {k : Key} {place : ℕ} → n ≤ used + length (packetOf bytes .votes) → k ≡ voteKey v
+      → Placed (keyAt KnownVotes ws used bytes) n k place → place ≡ placeAmong (take n (knownVotes ws used bytes)) v
+  unfolding placeAmong
+  vote-placed v h e s =
+      let vs = knownVotes ws used bytes in
+      let l : n ≤ length vs = omega (arith, length-known makeVote ws used (packetOf bytes .votes)) in
+      placed noVote (vote-tells (λ b. b) v) (rw e at s) (take n vs) (length-take-le n vs l) (λ j m. ap voteKey (getD-take n vs j noVote m))
+
+-- ---- the rows of the table are the first places
+
+module _ (ws : List ℕ) (used : ℕ) (bytes : List ℕ) where
+  pub block-row : (j : ℕ) → j < used → keyAt Blocks ws 0 [] j ≡ keyAt KnownBlocks ws used bytes j
+  block-row j h = ap (λ (b : Block). numberKey (b .number)) (known-row makeBlock ws used (packetOf bytes .blocks) j (visible genesis) h refl)
+
+  pub vote-row : (j : ℕ) → j < used → keyAt Votes ws 0 [] j ≡ keyAt KnownVotes ws used bytes j
+  vote-row j h = ap voteKey (known-row makeVote ws used (packetOf bytes .votes) j (visible noVote) h refl)
+
+  -- an index of the table is one of its places here
+  pub blocks-known : {ls : List ℕ} → BlockIndex ws used ls → IndexOf KnownBlocks ws used bytes used ls
+  blocks-known x = index-same block-row x
+
+  pub votes-known : {ls : List ℕ} → VoteIndex ws used ls → IndexOf KnownVotes ws used bytes used ls
+  votes-known x = index-same vote-row x
+
+  pub blocks-apart : numbersDiffer (rowsOf makeBlock ws used) ≡ true → Differ (keyAt KnownBlocks ws used bytes) used
+  blocks-apart e i j h l q =
+      keys-differ (keyAt Blocks ws 0 []) used (numbers-differ ws used ∙ e) i j h l (block-row i (omega arith) ∙ q ∙ sym (block-row j l))
+
+  pub votes-apart : votesDiffer (rowsOf makeVote ws used) ≡ true → Differ (keyAt KnownVotes ws used bytes) used
+  votes-apart e i j h l q =
+      keys-differ (keyAt Votes ws 0 []) used (votes-differ ws used ∙ e) i j h l (vote-row i (omega arith) ∙ q ∙ sym (vote-row j l))
+
+-- a vote is there if it has a place
+pub vote-among : (vs : List Vote) (a : Vote) {place : ℕ} → place ≡ placeAmong vs a → not (eqb place 0) ≡ any (sameVote a) vs
+unfolding placeAmong
+vote-among vs a e = ap (λ (k : ℕ). not (eqb k 0)) e ∙ sym (has-place (λ b. b) vs a)
+
+-- places counted from o
+abbrev foundFrom : ℕ → List Block → ℕ → Found
+foundFrom o bs zero = missing
+foundFrom o bs (suc p) = found (getD bs (p - o) genesis)
+
+module _ (x : ℕ) where
+  abbrev is : Block → Bool
+  is b = eqb (b .number) x
+
+  found-from : (n o : ℕ) (bs : List Block) → find (take n bs) x ≡ foundFrom o bs (placeFrom is o (take n bs))
+  unfolding find placeFrom
+  found-from zero o bs = refl
+  found-from (suc n) o [] = refl
+  found-from (suc n) o (b ∷ bs) = go (is b) (found-from n (suc o) bs)
+    where
+      further : (p : ℕ) → (p ≡ 0) ⊎ (suc o < p) → foundFrom (suc o) bs p ≡ foundFrom o (b ∷ bs) p
+      further zero h = refl
+      further (suc p) (inl e) = absurd (omega arith)
+      further (suc p) (inr l) = let z : p - o ≡ suc (p - suc o) = omega arith in rw z
+
+      go : (t : Bool) → find (take n bs) x ≡ foundFrom (suc o) bs (placeFrom is (suc o) (take n bs))
+          → cond t (found b) (find (take n bs) x) ≡ foundFrom o (b ∷ bs) (cond t (suc o) (placeFrom is (suc o) (take n bs)))
+      go true e = let z : o - o ≡ 0 = omega arith in rw z
+      go false e = e ∙ further (placeFrom is (suc o) (take n bs)) (place-past is (take n bs) (suc o))
+
+pub place-found : (bs : List Block) (n x : ℕ) → foundAt bs (placeOfBlock (take n bs) x) ≡ find (take n bs) x
+unfolding foundAt placeOfBlock
+place-found bs n x = go (placeOfBlock (take n bs) x) ∙ sym (found-from x n 0 bs)
+  where
+    go : (p : ℕ) → foundAt bs p ≡ foundFrom 0 bs p
+    go zero = refl
+    go (suc p) = let z : p - 0 ≡ p = omega arith in rw z

@@ -1,0 +1,49 @@
+-- The entries of a table and then of a packet: how many, each by its place, and the first of them. Assumes nothing.
+use Prim.Native.Nat.{ℕ, zero, suc, _+_, _-_, _≤_, _<_}
+use mathlib.Core.List.{List, [], _∷_, _++_}
+use mathlib.Core.Path.{_≡_, refl, ap, sym, _∙_}
+use native.Mathlib.Omega.{arith}
+use lib.ListN.{length, getD, take, length-append, List·getD-append}
+use lib.Seq.{take-append-add, getD-append-add}
+use Rattle.protocol.specs.Store.{Marked, entries}
+use Rattle.protocol.specs.Lent.{Make, rowsOf}
+use Rattle.protocol.proofs.Lent.Rows.{length-rowsOf}
+use Rattle.protocol.proofs.Store.Views.{length-entries}
+use Rattle.rows.specs.Rows.{rowAt}
+use Rattle.rows.proofs.Rows.{getD-rowsOf}
+use Rattle.index.specs.Index.{joined}
+
+getD-entries : {A : Type 0} (ms : List (Marked A)) (j : ℕ) (m : Marked A) → getD (entries ms) j (m .entry) ≡ getD ms j m .entry
+unfolding entries
+getD-entries [] j m = refl
+getD-entries (x ∷ ms) zero m = refl
+getD-entries (x ∷ ms) (suc j) m = getD-entries ms j m
+
+module _ {A : Type 0} (make : Make (Marked A)) (ws : List ℕ) (used : ℕ) (ys : List A) where
+  abbrev R : List (Marked A)
+  R = rowsOf make ws used
+
+  size : length (entries R) ≡ used
+  size = length-entries R ∙ length-rowsOf make ws used
+
+  pub length-known : length (joined make ws used ys) ≡ used + length ys
+  unfolding joined
+  length-known = length-append (entries R) ys ∙ ap (λ n. n + length ys) size
+
+  -- the table's, and the first i of the packet's
+  pub known-front : (i : ℕ) → take (used + i) (joined make ws used ys) ≡ entries R ++ take i ys
+  unfolding joined
+  known-front i = ap (λ n. take (n + i) (entries R ++ ys)) (sym size) ∙ take-append-add (entries R) ys i
+
+  -- the entry at place j, read in the table as m, or in the packet; d stands for the entries past the end
+  pub known-row : (j : ℕ) {m : Marked A} (d : Marked A) → j < used → m ≡ rowAt make ws j → m .entry ≡ getD (joined make ws used ys) j (d .entry)
+  unfolding joined
+  known-row j d h e =
+      let l : j < length (entries R) = omega (arith, size) in
+      ap (λ r. r .entry) (e ∙ sym (getD-rowsOf make ws used j d h)) ∙ sym (List·getD-append (entries R) ys (d .entry) j l ∙ getD-entries R j d)
+
+  pub known-past : (j : ℕ) (d : A) → used ≤ j → getD ys (j - used) d ≡ getD (joined make ws used ys) j d
+  unfolding joined
+  known-past j d h =
+      let z : j ≡ length (entries R) + (j - used) = omega (arith, size) in
+      sym (ap (λ n. getD (entries R ++ ys) n d) z ∙ getD-append-add (entries R) ys (j - used) d)

@@ -1,0 +1,36 @@
+-- Keys, and the tree that they branch in. Assumes nothing.
+use Prim.Native.Nat.{ℕ, _+_, _*_, _/_, _%_, _^_}
+use mathlib.Core.Bool.{Bool, _&&_}
+use lib.Dec.{eqb}
+use Rattle.protocol.specs.declared.Vote.{Vote}
+use Rattle.search_tree.specs.Tree.{Shape}
+use Rattle.index.specs.declared.Key.{Key}
+use Rattle.index.specs.declared.Digits.{Digits}
+
+-- a block's number
+abbrev pub numberKey : ℕ → Key
+numberKey x = record { a = x; b = x; c = x }
+
+abbrev pub voteKey : Vote → Key
+voteKey v = record { a = v .number; b = v .slot; c = v .voter }
+
+unfoldable pub sameKey : Key → Key → Bool
+sameKey x y = eqb (x .a) (y .a) && (eqb (x .b) (y .b) && eqb (x .c) (y .c))
+
+-- The root is chosen by the lowest 13 bits of c and 7 of b: a voter and slot have one of their own among 128 slots, and so have numbers that differ in
+-- 13 bits. What is left is 128 bits: below, a with its lowest 13 bits behind the others, and b / 128 added to it; above, b / 128. So numbers that
+-- share a root part by the bits that the root leaves, and votes of one voter in slots that share a root at once.
+abbrev pub rootOf : Key → ℕ
+rootOf k = (k .b % 128 * 64 + k .c % 8192) % 8192
+
+abbrev pub turned : ℕ → ℕ
+turned a = a / 8192 + a % 8192 * 2251799813685248
+
+abbrev pub firstOf : Key → Digits
+firstOf k = record { low = (turned (k .a) + k .b / 128) % 2 ^ 64; high = k .b / 128 }
+
+abbrev pub restOf : Digits → Digits
+restOf s = record { low = s .low / 4 + s .high % 4 * 4611686018427387904; high = s .high / 4 }
+
+abbrev pub keyShape : Shape Key Digits
+keyShape = record { roots = 8192; radix = 4; root = rootOf; first = firstOf; digit = λ s. s .low % 4; rest = restOf }

@@ -1,0 +1,482 @@
+// One index for every kind of entry, in links that a caller lends: blocks by number, votes, and votes by voter and slot; of a table alone, or of
+// a table and then a packet. What differs between the kinds is the key that stands at a place. The descent, adding and building are the same.
+// Two keys that differ part at the first digit in which they differ, so a descent meets at most 27 blocks, 45 votes (49 of a packet, whose voters
+// are below 256), and 14 votes by voter and slot, where voters are below 64 and slots below 2^30. Honest entries meet one or two.
+// No function keeps an array: the largest call takes less than 1 KB of stack.
+use protocol::Block;
+use protocol::Vote;
+use search_tree::Spot;
+ghost use mathlib.Core.Bool.{true};
+ghost use mathlib.Core.Path.{_≡_};
+ghost use Prim.Native.Nat.{_+_, _*_, _<_, _≤_};
+ghost use lib.Dec.{leb};
+ghost use lib.ListN.{length, getD};
+ghost use Rattle.protocol.specs.Chain.{genesis};
+ghost use Rattle.protocol.specs.Packet.{packetOf};
+ghost use Rattle.protocol.specs.Lent.{rowsOf, makeBlock, makeVote};
+ghost use Rattle.bitset.specs.Bitset.{inserted};
+ghost use Rattle.search_tree.specs.Tree.{Placed, Sought, Blank};
+ghost use Rattle.index.specs.Keys.{numberKey, voteKey, sameKey, rootOf, firstOf, restOf, keyShape};
+ghost use Rattle.index.specs.declared.Kind.the-variants.{KnownBlocks, KnownVotes};
+ghost use Rattle.index.specs.Index.{offsetsOf, rowKey, packetKey, keyAt, inTable, InPacket, Readable, IndexOf, Room, keysDiffer};
+ghost use Rattle.index.specs.Places.{placeOfNumber, numbersDiffer, votesDiffer, BlockIndex, VoteIndex, SlotIndex, slotKey, knownBlocks};
+ghost use Rattle.index.specs.Firsts.{firstPlace};
+
+// What an index goes by: three words. Its root is chosen by b and c, and digits of a and b part those that share a root.
+pub struct Key {
+    pub a: u64,
+    pub b: u64,
+    pub c: u64,
+}
+
+// What is left of a key's digits: 128 bits, of which each step takes the lowest two.
+pub struct Digits {
+    pub low: u64,
+    pub high: u64,
+}
+
+// What is indexed, and by what: the rows of a table, or the first rows of a table and then a packet's entries.
+pub enum Kind {
+    Blocks,
+    Votes,
+    // by voter and slot: the whole store, or those in view apart from those that wait
+    Slots,
+    View,
+    KnownBlocks,
+    KnownVotes,
+}
+
+// Where the words of a key stand in a row.
+struct Offsets {
+    a: usize,
+    b: usize,
+    c: usize,
+}
+
+// ---- keys
+
+// The key of a block's number.
+fn number_key(number: u64) -> Key
+    ensures { λ r. ⌜ r ≡ numberKey number ⌝ }
+{
+    Key {
+        a: number,
+        b: number,
+        c: number,
+    }
+}
+
+// The key of a vote.
+fn vote_key(vote: Vote) -> Key
+    ensures { λ r. ⌜ r ≡ voteKey vote ⌝ }
+{
+    Key {
+        a: vote.number,
+        b: vote.slot,
+        c: vote.voter,
+    }
+}
+
+fn same_key(x: Key, y: Key) -> bool
+    ensures { λ r. ⌜ r ≡ sameKey x y ⌝ }
+{
+    if x.a == y.a {
+        if x.b == y.b {
+            return x.c == y.c;
+        }
+    }
+    false
+}
+
+// The root at which the descent for a key begins.
+fn root(key: Key) -> usize
+    ensures { λ r. ⌜ r ≡ rootOf key ⌝ }
+{
+    ((key.b % 128 * 64 + key.c % 8192) % 8192) as usize
+}
+
+// The digits of a key at its root. The lowest 13 bits of a come last: where a is a block's number, the root has told them apart.
+fn first(key: Key) -> Digits
+    ensures { λ r. ⌜ r ≡ firstOf key ⌝ }
+{
+    let high = key.b / 128;
+    let turned = key.a / 8192 + key.a % 8192 * 2251799813685248;
+    let low = std::num::wrapping_add_u64(turned, high);
+    Digits {
+        low: low,
+        high: high,
+    }
+}
+
+// The digits after a step.
+fn rest(digits: Digits) -> Digits
+    ensures { λ r. ⌜ r ≡ restOf digits ⌝ }
+{
+    Digits {
+        low: digits.low / 4 + digits.high % 4 * 4611686018427387904,
+        high: digits.high / 4,
+    }
+}
+
+// Where a row of the kind has its key.
+fn offsets_of(kind: Kind) -> Offsets
+    ensures { λ r. ⌜ (r ≡ offsetsOf kind) × (r .a ≤ 3) × (r .b ≤ 3) × (r .c ≤ 3) ⌝ }
+{
+    match kind {
+        Kind::Blocks => Offsets { a: 0, b: 0, c: 0 },
+        Kind::KnownBlocks => Offsets { a: 0, b: 0, c: 0 },
+        Kind::Votes => Offsets { a: 2, b: 1, c: 0 },
+        Kind::KnownVotes => Offsets { a: 2, b: 1, c: 0 },
+        Kind::Slots => Offsets { a: 1, b: 1, c: 0 },
+        Kind::View => Offsets { a: 3, b: 1, c: 0 },
+    }
+}
+
+// The key of row j.
+fn row_key(kind: Kind, words: &[u64], j: usize) -> Key
+    requires { ⌜ 4 * j + 3 < length (now words) ⌝ }
+    ensures { λ r. ⌜ r ≡ rowKey (offsetsOf kind) (now (words .entry)) j ⌝ }
+{
+    let o = offsets_of(kind);
+    let a = 4 * j + o.a;
+    let b = 4 * j + o.b;
+    let c = 4 * j + o.c;
+    Key {
+        a: words[a],
+        b: words[b],
+        c: words[c],
+    }
+}
+
+// The key of entry i of a packet.
+fn packet_key(kind: Kind, bytes: &[u8], i: usize) -> Key
+    requires { ⌜ InPacket kind (now bytes) i ⌝ }
+    ensures { λ r. ⌜ r ≡ packetKey kind (now (bytes .entry)) i ⌝ }
+{
+    match kind {
+        Kind::KnownBlocks => {
+            let block = packets::block_at(bytes, i);
+            number_key(block.number)
+        }
+        Kind::KnownVotes => {
+            let vote = packets::vote_at(bytes, i);
+            vote_key(vote)
+        }
+        Kind::Blocks => Key { a: 0, b: 0, c: 0 },
+        Kind::Votes => Key { a: 0, b: 0, c: 0 },
+        Kind::Slots => Key { a: 0, b: 0, c: 0 },
+        Kind::View => Key { a: 0, b: 0, c: 0 },
+    }
+}
+
+// Whether place j is a row.
+fn in_table(kind: Kind, used: usize, j: usize) -> bool
+    ensures { λ r. ⌜ r ≡ inTable kind used j ⌝ }
+{
+    match kind {
+        Kind::KnownBlocks => j < used,
+        Kind::KnownVotes => j < used,
+        Kind::Blocks => true,
+        Kind::Votes => true,
+        Kind::Slots => true,
+        Kind::View => true,
+    }
+}
+
+// The key at place j.
+fn key_at(kind: Kind, words: &[u64], used: usize, bytes: &[u8], j: usize) -> Key
+    requires { ⌜ Readable kind (now words) used (now bytes) (j + 1) ⌝ }
+    ensures { λ r. ⌜ r ≡ keyAt kind (now (words .entry)) used (now (bytes .entry)) j ⌝ }
+{
+    if in_table(kind, used, j) {
+        return row_key(kind, words, j);
+    }
+    packet_key(kind, bytes, j - used)
+}
+
+// ---- the index
+
+// The descent for a key, among the first n places. The cost is one step for each entry that it meets.
+fn descend(
+    kind: Kind,
+    words: &[u64],
+    used: usize,
+    bytes: &[u8],
+    n: usize,
+    links: &[u16],
+    key: Key,
+) -> Spot
+    requires { ⌜ Readable kind (now words) used (now bytes) n × IndexOf kind (now words) used (now bytes) n (now links) ⌝ }
+    ensures { λ r. ⌜ Sought keyShape (keyAt kind (now (words .entry)) used (now (bytes .entry))) n (now (links .entry)) key (r .at) (r .place) ⌝ }
+{
+    let mut at = root(key);
+    let mut digits = first(key);
+    let mut link = search_tree::link_at(links, at);
+    while link != 0 {
+        let place = link - 1;
+        let met = key_at(kind, words, used, bytes, place);
+        if same_key(met, key) {
+            return Spot {
+                at: at,
+                place: link,
+            };
+        }
+        at = 8192 + 4 * place + (digits.low % 4) as usize;
+        digits = rest(digits);
+        link = search_tree::link_at(links, at);
+    }
+    Spot { at: at, place: 0 }
+}
+
+// One more than the first place that has the key among the first n, or 0. The cost is a descent.
+fn find(
+    kind: Kind,
+    words: &[u64],
+    used: usize,
+    bytes: &[u8],
+    n: usize,
+    links: &[u16],
+    key: Key,
+) -> usize
+    requires { ⌜ Readable kind (now words) used (now bytes) n × IndexOf kind (now words) used (now bytes) n (now links) ⌝ }
+    ensures { λ r. ⌜ Placed (keyAt kind (now (words .entry)) used (now (bytes .entry))) n key r ⌝ }
+{
+    let spot = descend(kind, words, used, bytes, n, links, key);
+    spot.place
+}
+
+// Place n joins the index of those before it; the answer is one more than the first of these that has its key, or 0. The cost is a descent.
+fn add(kind: Kind, words: &[u64], used: usize, bytes: &[u8], n: usize, links: &mut [u16]) -> usize
+    requires { ⌜ Readable kind (now words) used (now bytes) (n + 1) × Room (n + 1) (now links) × IndexOf kind (now words) used (now bytes) n (now links) ⌝ }
+    ensures { λ r. ⌜ Placed (keyAt kind (now (words .entry)) used (now (bytes .entry))) n (keyAt kind (now (words .entry)) used (now (bytes .entry)) n) r
+        × IndexOf kind (now (words .entry)) used (now (bytes .entry)) (n + 1) (now (links .exit)) ⌝ }
+{
+    let key = key_at(kind, words, used, bytes, n);
+    let spot = descend(kind, words, used, bytes, n, links, key);
+    let place = spot.place;
+    if place == 0 {
+        search_tree::put_link(links, spot.at, n + 1);
+    }
+    place
+}
+
+// The index of the first n places, in links that are all free; and whether their keys differ. The cost is a descent for each place.
+fn build(kind: Kind, words: &[u64], used: usize, bytes: &[u8], n: usize, links: &mut [u16]) -> bool
+    requires { ⌜ Readable kind (now words) used (now bytes) n × Room n (now links) × Blank (now links) ⌝ }
+    ensures { λ r. ⌜ (r ≡ keysDiffer (keyAt kind (now (words .entry)) used (now (bytes .entry))) n)
+        × IndexOf kind (now (words .entry)) used (now (bytes .entry)) n (now (links .exit)) ⌝ }
+{
+    let mut differ = true;
+    let mut i: usize = 0;
+    while i < n {
+        if add(kind, words, used, bytes, i, links) != 0 {
+            differ = false;
+        }
+        i += 1;
+    }
+    differ
+}
+
+// What `find` answers, with no index: the places are searched. The cost is a step for each.
+fn search(kind: Kind, words: &[u64], used: usize, bytes: &[u8], n: usize, key: Key) -> usize
+    requires { ⌜ Readable kind (now words) used (now bytes) n ⌝ }
+    ensures { λ r. ⌜ Placed (keyAt kind (now (words .entry)) used (now (bytes .entry))) n key r ⌝ }
+{
+    let mut j: usize = 0;
+    while j < n {
+        let met = key_at(kind, words, used, bytes, j);
+        if same_key(met, key) {
+            return j + 1;
+        }
+        j += 1;
+    }
+    0
+}
+
+// `find` where the links are an index, and else `search`.
+fn seek(
+    kind: Kind,
+    words: &[u64],
+    used: usize,
+    bytes: &[u8],
+    n: usize,
+    indexed: bool,
+    links: &[u16],
+    key: Key,
+) -> usize
+    requires { ⌜ Readable kind (now words) used (now bytes) n × (indexed ≡ true → IndexOf kind (now words) used (now bytes) n (now links)) ⌝ }
+    ensures { λ r. ⌜ Placed (keyAt kind (now (words .entry)) used (now (bytes .entry))) n key r ⌝ }
+{
+    if indexed {
+        return find(kind, words, used, bytes, n, links, key);
+    }
+    search(kind, words, used, bytes, n, key)
+}
+
+// `add` where the links are an index, and else what it would answer.
+fn join(
+    kind: Kind,
+    words: &[u64],
+    used: usize,
+    bytes: &[u8],
+    n: usize,
+    indexed: bool,
+    links: &mut [u16],
+) -> usize
+    requires { ⌜ Readable kind (now words) used (now bytes) (n + 1) × (indexed ≡ true → Room (n + 1) (now links) × IndexOf kind (now words) used (now bytes) n (now links)) ⌝ }
+    ensures { λ r. ⌜ Placed (keyAt kind (now (words .entry)) used (now (bytes .entry))) n (keyAt kind (now (words .entry)) used (now (bytes .entry)) n) r
+        × (indexed ≡ true → IndexOf kind (now (words .entry)) used (now (bytes .entry)) (n + 1) (now (links .exit))) ⌝ }
+{
+    if indexed {
+        return add(kind, words, used, bytes, n, links);
+    }
+    let key = key_at(kind, words, used, bytes, n);
+    search(kind, words, used, bytes, n, key)
+}
+
+// ---- of a table
+
+// The index of the first `used` blocks, in links that are all free; and whether they differ. The cost is a descent for each row.
+pub fn build_blocks(blocks: &[u64], used: usize, links: &mut [u16]) -> bool
+    requires { ⌜ (4 * used ≤ length (now blocks)) × Room used (now links) × Blank (now links) ⌝ }
+    ensures { λ r. ⌜ (r ≡ numbersDiffer (rowsOf makeBlock (now (blocks .entry)) used))
+        × BlockIndex (now (blocks .entry)) used (now (links .exit)) ⌝ }
+{
+    build(Kind::Blocks, blocks, 0, b"", used, links)
+}
+
+// The index of the first `used` votes, in links that are all free; and whether they differ. The cost is a descent for each row.
+pub fn build_votes(votes: &[u64], used: usize, links: &mut [u16]) -> bool
+    requires { ⌜ (4 * used ≤ length (now votes)) × Room used (now links) × Blank (now links) ⌝ }
+    ensures { λ r. ⌜ (r ≡ votesDiffer (rowsOf makeVote (now (votes .entry)) used))
+        × VoteIndex (now (votes .entry)) used (now (links .exit)) ⌝ }
+{
+    build(Kind::Votes, votes, 0, b"", used, links)
+}
+
+// One more than the place of the first block with the number among the first n, or 0. The cost is a descent.
+pub fn place(blocks: &[u64], n: usize, links: &[u16], number: u64) -> usize
+    requires { ⌜ (4 * n ≤ length (now blocks)) × BlockIndex (now blocks) n (now links) ⌝ }
+    ensures { λ r. ⌜ r ≡ placeOfNumber (rowsOf makeBlock (now (blocks .entry)) n) number ⌝ }
+{
+    let key = number_key(number);
+    find(Kind::Blocks, blocks, 0, b"", n, links, key)
+}
+
+// Row n joins the index of the blocks before it. The cost is a descent.
+pub fn add_block(blocks: &[u64], n: usize, links: &mut [u16])
+    requires { ⌜ (4 * n + 4 ≤ length (now blocks)) × Room (n + 1) (now links) × BlockIndex (now blocks) n (now links) ⌝ }
+    ensures { λ r. ⌜ BlockIndex (now (blocks .entry)) (n + 1) (now (links .exit)) ⌝ }
+{
+    add(Kind::Blocks, blocks, 0, b"", n, links);
+}
+
+// Row n joins the index by voter and slot of the rows before it; the answer is one more than the place of the first of these with its voter
+// and slot, or 0. Of the view, rows that wait are kept apart. The cost is a descent.
+pub fn slot_add(votes: &[u64], n: usize, whole: bool, links: &mut [u16]) -> usize
+    requires { ⌜ (4 * n + 4 ≤ length (now votes)) × Room (n + 1) (now links) × SlotIndex whole (now votes) n (now links) ⌝ }
+    ensures { λ r. ⌜ Placed (slotKey whole (now (votes .entry))) n (slotKey whole (now (votes .entry)) n) r
+        × SlotIndex whole (now (votes .entry)) (n + 1) (now (links .exit)) ⌝ }
+{
+    if whole {
+        return add(Kind::Slots, votes, 0, b"", n, links);
+    }
+    add(Kind::View, votes, 0, b"", n, links)
+}
+
+// ---- of a table and then a packet
+
+// Whether an index with `most` places has room for `count` entries behind the `used` rows of a table.
+pub fn fits(used: usize, count: usize, most: usize) -> bool
+    ensures { λ r. ⌜ r ≡ leb (used + count) most ⌝ }
+{
+    if most < used {
+        return false;
+    }
+    count <= most - used
+}
+
+// The block at place j.
+pub fn block_at(blocks: &[u64], used: usize, bytes: &[u8], j: usize) -> Block
+    requires { ⌜ (4 * used ≤ length (now blocks)) × (j < used + length (packetOf (now bytes) .blocks)) ⌝ }
+    ensures { λ r. ⌜ r ≡ getD (knownBlocks (now (blocks .entry)) used (now (bytes .entry))) j genesis ⌝ }
+{
+    if j < used {
+        let row = rows::block_at(blocks, j);
+        return row.block;
+    }
+    packets::block_at(bytes, j - used)
+}
+
+// One more than the first place that has the number among the first n, or 0. The cost is a descent; where the links are no index, a search.
+pub fn known_block(
+    blocks: &[u64],
+    used: usize,
+    bytes: &[u8],
+    n: usize,
+    indexed: bool,
+    links: &[u16],
+    number: u64,
+) -> usize
+    requires { ⌜ Readable KnownBlocks (now blocks) used (now bytes) n × (indexed ≡ true → IndexOf KnownBlocks (now blocks) used (now bytes) n (now links)) ⌝ }
+    ensures { λ r. ⌜ Placed (keyAt KnownBlocks (now (blocks .entry)) used (now (bytes .entry))) n (numberKey number) r ⌝ }
+{
+    let key = number_key(number);
+    seek(
+        Kind::KnownBlocks,
+        blocks,
+        used,
+        bytes,
+        n,
+        indexed,
+        links,
+        key,
+    )
+}
+
+// The block at place n joins those before it; the answer is one more than the first of these that has its number, or 0. The cost is a descent;
+// where the links are no index, a search.
+pub fn join_block(
+    blocks: &[u64],
+    used: usize,
+    bytes: &[u8],
+    n: usize,
+    indexed: bool,
+    links: &mut [u16],
+) -> usize
+    requires { ⌜ Readable KnownBlocks (now blocks) used (now bytes) (n + 1)
+        × (indexed ≡ true → Room (n + 1) (now links) × IndexOf KnownBlocks (now blocks) used (now bytes) n (now links)) ⌝ }
+    ensures { λ r. ⌜ Placed (keyAt KnownBlocks (now (blocks .entry)) used (now (bytes .entry))) n (keyAt KnownBlocks (now (blocks .entry)) used (now (bytes .entry)) n) r
+        × (indexed ≡ true → IndexOf KnownBlocks (now (blocks .entry)) used (now (bytes .entry)) (n + 1) (now (links .exit))) ⌝ }
+{
+    join(Kind::KnownBlocks, blocks, used, bytes, n, indexed, links)
+}
+
+// The same for the vote at place n.
+pub fn join_vote(
+    votes: &[u64],
+    used: usize,
+    bytes: &[u8],
+    n: usize,
+    indexed: bool,
+    links: &mut [u16],
+) -> usize
+    requires { ⌜ Readable KnownVotes (now votes) used (now bytes) (n + 1)
+        × (indexed ≡ true → Room (n + 1) (now links) × IndexOf KnownVotes (now votes) used (now bytes) n (now links)) ⌝ }
+    ensures { λ r. ⌜ Placed (keyAt KnownVotes (now (votes .entry)) used (now (bytes .entry))) n (keyAt KnownVotes (now (votes .entry)) used (now (bytes .entry)) n) r
+        × (indexed ≡ true → IndexOf KnownVotes (now (votes .entry)) used (now (bytes .entry)) (n + 1) (now (links .exit))) ⌝ }
+{
+    join(Kind::KnownVotes, votes, used, bytes, n, indexed, links)
+}
+
+// The first place of an entry joins the set: place - 1, or n if `place` is 0, where it was looked for among the first n.
+pub fn note_first(firsts: &mut [u64], n: usize, place: usize)
+    requires { ⌜ firstPlace n place < 64 * length (now firsts) ⌝ }
+    ensures { λ r. ⌜ now (firsts .exit) ≡ inserted (now (firsts .entry)) (firstPlace n place) ⌝ }
+{
+    if place != 0 {
+        bitset::insert(firsts, place - 1);
+    } else {
+        bitset::insert(firsts, n);
+    }
+}

@@ -1,2 +1,0 @@
--- The index of votes. Assumes nothing.
-pub mod Index

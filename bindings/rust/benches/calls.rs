@@ -20,8 +20,10 @@ enum Kind {
     Honest,
     /// The same with every block on block 0.
     Fan,
-    /// The honest blocks with numbers that differ in their highest bits alone, and few voters, each with a vote for every block in the
-    /// last slot: the numbers that were found to make the indices slowest.
+    /// The honest blocks, and few voters, each with a vote for every block in the last slot: votes that differ in the lowest bits of a
+    /// number alone.
+    FewVoters,
+    /// The same with numbers that differ in their highest bits alone: those that make the indices slowest.
     Chosen,
     /// The same blocks, and one voter with votes for block 0, in slots that differ in their highest bits alone: the slots that make the
     /// index by voter and slot slowest. Only a node that has not merged for long holds such votes, so this one never did. It is not
@@ -46,7 +48,7 @@ impl Case {
         let last = last_block.max(last_vote);
         let shown = if honest { last - voted / 8 } else { last };
         let mark = |slot: u64| u64::from(slot <= shown);
-        let number = |slot: u64| if honest { slot } else { slot << 53 };
+        let number = |slot: u64| if honest || kind == Kind::FewVoters { slot } else { slot << 53 };
         let mut blocks = vec![0, 0, 0, 1];
         for slot in 1..=last_block {
             let parent = match kind {
@@ -65,7 +67,7 @@ impl Case {
                     let slot = last - behind / nodes;
                     [nodes - 1 - behind % nodes, slot, slot.min(last_block)]
                 }
-                Kind::Chosen => [i / used.0 as u64, last, i % used.0 as u64],
+                Kind::FewVoters | Kind::Chosen => [i / used.0 as u64, last, i % used.0 as u64],
                 Kind::ChosenSlots => [0, chosen_slot(i), 0],
             };
             votes.extend([voter, slot, number(block), mark(slot)]);
@@ -274,6 +276,7 @@ fn measure(kind: Kind, nodes: u64, (blocks, votes): (usize, usize)) {
     let chosen = match kind {
         Kind::Honest => "",
         Kind::Fan => ", a fan",
+        Kind::FewVoters => ", few voters",
         Kind::Chosen => ", chosen numbers",
         Kind::ChosenSlots => ", chosen slots",
     };
@@ -314,6 +317,7 @@ fn main() {
             measure(Kind::Honest, nodes, size);
         }
         measure(Kind::Fan, nodes, SIZES[2]);
+        measure(Kind::FewVoters, nodes, SIZES[2]);
         measure(Kind::Chosen, nodes, SIZES[2]);
         measure(Kind::ChosenSlots, nodes, SIZES[2]);
     }

@@ -45,19 +45,6 @@ carry-fits a b h = go (a / 4) (b % 4) (quarter a h) (omega arith)
     go : (x y : ℕ) → x < 4611686018427387904 → y ≤ 3 → x + y * 4611686018427387904 < 18446744073709551616
     go x y p q = omega arith
 
--- the lowest 13 bits behind the others
-pub low-fits : (a : ℕ) → a % 8192 * 2251799813685248 < 18446744073709551616
-low-fits a = go (a % 8192) (omega arith)
-  where
-    go : (y : ℕ) → y ≤ 8191 → y * 2251799813685248 < 18446744073709551616
-    go y q = omega arith
-
-pub turn-fits : (a : ℕ) → a < 18446744073709551616 → a / 8192 + a % 8192 * 2251799813685248 < 18446744073709551616
-turn-fits a h = go (a / 8192) (a % 8192) (omega arith) (omega arith)
-  where
-    go : (x y : ℕ) → x < 2251799813685248 → y ≤ 8191 → x + y * 2251799813685248 < 18446744073709551616
-    go x y p q = omega arith
-
 -- fewer places can be read
 pub readable-less : (kind : Kind) (ws : List ℕ) (used : ℕ) (bytes : List ℕ) (n m : ℕ) → m ≤ n → Readable kind ws used bytes n → Readable kind ws used bytes m
 readable-less Blocks ws used bytes n m h r = omega arith

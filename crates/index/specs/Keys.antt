@@ -18,16 +18,14 @@ unfoldable pub sameKey : Key → Key → Bool
 sameKey x y = eqb (x .a) (y .a) && (eqb (x .b) (y .b) && eqb (x .c) (y .c))
 
 -- The root is chosen by the lowest 13 bits of c and 7 of b: a voter and slot have one of their own among 128 slots, and so have numbers that differ in
--- 13 bits. What is left is 128 bits: below, a with its lowest 13 bits behind the others, and b / 128 added to it; above, b / 128. So numbers that
--- share a root part by the bits that the root leaves, and votes of one voter in slots that share a root at once.
+-- 13 bits. What is left is 128 bits: below, a with b / 128 and c / 8192 added to it; above, b / 128. So votes of one voter and slot part by the lowest
+-- bits of their numbers, votes of one voter in slots that share a root at once, and numbers that share a root by the bits that the root leaves: such a
+-- number is 8192 x + y with the same y, and its digits are those of 8257 x and a constant, in which 8257 is odd.
 abbrev pub rootOf : Key → ℕ
 rootOf k = (k .b % 128 * 64 + k .c % 8192) % 8192
 
-abbrev pub turned : ℕ → ℕ
-turned a = a / 8192 + a % 8192 * 2251799813685248
-
 abbrev pub firstOf : Key → Digits
-firstOf k = record { low = (turned (k .a) + k .b / 128) % 2 ^ 64; high = k .b / 128 }
+firstOf k = record { low = (k .a + (k .b / 128 + k .c / 8192)) % 2 ^ 64; high = k .b / 128 }
 
 abbrev pub restOf : Digits → Digits
 restOf s = record { low = s .low / 4 + s .high % 4 * 4611686018427387904; high = s .high / 4 }

@@ -95,13 +95,13 @@ fn root(key: Key) -> usize
     ((key.b % 128 * 64 + key.c % 8192) % 8192) as usize
 }
 
-// The digits of a key at its root. The lowest 13 bits of a come last: where a is a block's number, the root has told them apart.
+// The digits of a key at its root. Where c is a block's number, c / 8192 brings the bits that the root has left to the front.
 fn first(key: Key) -> Digits
     ensures { λ r. ⌜ r ≡ firstOf key ⌝ }
 {
     let high = key.b / 128;
-    let turned = key.a / 8192 + key.a % 8192 * 2251799813685248;
-    let low = std::num::wrapping_add_u64(turned, high);
+    let left = high + key.c / 8192;
+    let low = std::num::wrapping_add_u64(key.a, left);
     Digits {
         low: low,
         high: high,

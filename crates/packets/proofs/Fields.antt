@@ -1,8 +1,8 @@
 -- A field byte by byte, from the highest down. Assumes nothing.
 use Prim.Native.Nat.{ℕ, zero, suc, _+_, _*_, _-_, _^_, _<_, _≤_}
-use mathlib.Core.Path.{_≡_, refl}
+use mathlib.Core.Path.{_≡_, refl, ap, _∙_}
 use mathlib.Core.List.{List, [], _∷_}
-use native.Mathlib.Nat.{pow-suc, pow-le-pow-right, lt-of-lt-of-le}
+use native.Mathlib.Nat.{pow-suc, pow-succ', mul-assoc, pow-le-pow-right, lt-of-lt-of-le}
 use native.Mathlib.Omega.{arith}
 use lib.ListN.{getD}
 use lib.Seq.{take-nil}
@@ -18,6 +18,24 @@ field-low [] zero k = rw take-nil refl
 field-low [] (suc at) k = rw take-nil refl
 field-low (b ∷ bs) zero k = refl
 field-low (b ∷ bs) (suc at) k = field-low bs at k
+
+pub field-two : (bs : List ℕ) (at : ℕ) → field bs at 2 ≡ getD bs at 0 + 256 * getD bs (at + 1) 0
+field-two bs at =
+    let next : suc at ≡ at + 1 = omega arith in
+    rw (field-low bs at 1, field-low bs (suc at) 0, field-none bs (suc (suc at)), next) (omega arith)
+
+-- a field is its first bytes and then the others
+pub field-parts : (m n at : ℕ) (bs : List ℕ) → field bs at (m + n) ≡ field bs at m + 256 ^ m * field bs (at + m) n
+field-parts zero n at bs =
+    let size : 0 + n ≡ n = omega arith in
+    let place : at + 0 ≡ at = omega arith in
+    rw (size, place, field-none bs at) (omega arith)
+field-parts (suc m) n at bs =
+    let size : suc m + n ≡ suc (m + n) = omega arith in
+    let place : at + suc m ≡ suc at + m = omega arith in
+    let p : 256 ^ suc m * field bs (suc at + m) n ≡ 256 * (256 ^ m * field bs (suc at + m) n)
+    = ap (λ (k : ℕ). k * field bs (suc at + m) n) (pow-succ' 256 m) ∙ mul-assoc 256 (256 ^ m) (field bs (suc at + m) n) in
+    rw (size, place, field-low bs at (m + n), field-low bs at m, field-parts m n (suc at) bs) (omega (arith, p))
 
 -- the bytes from i on are read, and then one more
 module _ (width i sum b : ℕ) (some : 0 < i) (most : i ≤ width) where

@@ -46,8 +46,34 @@ fn byte_at(bytes: &[u8], at: usize, i: usize) -> u64
     bytes[at + i] as u64
 }
 
-// The number in `width` bytes from a place on, the lowest first.
-pub fn number_at(bytes: &[u8], at: usize, width: usize) -> u64
+// The number in two bytes, in four, in eight. What is read so needs one test for all its bytes, and the compiler reads them at once.
+fn two_at(bytes: &[u8], at: usize) -> u64
+    requires { ⌜ at + 2 ≤ length (now bytes) ⌝ }
+    ensures { λ r. ⌜ (r ≡ field (now (bytes .entry)) at 2) × (r < 65536) ⌝ }
+{
+    bytes[at] as u64 + 256 * bytes[at + 1] as u64
+}
+
+fn four_at(bytes: &[u8], at: usize) -> u64
+    requires { ⌜ at + 4 ≤ length (now bytes) ⌝ }
+    ensures { λ r. ⌜ (r ≡ field (now (bytes .entry)) at 4) × (r < 4294967296) ⌝ }
+{
+    let low = two_at(bytes, at);
+    let high = two_at(bytes, at + 2);
+    low + 65536 * high
+}
+
+fn eight_at(bytes: &[u8], at: usize) -> u64
+    requires { ⌜ at + 8 ≤ length (now bytes) ⌝ }
+    ensures { λ r. ⌜ (r ≡ field (now (bytes .entry)) at 8) × (r < 18446744073709551616) ⌝ }
+{
+    let low = four_at(bytes, at);
+    let high = four_at(bytes, at + 4);
+    low + 4294967296 * high
+}
+
+// The number in `width` bytes from a place on, the lowest first, byte by byte.
+fn bytewise_at(bytes: &[u8], at: usize, width: usize) -> u64
     requires { ⌜ width ≤ 8 ⌝ }
     ensures { λ r. ⌜ (r ≡ field (now (bytes .entry)) at width) × (r < 256 ^ width) ⌝ }
 {
@@ -58,6 +84,24 @@ pub fn number_at(bytes: &[u8], at: usize, width: usize) -> u64
         sum = sum * 256 + byte_at(bytes, at, i);
     }
     sum
+}
+
+// The number in `width` bytes from a place on, the lowest first.
+pub fn number_at(bytes: &[u8], at: usize, width: usize) -> u64
+    requires { ⌜ width ≤ 8 ⌝ }
+    ensures { λ r. ⌜ (r ≡ field (now (bytes .entry)) at width) × (r < 256 ^ width) ⌝ }
+{
+    if width <= bytes.len() {
+        if at <= bytes.len() - width {
+            if width == 8 {
+                return eight_at(bytes, at);
+            }
+            if width == 4 {
+                return four_at(bytes, at);
+            }
+        }
+    }
+    bytewise_at(bytes, at, width)
 }
 
 // The place n bytes on, or the end.

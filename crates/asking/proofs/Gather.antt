@@ -5,7 +5,7 @@ use native.Mathlib.Omega.{arith}
 use Rattle.protocol.specs.Filters.{Choice, chosen, nothing}
 use Rattle.protocol.specs.Refusal.{Refusal, Reply, refused, done}
 use Rattle.answers.specs.Answers.{mapReply}
-use Rattle.asking.specs.Ask.{Findings, gather}
+use Rattle.asking.specs.Ask.{gather}
 
 -- ---- an answer that is a block's, seen as a choice
 

@@ -1,5 +1,5 @@
 -- No refusal has the number 0: a struct whose `refusal` is 0 stands for a call that was carried out. Assumes nothing.
-use mathlib.Core.Bool.{Bool, false}
+use mathlib.Core.Bool.{false}
 use mathlib.Core.Path.{_≡_, refl}
 use lib.Dec.{eqb}
 use Rattle.verdicts.specs.declared.Refusal.{Refusal}

@@ -1,7 +1,6 @@
 -- The exported structs: which settings and clock they hold, and which struct stands for which answer of the node.
 -- `refusal` is 0 if the call was carried out, else document 01's number; `index` is the refused entry's; a field that the answer does not have is 0.
 -- Assumes nothing.
-use Prim.Native.Nat.{ℕ}
 use mathlib.Core.Path.{_≡_}
 use mathlib.Core.Bool.{cond}
 use Rattle.protocol.specs.declared.Settings as protocolSettings

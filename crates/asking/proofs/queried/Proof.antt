@@ -1,6 +1,6 @@
 -- `asking::queried` meets its contract. Assumes nothing.
 use borrow.Author.Needs.{needs}
-use mathlib.Core.Path.{sym, _∙_, ap}
+use mathlib.Core.Path.{_∙_, ap}
 use Rattle.protocol.proofs.Lent.Calls.{ask-lent}
 use Rattle.answers.specs.Answers.{mapReply}
 use Rattle.protocol.specs.Filters.{chosen}

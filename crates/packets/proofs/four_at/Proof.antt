@@ -1,8 +1,6 @@
 -- `packets::four_at` meets its contract. Assumes nothing.
-use Prim.Native.Nat.{_+_}
-use mathlib.Core.Path.{_≡_, sym}
+use mathlib.Core.Path.{sym}
 use native.Mathlib.Omega.{arith}
-use borrow.Author.Needs.{needs}
 use Rattle.packets.proofs.Fields.{field-parts}
 use Rattle.packets.proofs.four_at.Statement.{statement}
 use Rattle.packets.proofs.four_at.Tie as tie

@@ -1,5 +1,4 @@
 -- `packets::number_at` meets its contract. Assumes nothing.
-use Prim.Native.Nat.{_^_}
 use native.Mathlib.Omega.{arith}
 use borrow.Author.Needs.{needs}
 use Rattle.packets.proofs.number_at.Statement.{statement}

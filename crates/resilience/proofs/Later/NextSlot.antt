@@ -1,6 +1,6 @@
 -- If B leads after slot g and the honest votes of the slots between g and s stand on B, the walks for slot s of nodes that merged slot g or a later one
 -- end on B: the honest heads and bases of slot s, up to g + E. Assumes nothing.
-use Prim.Native.Nat.{ℕ, suc, _+_, _*_, _-_, _/_, _≤_, _<_}
+use Prim.Native.Nat.{ℕ, suc, _+_, _*_, _/_, _≤_, _<_}
 use mathlib.Core.Path.{_≡_, refl, sym, ap, _∙_, subst}
 use mathlib.Core.Logic.{inl, inr}
 use mathlib.Core.Bool.{true}

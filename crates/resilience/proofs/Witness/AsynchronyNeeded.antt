@@ -1,7 +1,7 @@
 -- Each premise of asynchrony resilience on delivery and count is needed: without it, or with a weaker one in its place, there is a run in which an honest
 -- block is left. The block has number 7, and where two branches weigh the same, block 5 goes before it. Those on forging, numbers and places are needed
 -- by Witness.Needed: demand 3 is a case of this theorem. Assumes nothing.
-use Prim.Native.Nat.{ℕ, suc, _+_, _*_, _-_, _≤_}
+use Prim.Native.Nat.{ℕ, suc, _+_, _*_, _≤_}
 use mathlib.Core.Path.{_≡_, refl}
 use mathlib.Core.Bool.{Bool, true, _&&_}
 use mathlib.Core.List.{List, [], _∷_, _++_}

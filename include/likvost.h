@@ -1,9 +1,10 @@
 /* Likvost: a consensus node for a small network whose members sleep and wake (RLMD-GHOST), proved.
  *
  * The caller lends all memory. A node is its settings, its clock and two tables of 64-bit words:
- *   blocks: 4 words to a row: number, parent, slot, mark      1 to 2,048 rows
- *   votes:  4 words to a row: voter, slot, number, mark       1 to 8,192 rows
- * A table of p places has 4 * p words. `*_used` counts the rows in use. A mark is 1 (in view) or 0 (waiting).
+ *   blocks: 6 words to a row: number lower, number upper, parent lower, parent upper, slot, mark      1 to 2,048 rows
+ *   votes:  5 words to a row: voter, slot, number lower, number upper, mark                           1 to 8,192 rows
+ * A table of p places has LIKVOST_BLOCK_WORDS * p words, resp. LIKVOST_VOTE_WORDS * p. `*_used` counts the rows in use.
+ * A number has two halves, lower and upper. A mark is 1 (in view) or 0 (waiting).
  * Only likvost_* calls write this memory; keep it as the last call left it. The node keeps nothing else.
  *
  * A beat is 3 * slot + phase: phase 0 propose, 1 vote, 2 merge. The first beat of a fresh node is 3.
@@ -45,8 +46,12 @@
 extern "C" {
 #endif
 
+/* Words to a row of each table. */
+#define LIKVOST_BLOCK_WORDS 6
+#define LIKVOST_VOTE_WORDS 5
+
 /* No node sends a packet of more bytes: drop longer ones before likvost_receive, which takes long to refuse them. */
-#define LIKVOST_LARGEST_PACKET 147453
+#define LIKVOST_LARGEST_PACKET 245749
 
 /* What a node is opened with. All nodes of a network have the same nodes, expiry and depth. */
 typedef struct {
@@ -64,6 +69,13 @@ typedef struct {
     uint64_t proposed; /* the slot of the last proposal made or brought into view */
 } likvost_clock;
 
+/* A block's number, of 16 bytes: lower + 2^64 * upper. So numbers are compared by the upper half first, and block 0 has both halves 0.
+ * In packets the lower half comes first, each half little-endian. */
+typedef struct {
+    uint64_t lower;
+    uint64_t upper;
+} likvost_number;
+
 /* Why a call was refused: the first of these that applies, in the order that each call lists. */
 enum {
     LIKVOST_OK = 0,
@@ -71,7 +83,7 @@ enum {
     LIKVOST_OWN = 2,          /* own index not below nodes */
     LIKVOST_EXPIRY = 3,       /* expiry out of range */
     LIKVOST_DEPTH = 4,        /* depth out of range */
-    LIKVOST_LENGTH = 5,       /* a table's length out of range, or no multiple of 4 words */
+    LIKVOST_LENGTH = 5,       /* a table's length out of range, or no multiple of the words to a row */
     LIKVOST_UNSOUND = 6,      /* the lent memory is not as a call left it */
     LIKVOST_BEAT = 7,         /* beat below the one seen, or slot above 1,000,000,000 */
     LIKVOST_FORM = 8,         /* packet's length, kind or zero fields wrong */
@@ -87,7 +99,8 @@ enum {
     LIKVOST_BUFFER = 18,      /* buffer too short */
     LIKVOST_PROPOSAL = 19,    /* no own proposal of the beat seen */
     LIKVOST_VOTE = 20,        /* a vote of the packet breaks a rule: the one with this `index` */
-    LIKVOST_HEADER = 21       /* a proposal's header names no block of the packet, or another slot */
+    LIKVOST_HEADER = 21,      /* a proposal's header names no block of the packet, or another slot */
+    LIKVOST_WIDE = 23         /* narrow writing meets a number whose upper half is not 0 */
 };
 
 /* A readable message for a refusal number, for logs. */
@@ -99,26 +112,28 @@ static inline const char *likvost_refusal_message(uint64_t refusal)
         "malformed packet", "a block of the packet breaks a rule", "not enough free places", "not the phase of this call",
         "beat already done", "not joined for this slot", "another node's slot", "block number already known",
         "already voted in this slot", "slot 0, before the one last merged, or above the slot seen", "buffer too short",
-        "no own proposal of this beat", "a vote of the packet breaks a rule", "the proposal's header does not fit its blocks"};
-    return refusal < 22 ? messages[refusal] : "unknown refusal";
+        "no own proposal of this beat", "a vote of the packet breaks a rule", "the proposal's header does not fit its blocks",
+        "unknown refusal", /* no call is refused by 22 */
+        "narrow writing meets a number of more than 8 bytes"};
+    return refusal < 24 ? messages[refusal] : "unknown refusal";
 }
 
 /* The answer of a call that changes the memory. */
 typedef struct {
     uint64_t refusal;
-    uint64_t index;      /* refused by LIKVOST_BLOCK or LIKVOST_VOTE: the entry's index in its section of the packet, from 0; else 0 */
-    uint64_t value;      /* likvost_propose: the base; likvost_vote: the head; else 0 */
-    uint64_t new_blocks; /* likvost_receive: how many blocks were new */
-    uint64_t new_votes;  /* likvost_receive: how many votes were new; old ones are not */
-    uint64_t brought;    /* likvost_receive: 1 if the packet came into view at once */
-    likvost_clock clock; /* the clock after the call */
+    uint64_t index;       /* refused by LIKVOST_BLOCK or LIKVOST_VOTE: the entry's index in its section of the packet, from 0; else 0 */
+    likvost_number value; /* likvost_propose: the base; likvost_vote: the head; else 0 */
+    uint64_t new_blocks;  /* likvost_receive: how many blocks were new */
+    uint64_t new_votes;   /* likvost_receive: how many votes were new; old ones are not */
+    uint64_t brought;     /* likvost_receive: 1 if the packet came into view at once */
+    likvost_clock clock;  /* the clock after the call */
 } likvost_answer;
 
 /* The answer of a question. */
 typedef struct {
     uint64_t refusal;
-    uint64_t found; /* 1 if there is a block; likvost_fast may answer 0 */
-    uint64_t value; /* the block's number */
+    uint64_t found;       /* 1 if there is a block; likvost_fast may answer 0 */
+    likvost_number value; /* the block's number */
 } likvost_found;
 
 /* The answer of likvost_write. */
@@ -132,9 +147,9 @@ typedef struct {
 likvost_answer likvost_open(likvost_settings settings, likvost_clock clock, uint64_t *blocks, size_t blocks_len,
                             size_t *blocks_used, uint64_t *votes, size_t votes_len, size_t *votes_used);
 
-/* Takes a packet: its new entries wait at the tables' ends. The first proposal of the beat's slot, in phase 0, comes into view at
- * once. An old vote, of a slot below clock.merged - expiry, must keep the rules too, but is not stored, not new and needs no place;
- * the block that it is for comes into view with a proposal all the same.
+/* Takes a packet, wide or narrow: its new entries wait at the tables' ends. The first proposal of the beat's slot, in phase 0, comes into
+ * view at once. A number of a narrow packet has the upper half 0. An old vote, of a slot below clock.merged - expiry, must keep the rules
+ * too, but is not stored, not new and needs no place; the block that it is for comes into view with a proposal all the same.
  * Refusals: 6 7 8 9 20 21 10. With 9 and 20 `index` tells which block or vote was the first to break a rule. */
 likvost_answer likvost_receive(likvost_settings settings, likvost_clock clock, uint64_t *blocks, size_t blocks_len,
                                size_t *blocks_used, uint64_t *votes, size_t votes_len, size_t *votes_used, uint64_t beat,
@@ -143,7 +158,7 @@ likvost_answer likvost_receive(likvost_settings settings, likvost_clock clock, u
 /* Builds a block with this number on the base, and brings the whole store into view. Refusals: 6 7 11 12 13 14 15 10. */
 likvost_answer likvost_propose(likvost_settings settings, likvost_clock clock, uint64_t *blocks, size_t blocks_len,
                                size_t *blocks_used, uint64_t *votes, size_t votes_len, size_t *votes_used, uint64_t beat,
-                               uint64_t number);
+                               likvost_number number);
 
 /* Votes for the head; the vote waits. Refusals: 6 7 11 12 13 16 10. */
 likvost_answer likvost_vote(likvost_settings settings, likvost_clock clock, uint64_t *blocks, size_t blocks_len,
@@ -172,11 +187,14 @@ likvost_found likvost_fast(likvost_settings settings, likvost_clock clock, const
                            size_t blocks_used, const uint64_t *votes, size_t votes_len, size_t votes_used, uint64_t slot);
 
 /* Writes the node's gossip (its whole store) or its proposal (its view) into the buffer. Bytes beyond the packet stay.
- * A packet takes 17 bytes, 20 for each block but block 0 and 13 for each vote: at most LIKVOST_LARGEST_PACKET.
- * Refusals: 6 19 18. */
+ * Write wide: the packet (kind 2 gossip, 3 proposal) has numbers of 16 bytes, and takes 25 bytes, 36 for each block but block 0 and 21 for
+ * each vote: at most LIKVOST_LARGEST_PACKET. Narrow is for old boards, which read numbers of 8 bytes alone: the packet (kind 0 or 1) takes
+ * 17 bytes, 20 and 13. Where one of the numbers that it would hold has an upper half that is not 0, the call is refused by 23.
+ * likvost_receive reads all four kinds.
+ * Refusals: 6 19 23 18. */
 likvost_written likvost_write(likvost_settings settings, likvost_clock clock, const uint64_t *blocks, size_t blocks_len,
                               size_t blocks_used, const uint64_t *votes, size_t votes_len, size_t votes_used, bool proposal,
-                              uint8_t *buffer, size_t buffer_len);
+                              bool wide, uint8_t *buffer, size_t buffer_len);
 
 #ifdef __cplusplus
 }

@@ -4,15 +4,16 @@
 #include <stdlib.h>
 #include "likvost.h"
 
-enum { BLOCKS = 4, VOTES = 12, SLOTS = 1000, BUFFER = 64 };
+enum { BLOCKS = 4, VOTES = 12, SLOTS = 1000, BUFFER = 128 };
+enum { BLOCK_WORDS = LIKVOST_BLOCK_WORDS * BLOCKS, VOTE_WORDS = LIKVOST_VOTE_WORDS * VOTES };
 
 static const likvost_settings settings = {.nodes = 3, .own = 0, .expiry = 2, .depth = 1};
 static likvost_clock now;
-static uint64_t blocks[4 * BLOCKS], votes[4 * VOTES];
+static uint64_t blocks[BLOCK_WORDS], votes[VOTE_WORDS];
 static size_t blocks_used, votes_used;
 
-#define TABLES blocks, 4 * BLOCKS, &blocks_used, votes, 4 * VOTES, &votes_used
-#define READ_TABLES blocks, 4 * BLOCKS, blocks_used, votes, 4 * VOTES, votes_used
+#define TABLES blocks, BLOCK_WORDS, &blocks_used, votes, VOTE_WORDS, &votes_used
+#define READ_TABLES blocks, BLOCK_WORDS, blocks_used, votes, VOTE_WORDS, votes_used
 
 /* Keeps the clock; ends the program if the call was refused. */
 static likvost_answer keep(likvost_answer a)
@@ -32,33 +33,34 @@ static uint8_t *put(uint8_t *at, uint64_t number, int bytes)
     return at;
 }
 
-/* Gossip with the votes of nodes 1 and 2 in this slot. */
-static size_t gossip(uint8_t *packet, uint64_t slot, uint64_t block)
+/* Wide gossip with the votes of nodes 1 and 2 in this slot. */
+static size_t gossip(uint8_t *packet, uint64_t slot, likvost_number block)
 {
-    uint8_t *p = put(put(put(packet, 0, 13), 0, 2), 2, 2);
+    uint8_t *p = put(put(put(put(packet, 2, 1), 0, 20), 0, 2), 2, 2);
     for (uint64_t voter = 1; voter <= 2; voter++)
-        p = put(put(put(p, voter, 1), slot, 4), block, 8);
+        p = put(put(put(put(p, voter, 1), slot, 4), block.lower, 8), block.upper, 8);
     return (size_t)(p - packet);
 }
 
 static void ask(uint64_t slot)
 {
     likvost_found head = likvost_head(settings, now, READ_TABLES, slot);
-    if (head.refusal == LIKVOST_OK)
-        printf("slot %d: head %d\n", (int)slot, (int)head.value);
+    if (head.refusal == LIKVOST_OK) /* no number here has an upper half */
+        printf("slot %d: head %d\n", (int)slot, (int)head.value.lower);
     else
         printf("slot %d: refused by %d, %s\n", (int)slot, (int)head.refusal, likvost_refusal_message(head.refusal));
 }
 
 int main(void)
 {
+    const likvost_number zero = {.lower = 0}, number = {.lower = 31};
     uint8_t packet[BUFFER];
     size_t most = 0;
     keep(likvost_open(settings, now, TABLES));
     for (uint64_t slot = 1; slot <= SLOTS; slot++) {
         if (slot == 3)
-            keep(likvost_propose(settings, now, TABLES, 3 * slot, 31));
-        uint64_t head = keep(likvost_vote(settings, now, TABLES, 3 * slot + 1)).value;
+            keep(likvost_propose(settings, now, TABLES, 3 * slot, number));
+        likvost_number head = keep(likvost_vote(settings, now, TABLES, 3 * slot + 1)).value;
         size_t length = gossip(packet, slot, head);
         keep(likvost_receive(settings, now, TABLES, 3 * slot + 1, packet, length));
         most = votes_used > most ? votes_used : most;
@@ -69,7 +71,7 @@ int main(void)
     ask(SLOTS - 1);
     for (uint64_t slot = SLOTS - 3; slot <= SLOTS - 2; slot++) {
         /* votes for block 0, which nobody has yet cast in these slots: they are old in slot 997, and new in slot 998 */
-        size_t length = gossip(packet, slot, 0);
+        size_t length = gossip(packet, slot, zero);
         likvost_answer a = keep(likvost_receive(settings, now, TABLES, 3 * SLOTS + 2, packet, length));
         printf("two votes of slot %d: %d new, %d in the table\n", (int)slot, (int)a.new_votes, (int)votes_used);
     }

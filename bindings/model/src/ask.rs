@@ -5,7 +5,7 @@ use crate::tables::{Block, Clock, Node, Settings, Vote};
 /// The program: from the bytes of its standard input to the text that it prints.
 pub fn chainask(input: &[u8]) -> String {
     match answers(input) {
-        // "`head 31`, `deep 11`, `fast none`, one a line"
+        // "`head 31`, `deep 11`, `fast none`, one a line", "the word and the decimal block number"
         Ok((head, deep, fast)) => {
             let fast = fast.map_or("none".to_string(), |number| number.to_string());
             format!("head {head}\ndeep {deep}\nfast {fast}\n")
@@ -16,7 +16,7 @@ pub fn chainask(input: &[u8]) -> String {
 }
 
 /// Head, deep block and fast block, or the number of the first refusal.
-fn answers(input: &[u8]) -> Result<(u64, u64, Option<u64>), u32> {
+fn answers(input: &[u8]) -> Result<(u128, u128, Option<u128>), u32> {
     // "input below 9 or above 32,768 bytes is refused as 8 before anything else"
     if input.len() > 32_768 {
         return Err(8);

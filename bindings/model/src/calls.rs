@@ -1,5 +1,5 @@
 //! The calls on a node. A number in `Err` is the refusal's; a refused call changes nothing.
-//! Words of requests 1 and 4 are marked so.
+//! Words of requests 1, 4 and 8 are marked so.
 
 use crate::packet::{Packet, PacketBlock, PacketVote};
 use crate::tables::{phase_of, slot_of, Block, Node, Vote};
@@ -80,7 +80,7 @@ impl Node {
         let new_votes = self.new_votes(beat, &packet)?;
         // Request 1: "21 when a proposal's header names no block of the packet or another slot"
         let named = |block: &PacketBlock| block.number == packet.number && block.slot == packet.slot;
-        refuse_if(packet.kind == 1 && !packet.blocks.iter().any(named), 21).map_err(Refused::whole)?;
+        refuse_if(packet.is_proposal() && !packet.blocks.iter().any(named), 21).map_err(Refused::whole)?;
         // "10 fewer free places than new entries"
         refuse_if(self.blocks.len() - self.blocks_used < new_blocks.len(), 10).map_err(Refused::whole)?;
         refuse_if(self.votes.len() - self.votes_used < new_votes.len(), 10).map_err(Refused::whole)?;
@@ -93,7 +93,7 @@ impl Node {
             self.add_vote(*vote);
         }
         // "A proposal whose slot is the beat's slot, in phase 0, as the first of that slot's proposals to be accepted"
-        let of_the_beat = packet.kind == 1 && u64::from(packet.slot) == slot_of(beat) && phase_of(beat) == 0;
+        let of_the_beat = packet.is_proposal() && u64::from(packet.slot) == slot_of(beat) && phase_of(beat) == 0;
         let brought = of_the_beat && self.clock.proposed != slot_of(beat);
         if brought {
             self.bring_into_view(&packet);
@@ -105,7 +105,7 @@ impl Node {
     }
 
     /// Propose: makes the block of an own slot and answers the base.
-    pub fn propose(&mut self, beat: u64, number: u64) -> Result<u64, u32> {
+    pub fn propose(&mut self, beat: u64, number: u128) -> Result<u128, u32> {
         let t = slot_of(beat);
         self.test_due(beat, 0)?;
         self.test_joined(t)?;
@@ -125,7 +125,7 @@ impl Node {
     }
 
     /// Vote: stores the own vote for the head and answers the head.
-    pub fn vote(&mut self, beat: u64) -> Result<u64, u32> {
+    pub fn vote(&mut self, beat: u64) -> Result<u128, u32> {
         let t = slot_of(beat);
         self.test_due(beat, 1)?;
         self.test_joined(t)?;
@@ -153,27 +153,29 @@ impl Node {
     }
 
     /// Head: the head for a slot.
-    pub fn head(&self, slot: u64) -> Result<u64, u32> {
+    pub fn head(&self, slot: u64) -> Result<u128, u32> {
         self.test_question(slot)?;
         Ok(View::in_view(self).head(slot))
     }
 
     /// Deep: the deep block for a slot.
-    pub fn deep(&self, slot: u64) -> Result<u64, u32> {
+    pub fn deep(&self, slot: u64) -> Result<u128, u32> {
         self.test_question(slot)?;
         Ok(View::in_view(self).deep(slot))
     }
 
     /// Fast: the fast block for a slot, if there is one.
-    pub fn fast(&self, slot: u64) -> Result<Option<u64>, u32> {
+    pub fn fast(&self, slot: u64) -> Result<Option<u128>, u32> {
         self.test_question(slot)?;
         Ok(View::in_view(self).fast(slot))
     }
 
     /// Write: writes a packet into the front of the buffer and answers its length.
-    pub fn write(&self, proposal: bool, buffer: &mut [u8]) -> Result<usize, u32> {
+    pub fn write(&self, proposal: bool, wide: bool, buffer: &mut [u8]) -> Result<usize, u32> {
         self.test_sound()?;
-        let packet = if proposal { self.proposal().ok_or(19u32)? } else { self.gossip() };
+        let packet = if proposal { self.proposal(wide).ok_or(19u32)? } else { self.gossip(wide) };
+        // Request 8: "23 when narrow writing meets a number whose upper half is not zero", "after 19 and before 18"
+        refuse_if(!wide && packet.needs_wide(), 23)?;
         let bytes = packet.encode();
         // "18 buffer too short"
         refuse_if(buffer.len() < bytes.len(), 18)?;
@@ -217,7 +219,7 @@ impl Node {
     /// The packet's blocks that are new, or refusal 9 for the first that breaks a rule.
     fn new_blocks(&self, beat: u64, packet: &Packet) -> Result<Vec<Block>, Refused> {
         // "stock and earlier entries count as known"
-        let mut known: HashMap<u64, (u64, u64)> =
+        let mut known: HashMap<u128, (u128, u64)> =
             self.stock_blocks().iter().map(|block| (block.number, (block.parent, block.slot))).collect();
         let mut new = Vec::new();
         for (index, entry) in packet.blocks.iter().enumerate() {
@@ -250,15 +252,15 @@ impl Node {
 
     /// The packet's votes that are new, or refusal 20 for the first that breaks a rule. Its blocks must keep theirs.
     fn new_votes(&self, beat: u64, packet: &Packet) -> Result<Vec<Vote>, Refused> {
-        let mut block_slots: HashMap<u64, u64> = self.stock_blocks().iter().map(|b| (b.number, b.slot)).collect();
+        let mut block_slots: HashMap<u128, u64> = self.stock_blocks().iter().map(|b| (b.number, b.slot)).collect();
         block_slots.extend(packet.blocks.iter().map(|b| (b.number, u64::from(b.slot))));
-        let mut known: HashSet<(u64, u64, u64)> =
+        let mut known: HashSet<(u64, u64, u128)> =
             self.stock_votes().iter().map(|vote| (vote.voter, vote.slot, vote.number)).collect();
         let mut new = Vec::new();
         for (index, entry) in packet.votes.iter().enumerate() {
             // Request 1: "20 when a vote breaks a vote rule"
             let refused = Refused::entry(20, index);
-            let (voter, slot, number) = wide(entry);
+            let (voter, slot, number) = fields(entry);
             // "voter not below n"
             if voter >= self.settings.nodes {
                 return Err(refused);
@@ -283,11 +285,11 @@ impl Node {
 
     /// "brings its entries, the blocks they vote for and the ancestors of all these into view"
     fn bring_into_view(&mut self, packet: &Packet) {
-        let votes: HashSet<(u64, u64, u64)> = packet.votes.iter().map(wide).collect();
+        let votes: HashSet<(u64, u64, u128)> = packet.votes.iter().map(fields).collect();
         for vote in &mut self.votes[..self.votes_used] {
             vote.in_view |= votes.contains(&(vote.voter, vote.slot, vote.number));
         }
-        let mut blocks: HashSet<u64> = packet.blocks.iter().map(|block| block.number).collect();
+        let mut blocks: HashSet<u128> = packet.blocks.iter().map(|block| block.number).collect();
         // Request 4: of a vote that is not stored, it "brings that vote's block and its ancestors all the same".
         blocks.extend(packet.votes.iter().map(|vote| vote.number));
         // A parent stands earlier than its children, so going backwards finds all ancestors.
@@ -339,12 +341,13 @@ impl Node {
     }
 
     /// "Gossip writes the stock"
-    fn gossip(&self) -> Packet {
-        self.packet(0, 0, 0, |_in_view| true)
+    fn gossip(&self, wide: bool) -> Packet {
+        self.packet(if wide { 2 } else { 0 }, 0, 0, |_in_view| true)
     }
 
     /// "a proposal the view"; none where refusal 19 applies.
-    fn proposal(&self) -> Option<Packet> {
+    fn proposal(&self, wide: bool) -> Option<Packet> {
+        let kind = if wide { 3 } else { 1 };
         let t = slot_of(self.clock.seen);
         // "the beat seen is not phase 0 of a slot this node proposed"
         let phase = phase_of(self.clock.seen) == 0;
@@ -352,11 +355,11 @@ impl Node {
         let own = self.clock.done == 3 * t && self.settings.own == t % self.settings.nodes;
         // "and the last block in view has slot t; that block is the proposed one"
         let last = self.stock_blocks().iter().rev().find(|block| block.in_view)?;
-        (phase && own && last.slot == t).then(|| self.packet(1, t, last.number, |in_view| in_view))
+        (phase && own && last.slot == t).then(|| self.packet(kind, t, last.number, |in_view| in_view))
     }
 
     /// "Entries keep table order; block 0 is never written." The tables must be sound, so slots and voters fit.
-    fn packet(&self, kind: u8, slot: u64, number: u64, wanted: impl Fn(bool) -> bool) -> Packet {
+    fn packet(&self, kind: u8, slot: u64, number: u128, wanted: impl Fn(bool) -> bool) -> Packet {
         let blocks = self.stock_blocks()[1..].iter().filter(|block| wanted(block.in_view));
         let votes = self.stock_votes().iter().filter(|vote| wanted(vote.in_view));
         Packet {
@@ -370,6 +373,6 @@ impl Node {
 }
 
 /// Voter, slot and number of a packet's vote, as the table holds them.
-fn wide(vote: &PacketVote) -> (u64, u64, u64) {
+fn fields(vote: &PacketVote) -> (u64, u64, u128) {
     (u64::from(vote.voter), u64::from(vote.slot), vote.number)
 }

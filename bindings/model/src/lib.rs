@@ -1,4 +1,4 @@
-//! An executable model of one node, written from document 01 with requests 1, 2 and 4. Request 3 changes no answer.
+//! An executable model of one node, written from document 01 with requests 1, 2, 4 and 8. Request 3 changes no answer.
 //!
 //! It says in the plainest way what each call answers and what it leaves behind. Comments in quotation marks are
 //! words of document 01. Where these leave something open, READINGS.md says what was taken.

@@ -59,13 +59,14 @@ pub struct Clock {
     pub proposed: u64,
 }
 
-/// A place of the block table.
+/// A place of the block table. Request 8: a number is "widened to two 64-bit halves, compared by the upper half first";
+/// so is one of 128 bits.
 #[derive(Debug, Clone, Copy, PartialEq, Eq)]
 pub struct Block {
     /// The block's number.
-    pub number: u64,
+    pub number: u128,
     /// The number of its parent.
-    pub parent: u64,
+    pub parent: u128,
     /// Its slot.
     pub slot: u64,
     /// In view or, if not, waiting.
@@ -80,7 +81,7 @@ pub struct Vote {
     /// The slot of the vote.
     pub slot: u64,
     /// The number of the block voted for.
-    pub number: u64,
+    pub number: u128,
     /// In view or, if not, waiting.
     pub in_view: bool,
 }
@@ -164,7 +165,7 @@ impl Node {
     }
 
     fn votes_are_sound(&self) -> bool {
-        let blocks: HashMap<u64, Block> = self.stock_blocks().iter().map(|&b| (b.number, b)).collect();
+        let blocks: HashMap<u128, Block> = self.stock_blocks().iter().map(|&b| (b.number, b)).collect();
         let mut earlier = HashSet::new();
         for &vote in self.stock_votes() {
             // "a known block"

@@ -1,5 +1,5 @@
 //! Filters and walks over a view: head, base, deep block, fast block.
-//! Words of request 2 are marked so.
+//! Words of requests 2 and 8 are marked so.
 
 use crate::tables::{Block, Node, Settings, Vote};
 use std::collections::{HashMap, HashSet};
@@ -13,7 +13,7 @@ pub(crate) struct View {
     /// For each block the place of its parent in `blocks`; block 0 stands at 0 and has 0.
     parents: Vec<usize>,
     /// The place in `blocks` of each block number.
-    places: HashMap<u64, usize>,
+    places: HashMap<u128, usize>,
 }
 
 impl View {
@@ -30,7 +30,7 @@ impl View {
     }
 
     fn over(settings: Settings, blocks: Vec<Block>, votes: Vec<Vote>) -> View {
-        let places: HashMap<u64, usize> = blocks.iter().enumerate().map(|(place, b)| (b.number, place)).collect();
+        let places: HashMap<u128, usize> = blocks.iter().enumerate().map(|(place, b)| (b.number, place)).collect();
         let parents = blocks.iter().map(|block| places[&block.parent]).collect();
         View { settings, blocks, votes, parents, places }
     }
@@ -43,7 +43,7 @@ impl View {
     /// The voters that are dropped. Request 2: those with "two different votes of one slot among" these slots.
     fn double_voters(&self, slots: Range<u64>) -> HashSet<u64> {
         // The block that each voter's first vote of each slot is for.
-        let mut first: HashMap<(u64, u64), u64> = HashMap::new();
+        let mut first: HashMap<(u64, u64), u128> = HashMap::new();
         let mut double = HashSet::new();
         for vote in self.votes.iter().filter(|vote| slots.contains(&vote.slot)) {
             let number = *first.entry((vote.voter, vote.slot)).or_insert(vote.number);
@@ -100,6 +100,7 @@ impl View {
         // "starts at block 0 and goes to the heaviest child"
         let mut at = 0;
         // "ties to the smaller number, weight 0 included, until no child is left"
+        // Request 8: numbers are "compared by the upper half first"
         let rank = |place: usize| (weights[place], std::cmp::Reverse(self.blocks[place].number));
         while let Some(&next) = children[at].iter().max_by_key(|&&place| rank(place)) {
             at = next;
@@ -113,17 +114,17 @@ impl View {
     }
 
     /// The head for slot t.
-    pub(crate) fn head(&self, t: u64) -> u64 {
+    pub(crate) fn head(&self, t: u64) -> u128 {
         self.blocks[self.head_place(t)].number
     }
 
     /// The base of a proposal of slot t, over the stock: "with children of slots below t only".
-    pub(crate) fn base(&self, t: u64) -> u64 {
+    pub(crate) fn base(&self, t: u64) -> u128 {
         self.blocks[self.walk(t, |block| block.slot < t)].number
     }
 
     /// "the highest block of the head's chain with slot at most t-K, else block 0"
-    pub(crate) fn deep(&self, t: u64) -> u64 {
+    pub(crate) fn deep(&self, t: u64) -> u128 {
         let Some(highest) = t.checked_sub(self.settings.depth) else { return 0 };
         let mut place = self.head_place(t);
         while self.blocks[place].slot > highest {
@@ -133,7 +134,7 @@ impl View {
     }
 
     /// The fast block for slot t.
-    pub(crate) fn fast(&self, t: u64) -> Option<u64> {
+    pub(crate) fn fast(&self, t: u64) -> Option<u128> {
         // "of the votes of slot t in view, without the voters dropped in (1)"
         // Request 2: "for the fast block, only for two in slot t"
         let double = self.double_voters(t..t + 1);

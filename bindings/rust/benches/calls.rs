@@ -2,7 +2,7 @@
 //!
 //! `cargo bench --offline` prints the tables of docs/PERFORMANCE.md.
 
-use likvost::{Clock, Memory, Node, Settings};
+use likvost::{Clock, Memory, Node, Settings, Width, BLOCK_WORDS, VOTE_WORDS};
 use likvost_model as model;
 use std::hint::black_box;
 use std::time::{Duration, Instant};
@@ -10,20 +10,24 @@ use std::time::{Duration, Instant};
 /// Blocks and votes that the tables have places for.
 const SIZES: [(usize, usize); 3] = [(64, 256), (512, 1_024), (2_048, 8_192)];
 const NODES: [u64; 2] = [5, 64];
+/// The number of the next slot's block.
+const NEXT: u128 = (1 << 64) + (1 << 40);
 
 /// What stands in the tables.
 #[derive(Clone, Copy, PartialEq)]
 enum Kind {
     /// There is a block for each slot, on the one before, and each sixteenth on the one before that; every node votes in the last slots
     /// for the block of that slot. What is of the last eighth of these slots waits. Expiry is such that no vote is old, and that those of
-    /// the first of these slots leave at the next Merge, as on a node that merges every slot.
+    /// the first of these slots leave at the next Merge, as on a node that merges every slot. All numbers have one upper half, and their
+    /// lower halves count the slots.
     Honest,
     /// The same with every block on block 0.
     Fan,
     /// The honest blocks, and few voters, each with a vote for every block in the last slot: votes that differ in the lowest bits of a
     /// number alone.
     FewVoters,
-    /// The same with numbers that differ in their highest bits alone: those that make the indices slowest.
+    /// The same with numbers that make the indices slowest: by crates/index/specs/Keys they share a root and all digits but those of the
+    /// highest bits. The low digits are a sum of both halves, which is 0 here, so a descent meets up to 58 blocks.
     Chosen,
     /// The same blocks, and one voter with votes for block 0, in slots that differ in their highest bits alone: the slots that make the
     /// index by voter and slot slowest. Only a node that has not merged for long holds such votes, so this one never did. It is not
@@ -48,15 +52,24 @@ impl Case {
         let last = last_block.max(last_vote);
         let shown = if honest { last - voted / 8 } else { last };
         let mark = |slot: u64| u64::from(slot <= shown);
-        let number = |slot: u64| if honest || kind == Kind::FewVoters { slot } else { slot << 53 };
-        let mut blocks = vec![0, 0, 0, 1];
+        // lower half, upper half
+        let number = |slot: u64| match kind {
+            _ if slot == 0 => [0, 0],
+            Kind::Honest | Kind::Fan | Kind::FewVoters => [slot, 1],
+            Kind::Chosen | Kind::ChosenSlots => {
+                let lower = slot << 53;
+                [lower, lower.wrapping_add(lower / 128 + lower / 8192).wrapping_neg()]
+            }
+        };
+        let mut blocks = vec![0, 0, 0, 0, 0, 1];
         for slot in 1..=last_block {
             let parent = match kind {
                 Kind::Fan => 0,
                 _ if slot % 16 == 0 => slot - 2,
                 _ => slot - 1,
             };
-            blocks.extend([number(slot), number(parent), slot, mark(slot)]);
+            let ([number, number_upper], [parent, parent_upper]) = (number(slot), number(parent));
+            blocks.extend([number, number_upper, parent, parent_upper, slot, mark(slot)]);
         }
         let mut votes = Vec::new();
         for i in 0..used.1 as u64 {
@@ -70,10 +83,11 @@ impl Case {
                 Kind::FewVoters | Kind::Chosen => [i / used.0 as u64, last, i % used.0 as u64],
                 Kind::ChosenSlots => [0, chosen_slot(i), 0],
             };
-            votes.extend([voter, slot, number(block), mark(slot)]);
+            let [number, number_upper] = number(block);
+            votes.extend([voter, slot, number, number_upper, mark(slot)]);
         }
-        blocks.resize(4 * places.0, 0);
-        votes.resize(4 * places.1, 0);
+        blocks.resize(BLOCK_WORDS * places.0, 0);
+        votes.resize(VOTE_WORDS * places.1, 0);
         let seen = 3 * last + 2;
         let clock = match kind {
             Kind::ChosenSlots => Clock { seen, done: 2, merged: 0, proposed: 0 },
@@ -95,8 +109,8 @@ impl Case {
                 Node::open_in(self.settings, &mut memory).expect("settings and lengths are in range");
             }
             "Head" | "Deep" | "Fast" => {
-                memory.blocks.chunks_exact_mut(4).take(memory.blocks_used).for_each(|row| row[3] = 1);
-                memory.votes.chunks_exact_mut(4).take(memory.votes_used).for_each(|row| row[3] = 1);
+                memory.blocks.chunks_exact_mut(BLOCK_WORDS).take(memory.blocks_used).for_each(|row| row[BLOCK_WORDS - 1] = 1);
+                memory.votes.chunks_exact_mut(VOTE_WORDS).take(memory.votes_used).for_each(|row| row[VOTE_WORDS - 1] = 1);
             }
             _ => {}
         }
@@ -112,34 +126,30 @@ impl Case {
 
     fn model(&self, memory: &Memory) -> model::Node {
         let (s, m, k) = (self.settings, memory, memory.clock);
-        let rows = |words: &[u64]| -> Vec<[u64; 4]> { words.chunks_exact(4).map(|r| [r[0], r[1], r[2], r[3]]).collect() };
+        let number = |lower: u64, upper: u64| u128::from(upper) << 64 | u128::from(lower);
+        let block =
+            |r: &[u64]| model::Block { number: number(r[0], r[1]), parent: number(r[2], r[3]), slot: r[4], in_view: r[5] == 1 };
+        let vote = |r: &[u64]| model::Vote { voter: r[0], slot: r[1], number: number(r[2], r[3]), in_view: r[4] == 1 };
         model::Node {
             settings: model::Settings { nodes: s.nodes, own: s.own, expiry: s.expiry, depth: s.depth },
             clock: model::Clock { seen: k.seen, done: k.done, merged: k.merged, proposed: k.proposed },
-            blocks: rows(&m.blocks)
-                .into_iter()
-                .map(|[number, parent, slot, mark]| model::Block { number, parent, slot, in_view: mark == 1 })
-                .collect(),
+            blocks: m.blocks.chunks_exact(BLOCK_WORDS).map(block).collect(),
             blocks_used: m.blocks_used,
-            votes: rows(&m.votes)
-                .into_iter()
-                .map(|[voter, slot, number, mark]| model::Vote { voter, slot, number, in_view: mark == 1 })
-                .collect(),
+            votes: m.votes.chunks_exact(VOTE_WORDS).map(vote).collect(),
             votes_used: m.votes_used,
         }
     }
 
-    /// The packets that are received.
+    /// The packets that are received. They are wide.
     fn packets(&self) -> Packets {
         let node = Node::from_memory(self.settings, self.memory.clone());
         let gossip = node.gossip().expect("the case is sound");
-        let slot = (self.last + 1) as u32;
-        let number = 1 << 40;
+        let (slot, number) = ((self.last + 1) as u32, NEXT);
         let block = model::PacketBlock { number, parent: 0, slot };
         let vote = model::PacketVote { voter: 0, slot, number };
-        let news = model::Packet { kind: 0, slot: 0, number: 0, blocks: vec![block], votes: vec![vote] };
+        let news = model::Packet { kind: 2, slot: 0, number: 0, blocks: vec![block], votes: vec![vote] };
         let mut proposal = model::Packet::decode(&gossip).expect("it was written");
-        (proposal.kind, proposal.slot, proposal.number) = (1, slot, number);
+        (proposal.kind, proposal.slot, proposal.number) = (3, slot, number);
         proposal.blocks.push(block);
         Packets { news: news.encode(), gossip, proposal: proposal.encode() }
     }
@@ -201,14 +211,14 @@ fn pass(case: &Case) -> Run<'_> {
         let m = black_box(m);
         timed(|| {
             let sum = |words: &[u64]| words.iter().fold(0u64, |sum, word| sum ^ black_box(word));
-            sum(&m.blocks[..4 * m.blocks_used]) ^ sum(&m.votes[..4 * m.votes_used])
+            sum(&m.blocks[..BLOCK_WORDS * m.blocks_used]) ^ sum(&m.votes[..VOTE_WORDS * m.votes_used])
         })
     })
 }
 
-/// Times one call on a node, which has the same methods in the proved library and in the model.
+/// Times one call on a node, which has the same methods in the proved library and in the model, but for Open and how Write is told the width.
 macro_rules! timed_call {
-    ($call:expr, $node:expr, $case:expr, $packets:expr, $buffer:expr, $open:expr) => {{
+    ($call:expr, $node:expr, $case:expr, $packets:expr, $wide:expr, $buffer:expr, $open:expr) => {{
         let beat = 3 * ($case.last + 1);
         let n = $node;
         match $call {
@@ -217,13 +227,13 @@ macro_rules! timed_call {
             2 => timed(|| assert_eq!(n.receive(beat, &$packets.gossip).unwrap().new_votes, 0)),
             3 => timed(|| assert_eq!(n.receive(beat, &$packets.gossip).unwrap().new_votes, $case.memory.votes_used as u64)),
             4 => timed(|| assert!(n.receive(beat, &$packets.proposal).unwrap().brought)),
-            5 => timed(|| assert!(n.propose(beat, 1 << 40).is_ok())),
+            5 => timed(|| assert!(n.propose(beat, NEXT).is_ok())),
             6 => timed(|| assert!(n.vote(beat + 1).is_ok())),
             7 => timed(|| assert!(n.merge(beat + 2).is_ok())),
             8 => timed(|| assert!(n.head($case.last).is_ok())),
             9 => timed(|| assert!(n.deep($case.last).is_ok())),
             10 => timed(|| assert!(n.fast($case.last).is_ok())),
-            _ => timed(|| assert!(n.write(false, $buffer).is_ok())),
+            _ => timed(|| assert!(n.write(false, $wide, $buffer).is_ok())),
         }
     }};
 }
@@ -234,7 +244,8 @@ fn proved<'a>(case: &'a Case, call: usize, packets: &'a Packets) -> Run<'a> {
     Box::new(move || {
         let mut node = Node::from_memory(case.settings, memory.clone());
         let mut opened = memory.clone();
-        timed_call!(call, &mut node, case, packets, &mut buffer, || Node::open_in(case.settings, &mut opened).unwrap())
+        let open = || Node::open_in(case.settings, &mut opened).unwrap();
+        timed_call!(call, &mut node, case, packets, Width::Wide, &mut buffer, open)
     })
 }
 
@@ -244,7 +255,7 @@ fn modelled<'a>(case: &'a Case, call: usize, packets: &'a Packets) -> Run<'a> {
     Box::new(move || {
         let mut node = model.clone();
         let mut opened = model.clone();
-        timed_call!(call, &mut node, case, packets, &mut buffer, || opened.open().unwrap())
+        timed_call!(call, &mut node, case, packets, true, &mut buffer, || opened.open().unwrap())
     })
 }
 

@@ -2,11 +2,30 @@
 
 use crate::{Clock, Settings};
 
+/// A block's number: lower + 2^64 * upper.
+#[repr(C)]
+pub struct Number {
+    pub lower: u64,
+    pub upper: u64,
+}
+
+impl From<u128> for Number {
+    fn from(number: u128) -> Number {
+        Number { lower: number as u64, upper: (number >> 64) as u64 }
+    }
+}
+
+impl From<Number> for u128 {
+    fn from(number: Number) -> u128 {
+        u128::from(number.upper) << 64 | u128::from(number.lower)
+    }
+}
+
 #[repr(C)]
 pub struct Answer {
     pub refusal: u64,
     pub index: u64,
-    pub value: u64,
+    pub value: Number,
     pub new_blocks: u64,
     pub new_votes: u64,
     pub brought: u64,
@@ -17,7 +36,7 @@ pub struct Answer {
 pub struct Found {
     pub refusal: u64,
     pub found: u64,
-    pub value: u64,
+    pub value: Number,
 }
 
 #[repr(C)]
@@ -63,7 +82,7 @@ extern "C" {
         votes_len: usize,
         votes_used: *mut usize,
         beat: u64,
-        number: u64,
+        number: Number,
     ) -> Answer;
     pub fn likvost_vote(
         settings: Settings,
@@ -130,6 +149,7 @@ extern "C" {
         votes_len: usize,
         votes_used: usize,
         proposal: bool,
+        wide: bool,
         buffer: *mut u8,
         buffer_len: usize,
     ) -> Written;

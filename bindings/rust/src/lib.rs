@@ -13,6 +13,9 @@
 //! Blocks stay in their table; votes leave when they are old. Once slot `m` was merged no slot that may be asked for looks at votes of
 //! slots below `m - expiry`: [`Node::merge`] removes them, and [`Node::receive`] accepts those that still come but does not store them.
 //!
+//! A block's number has 16 bytes. Nodes write their packets wide, with whole numbers; for boards that read numbers of 8 bytes alone there
+//! are narrow packets, see [`Width`].
+//!
 //! ```
 //! use likvost::{Node, Settings};
 //!
@@ -21,21 +24,22 @@
 //! let mut a = Node::open(settings(0), 16, 32)?;
 //! let mut b = Node::open(settings(1), 16, 32)?;
 //!
-//! // Slot 1 is node 1's: it proposes block 11, and the proposal reaches node 0 in the same beat.
-//! assert_eq!(b.propose(3, 11)?, 0);
+//! // Slot 1 is node 1's: it proposes a block on block 0, and the proposal reaches node 0 in the same beat.
+//! let number = 0x0194_37a1_c0de_7000_8f3b_52d9_6e10_4a7c;
+//! assert_eq!(b.propose(3, number)?, 0);
 //! let received = a.receive(3, &b.proposal()?)?;
 //! assert!(received.brought);
 //!
 //! // Both vote for it, exchange their votes and merge.
-//! assert_eq!(a.vote(4)?, 11);
-//! assert_eq!(b.vote(4)?, 11);
+//! assert_eq!(a.vote(4)?, number);
+//! assert_eq!(b.vote(4)?, number);
 //! let (from_a, from_b) = (a.gossip()?, b.gossip()?);
 //! a.receive(4, &from_b)?;
 //! b.receive(4, &from_a)?;
 //! a.merge(5)?;
 //! b.merge(5)?;
-//! assert_eq!(a.head(1)?, 11);
-//! assert_eq!(a.fast(1)?, Some(11));
+//! assert_eq!(a.head(1)?, number);
+//! assert_eq!(a.fast(1)?, Some(number));
 //! assert_eq!(a.deep(1)?, 0);
 //! # Ok(())
 //! # }
@@ -48,8 +52,14 @@ mod refusal;
 
 pub use refusal::Refusal;
 
+/// Words to a row of [`Memory::blocks`].
+pub const BLOCK_WORDS: usize = 6;
+
+/// Words to a row of [`Memory::votes`].
+pub const VOTE_WORDS: usize = 5;
+
 /// No node sends a packet of more bytes. Drop longer ones before [`Node::receive`], which takes long to refuse them.
-pub const LARGEST_PACKET: usize = 17 + 20 * 2047 + 13 * 8192;
+pub const LARGEST_PACKET: usize = Width::Wide.packet_length(2047, 8192);
 
 /// What a node is opened with. All nodes of a network have the same `nodes`, `expiry` and `depth`.
 #[repr(C)]
@@ -90,7 +100,46 @@ pub struct Received {
     pub brought: bool,
 }
 
-/// The memory of a node, as it is lent to every call: words, four to a row.
+/// How many bytes the numbers of a packet have. [`Node::receive`] reads both.
+///
+/// ```
+/// use likvost::{Node, Refusal, Settings, Width};
+///
+/// # fn main() -> Result<(), Refusal> {
+/// let mut node = Node::open(Settings { nodes: 1, own: 0, expiry: 4, depth: 1 }, 16, 32)?;
+/// node.propose(3, 11)?;
+/// assert_eq!(node.packet(false, Width::Narrow)?.len(), 17 + 20);
+/// assert_eq!(node.gossip()?.len(), 25 + 36);
+///
+/// node.merge(5)?;
+/// node.propose(6, (1 << 64) + 11)?;
+/// assert_eq!(node.packet(false, Width::Narrow), Err(Refusal::Wide));
+/// assert_eq!(node.gossip()?.len(), 25 + 2 * 36);
+/// # Ok(())
+/// # }
+/// ```
+#[derive(Clone, Copy, Debug, PartialEq, Eq)]
+pub enum Width {
+    /// 8 bytes, for boards that read no others: kinds 0 (gossip) and 1 (proposal). A packet takes 17 bytes, 20 for each block but block 0 and
+    /// 13 for each vote. Where one of its numbers is 2^64 or more, writing is refused by [`Refusal::Wide`].
+    Narrow,
+    /// All 16 bytes, as nodes write: kinds 2 (gossip) and 3 (proposal). A packet takes 25 bytes, 36 for each block but block 0 and 21 for each
+    /// vote.
+    Wide,
+}
+
+impl Width {
+    /// The bytes of a packet with so many blocks and votes.
+    const fn packet_length(self, blocks: usize, votes: usize) -> usize {
+        match self {
+            Width::Narrow => 17 + 20 * blocks + 13 * votes,
+            Width::Wide => 25 + 36 * blocks + 21 * votes,
+        }
+    }
+}
+
+/// The memory of a node, as it is lent to every call: words, [`BLOCK_WORDS`] or [`VOTE_WORDS`] to a row. A number takes two, the lower half
+/// first.
 ///
 /// [`Node`] keeps it for you. It is public for tests and for storing a node. Every call takes any memory: what is unsound is refused.
 ///
@@ -107,9 +156,9 @@ pub struct Received {
 /// ```
 #[derive(Clone, Debug, PartialEq, Eq)]
 pub struct Memory {
-    /// number, parent, slot, mark of each block
+    /// number (lower half, upper half), parent (lower half, upper half), slot, mark of each block
     pub blocks: Vec<u64>,
-    /// voter, slot, number, mark of each vote
+    /// voter, slot, number (lower half, upper half), mark of each vote
     pub votes: Vec<u64>,
     /// how many rows of `blocks` are in use
     pub blocks_used: usize,
@@ -153,10 +202,10 @@ impl Node {
     /// of a voter in a slot takes a place too, and a dishonest voter may cast one for each block.
     pub fn open(settings: Settings, block_places: usize, vote_places: usize) -> Result<Node, Refusal> {
         // No table of more places is opened, so no more memory is asked for.
-        let words = |places: usize, limit: usize| if places > limit { 0 } else { 4 * places };
+        let within = |places: usize, limit: usize| if places > limit { 0 } else { places };
         let mut memory = Memory {
-            blocks: vec![0; words(block_places, 2048)],
-            votes: vec![0; words(vote_places, 8192)],
+            blocks: vec![0; BLOCK_WORDS * within(block_places, 2048)],
+            votes: vec![0; VOTE_WORDS * within(vote_places, 8192)],
             blocks_used: 0,
             votes_used: 0,
             clock: Clock::default(),
@@ -202,7 +251,7 @@ impl Node {
         }
     }
 
-    /// Takes a packet. Its new entries wait; the first proposal of the beat's slot, in phase 0, comes into view at once.
+    /// Takes a packet of either [`Width`]. Its new entries wait; the first proposal of the beat's slot, in phase 0, comes into view at once.
     /// An old vote, of a slot below the one last merged less `expiry`, must keep the rules too, but is not stored, not new and needs no place;
     /// the block that it is for comes into view with a proposal all the same.
     /// A packet with a block or vote that breaks a rule is refused whole; [`Refusal::Block`] and [`Refusal::Vote`] tell the first such entry.
@@ -216,21 +265,21 @@ impl Node {
     }
 
     /// Builds a block with this number on the base, and answers the base.
-    pub fn propose(&mut self, beat: u64, number: u64) -> Result<u64, Refusal> {
+    pub fn propose(&mut self, beat: u64, number: u128) -> Result<u128, Refusal> {
         let m = &mut self.memory;
         let (b, bl, bu, v, vl, vu) = lend!(m);
         // SAFETY: as in `open_in`.
-        let a = unsafe { ffi::likvost_propose(self.settings, m.clock, b, bl, bu, v, vl, vu, beat, number) };
-        Self::answered(m, a).map(|a| a.value)
+        let a = unsafe { ffi::likvost_propose(self.settings, m.clock, b, bl, bu, v, vl, vu, beat, number.into()) };
+        Self::answered(m, a).map(|a| a.value.into())
     }
 
     /// Votes for the head, and answers it.
-    pub fn vote(&mut self, beat: u64) -> Result<u64, Refusal> {
+    pub fn vote(&mut self, beat: u64) -> Result<u128, Refusal> {
         let m = &mut self.memory;
         let (b, bl, bu, v, vl, vu) = lend!(m);
         // SAFETY: as in `open_in`.
         let a = unsafe { ffi::likvost_vote(self.settings, m.clock, b, bl, bu, v, vl, vu, beat) };
-        Self::answered(m, a).map(|a| a.value)
+        Self::answered(m, a).map(|a| a.value.into())
     }
 
     /// Brings all waiting entries into view, and removes the votes of slots below `t - expiry`, `t` being the beat's slot: the others keep
@@ -254,21 +303,21 @@ impl Node {
     /// assert_eq!(node.head(7), Ok(0));
     /// assert_eq!(node.head(8), Err(Refusal::Slot));
     /// ```
-    pub fn head(&self, slot: u64) -> Result<u64, Refusal> {
-        self.ask(ffi::likvost_head, slot).map(|found| found.value)
+    pub fn head(&self, slot: u64) -> Result<u128, Refusal> {
+        self.ask(ffi::likvost_head, slot).map(|found| found.value.into())
     }
 
     /// The deep block for a slot. Ask after the vote in it: under the conditions of docs/PROOF.md (packets in time, enough voters awake, an honest
     /// block in every `depth` slots) the deep blocks that honest nodes have then stand on one chain.
-    pub fn deep(&self, slot: u64) -> Result<u64, Refusal> {
-        self.ask(ffi::likvost_deep, slot).map(|found| found.value)
+    pub fn deep(&self, slot: u64) -> Result<u128, Refusal> {
+        self.ask(ffi::likvost_deep, slot).map(|found| found.value.into())
     }
 
     /// The fast block for a slot, if there is one; block 0 where three quarters of the nodes agree on nothing else. Ask after the Merge of it:
     /// under the conditions of docs/PROOF.md (fewer than a quarter of the nodes dishonest, packets in time, enough voters awake) it stays under
     /// every later honest vote and block.
-    pub fn fast(&self, slot: u64) -> Result<Option<u64>, Refusal> {
-        self.ask(ffi::likvost_fast, slot).map(|found| (found.found != 0).then_some(found.value))
+    pub fn fast(&self, slot: u64) -> Result<Option<u128>, Refusal> {
+        self.ask(ffi::likvost_fast, slot).map(|found| (found.found != 0).then_some(found.value.into()))
     }
 
     fn ask(&self, question: ffi::Question, slot: u64) -> Result<ffi::Found, Refusal> {
@@ -284,8 +333,9 @@ impl Node {
         }
     }
 
-    /// Writes gossip or, if `proposal`, the own proposal into a buffer, and answers the packet's length.
-    pub fn write(&self, proposal: bool, buffer: &mut [u8]) -> Result<usize, Refusal> {
+    /// Writes gossip or, if `proposal`, the own proposal into a buffer, and answers the packet's length. A buffer of [`LARGEST_PACKET`]
+    /// bytes is always long enough.
+    pub fn write(&self, proposal: bool, width: Width, buffer: &mut [u8]) -> Result<usize, Refusal> {
         let m = &self.memory;
         // SAFETY: as in `ask`; the buffer is written within its length.
         let w = unsafe {
@@ -299,6 +349,7 @@ impl Node {
                 m.votes.len(),
                 m.votes_used,
                 proposal,
+                width == Width::Wide,
                 buffer.as_mut_ptr(),
                 buffer.len(),
             )
@@ -306,21 +357,22 @@ impl Node {
         Refusal::from_answer(w.refusal, 0).map_or(Ok(w.length as usize), Err)
     }
 
-    /// The node's gossip: its whole store as a packet.
+    /// The node's gossip: its whole store as a wide packet.
     pub fn gossip(&self) -> Result<Vec<u8>, Refusal> {
-        self.packet(false)
+        self.packet(false, Width::Wide)
     }
 
-    /// The node's proposal of the beat seen: its view as a packet.
+    /// The node's proposal of the beat seen: its view as a wide packet.
     pub fn proposal(&self) -> Result<Vec<u8>, Refusal> {
-        self.packet(true)
+        self.packet(true, Width::Wide)
     }
 
-    fn packet(&self, proposal: bool) -> Result<Vec<u8>, Refusal> {
+    /// What [`Node::write`] writes.
+    pub fn packet(&self, proposal: bool, width: Width) -> Result<Vec<u8>, Refusal> {
         // Room for all rows that there can be in sound tables.
-        let room = 17 + 20 * self.memory.blocks_used.min(2048) + 13 * self.memory.votes_used.min(8192);
+        let room = width.packet_length(self.memory.blocks_used.min(2048), self.memory.votes_used.min(8192));
         let mut buffer = vec![0; room];
-        let length = self.write(proposal, &mut buffer)?;
+        let length = self.write(proposal, width, &mut buffer)?;
         buffer.truncate(length);
         Ok(buffer)
     }

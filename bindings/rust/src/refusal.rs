@@ -11,11 +11,14 @@ use std::fmt;
 /// assert_eq!(refusal.number(), 1);
 /// assert_eq!(refusal.to_string(), "nodes out of range");
 ///
-/// // A gossip packet with no blocks and two votes for block 0: one of node 1, and one of node 7 of 3.
-/// let mut packet = vec![0; 15];
+/// // A wide gossip packet with no blocks and two votes of slot 1 for block 0: one of node 1, and one of node 7 of 3.
+/// let mut packet = vec![2];
+/// packet.extend([0; 22]);
 /// packet.extend([2, 0]);
-/// packet.extend([1, 1, 0, 0, 0, 0, 0, 0, 0, 0, 0, 0, 0]);
-/// packet.extend([7, 1, 0, 0, 0, 0, 0, 0, 0, 0, 0, 0, 0]);
+/// for voter in [1, 7] {
+///     packet.extend([voter, 1, 0, 0, 0]);
+///     packet.extend([0; 16]);
+/// }
 /// let refusal = Node::open(settings, 16, 32).unwrap().receive(3, &packet).unwrap_err();
 /// assert_eq!(refusal, Refusal::Vote(1));
 /// assert_eq!((refusal.number(), refusal.index()), (20, Some(1)));
@@ -65,6 +68,8 @@ pub enum Refusal {
     Vote(u64),
     /// 21: a proposal's header names no block of the packet, or another slot.
     Header,
+    /// 23: narrow writing meets a number of more than 8 bytes.
+    Wide,
 }
 
 impl Refusal {
@@ -93,6 +98,7 @@ impl Refusal {
             19 => Refusal::Proposal,
             20 => Refusal::Vote(index),
             21 => Refusal::Header,
+            23 => Refusal::Wide,
             _ => unreachable!("no call answers this number"),
         })
     }
@@ -121,6 +127,7 @@ impl Refusal {
             Refusal::Proposal => 19,
             Refusal::Vote(_) => 20,
             Refusal::Header => 21,
+            Refusal::Wide => 23,
         }
     }
 
@@ -157,6 +164,7 @@ impl fmt::Display for Refusal {
             Refusal::Buffer => "buffer too short",
             Refusal::Proposal => "no own proposal of this beat",
             Refusal::Header => "the proposal's header does not fit its blocks",
+            Refusal::Wide => "narrow writing meets a number of more than 8 bytes",
         })
     }
 }

@@ -3,6 +3,7 @@
 //! One node makes its calls in every slot and hears the votes of all others. Before it merges slot t its table holds the votes of slots
 //! t - 1 - E to t: n × (E + 2) votes, which is all 8,192 places with 64 nodes and all but two with 5. If old votes stayed, the
 //! table would be full after E + 2 slots, and the run would end with a refusal 10 in slot 129 with 64 nodes, in slot 1,639 with 5.
+//! Numbers have 16 bytes and packets are wide.
 //!
 //! This prints how long a slot takes, and the memory:
 //!
@@ -10,7 +11,7 @@
 //! cargo test --release --offline --test week -- --nocapture
 //! ```
 
-use likvost::{Node, Received, Refusal, Settings, LARGEST_PACKET};
+use likvost::{Node, Received, Refusal, Settings, Width, LARGEST_PACKET, VOTE_WORDS};
 use std::collections::VecDeque;
 use std::time::Instant;
 
@@ -23,7 +24,15 @@ const LOOK: u64 = 3_600;
 const SLACK_KB: u64 = 4_096;
 
 /// Voter, slot and block.
-type Vote = [u64; 3];
+type Vote = (u64, u64, u128);
+
+/// Number, parent and slot.
+type Block = (u128, u128, u64);
+
+/// Block i has the upper half i / 2, and a lower half of 0 or 2^63.
+fn number(i: u64) -> u128 {
+    u128::from(i) << 63
+}
 
 /// Who votes when, and for what. Voter 0 is the node itself, the last ones are dishonest. All of it follows from the slot, so what the
 /// node must answer is known.
@@ -41,25 +50,25 @@ impl Network {
         Settings { nodes: self.nodes, own: 0, expiry: self.expiry, depth: self.depth }
     }
 
-    /// The newest block of the chain in slot t. The one of slot p has the number 2 × p + 1.
-    fn head(&self, t: u64) -> u64 {
+    /// The newest block of the chain in slot t. The one of slot p is block 2 × p + 1.
+    fn head(&self, t: u64) -> u128 {
         let p = t - t % self.pace;
         if p == 0 {
             0
         } else {
-            2 * p + 1
+            number(2 * p + 1)
         }
     }
 
-    fn deep(&self, t: u64) -> u64 {
+    fn deep(&self, t: u64) -> u128 {
         self.head(t.saturating_sub(self.depth))
     }
 
-    /// Number, parent and slot of the newest rival. Every fourth block has one, which stands beside it and comes in the next slot. Its number
-    /// is smaller, so votes alone keep the head off it.
-    fn rival(&self, t: u64) -> Option<[u64; 3]> {
+    /// The newest rival. Every fourth block has one, which stands beside it and comes in the next slot. Its number is smaller, so votes alone
+    /// keep the head off it.
+    fn rival(&self, t: u64) -> Option<Block> {
         let p = t.saturating_sub(1) / (4 * self.pace) * (4 * self.pace);
-        (p > 0).then(|| [2 * p, self.head(p - 1), p + 1])
+        (p > 0).then(|| (number(2 * p), self.head(p - 1), p + 1))
     }
 
     /// Honest voters by turns.
@@ -82,43 +91,44 @@ impl Network {
     fn votes(&self, t: u64, votes: &mut Vec<Vote>) {
         votes.clear();
         for slot in t.saturating_sub(2).max(1)..t {
-            votes.extend(self.late(slot).filter(|&(_, by)| slot + by == t).map(|(voter, _)| [voter, slot, self.head(slot)]));
+            votes.extend(self.late(slot).filter(|&(_, by)| slot + by == t).map(|(voter, _)| (voter, slot, self.head(slot))));
         }
         let first_dishonest = self.nodes - self.dishonest;
         let missing = [self.sleeper(t), self.late(t).map(|(voter, _)| voter)];
-        votes.extend((1..first_dishonest).filter(|&voter| !missing.contains(&Some(voter))).map(|voter| [voter, t, self.head(t)]));
-        let block = self.rival(t).map_or(self.head(t), |[number, _, _]| number);
-        votes.extend((first_dishonest..self.nodes).map(|voter| [voter, t, block]));
-        votes.extend(self.sleeper(t).map(|_| [self.nodes - 1, t, self.head(t)]));
+        votes.extend((1..first_dishonest).filter(|&voter| !missing.contains(&Some(voter))).map(|voter| (voter, t, self.head(t))));
+        let block = self.rival(t).map_or(self.head(t), |(number, _, _)| number);
+        votes.extend((first_dishonest..self.nodes).map(|voter| (voter, t, block)));
+        votes.extend(self.sleeper(t).map(|_| (self.nodes - 1, t, self.head(t))));
     }
 
     /// The fast block right after Merge of t. The votes for the head are for all blocks of the chain, those for the rival for its parent and
     /// all below. With 5 nodes a late vote leaves the rival's parent, and a double vote none.
-    fn fast(&self, t: u64, votes: &[Vote]) -> Option<u64> {
+    fn fast(&self, t: u64, votes: &[Vote]) -> Option<u128> {
         let enough = |count: usize| 4 * count as u64 >= 3 * self.nodes;
         let twice = |voter: u64| self.sleeper(t).is_some() && voter == self.nodes - 1;
-        let count = |block: u64| votes.iter().filter(|&&[voter, slot, b]| slot == t && b == block && !twice(voter)).count();
+        let count = |block: u128| votes.iter().filter(|&&(voter, slot, b)| slot == t && b == block && !twice(voter)).count();
         let for_head = 1 + count(self.head(t));
         match self.rival(t) {
             _ if enough(for_head) => Some(self.head(t)),
-            Some([rival, parent, _]) if enough(for_head + count(rival)) => Some(parent),
+            Some((rival, parent, _)) if enough(for_head + count(rival)) => Some(parent),
             _ => None,
         }
     }
 }
 
-/// A gossip packet.
-fn encode(packet: &mut Vec<u8>, block: Option<[u64; 3]>, votes: &[Vote]) {
+/// A wide gossip packet.
+fn encode(packet: &mut Vec<u8>, block: Option<Block>, votes: &[Vote]) {
     packet.clear();
-    packet.extend([0; 13]);
+    packet.push(2);
+    packet.extend([0; 20]);
     packet.extend(u16::from(block.is_some()).to_le_bytes());
-    if let Some([number, parent, slot]) = block {
+    if let Some((number, parent, slot)) = block {
         packet.extend(number.to_le_bytes());
         packet.extend(parent.to_le_bytes());
         packet.extend((slot as u32).to_le_bytes());
     }
     packet.extend((votes.len() as u16).to_le_bytes());
-    for [voter, slot, number] in votes {
+    for (voter, slot, number) in votes {
         packet.push(*voter as u8);
         packet.extend((*slot as u32).to_le_bytes());
         packet.extend(number.to_le_bytes());
@@ -137,8 +147,9 @@ fn open(settings: Settings) -> Node {
 
 /// The vote table holds these votes in view, in this order, and zeros behind them.
 fn check_votes(node: &Node, kept: &VecDeque<Vote>) {
-    let (used, unused) = node.memory().votes.split_at(4 * node.memory().votes_used);
-    assert!(used.chunks_exact(4).eq(kept.iter().map(|&[voter, slot, number]| [voter, slot, number, 1])));
+    let (used, unused) = node.memory().votes.split_at(VOTE_WORDS * node.memory().votes_used);
+    let rows = kept.iter().map(|&(voter, slot, number)| [voter, slot, number as u64, (number >> 64) as u64, 1]);
+    assert!(used.chunks_exact(VOTE_WORDS).eq(rows));
     assert!(unused.iter().all(|word| *word == 0));
 }
 
@@ -148,11 +159,11 @@ fn check_gossip(node: &Node, other: Node, buffers: &mut [Vec<u8>; 2]) -> Node {
     Node::open_in(node.settings(), &mut memory).expect("settings and places are in range");
     let mut fresh = Node::from_memory(node.settings(), memory);
     let [gossip, again] = buffers;
-    let length = node.write(false, gossip).expect("the largest packet fits");
+    let length = node.write(false, Width::Wide, gossip).expect("the largest packet fits");
     let (new_blocks, new_votes) = (node.memory().blocks_used as u64 - 1, node.memory().votes_used as u64);
     let received = fresh.receive(node.memory().clock.seen, &gossip[..length]);
     assert_eq!(received, Ok(Received { new_blocks, new_votes, brought: false }));
-    assert_eq!(fresh.write(false, again), Ok(length));
+    assert_eq!(fresh.write(false, Width::Wide, again), Ok(length));
     assert!(gossip[..length] == again[..length]);
     fresh
 }
@@ -196,9 +207,9 @@ fn week(network: Network) {
             assert_eq!(node.propose(beat, network.head(t)), Ok(network.head(t - 1)), "slot {t}");
         }
         assert_eq!(node.vote(beat + 1), Ok(network.head(t)), "slot {t}");
-        kept.push_back([0, t, network.head(t)]);
+        kept.push_back((0, t, network.head(t)));
 
-        let rival = network.rival(t).filter(|&[_, _, slot]| slot == t);
+        let rival = network.rival(t).filter(|&(_, _, slot)| slot == t);
         network.votes(t, &mut votes);
         encode(&mut packet, rival, &votes);
         let all_new = Received { new_blocks: u64::from(rival.is_some()), new_votes: votes.len() as u64, brought: false };
@@ -207,7 +218,7 @@ fn week(network: Network) {
         if t % 11 == 0 && t > network.expiry + 2 {
             // the node's own vote that left at the last Merge
             let slot = t - network.expiry - 2;
-            encode(&mut packet, None, &[[0, slot, network.head(slot)]]);
+            encode(&mut packet, None, &[(0, slot, network.head(slot))]);
             let nothing_new = Received { new_blocks: 0, new_votes: 0, brought: false };
             assert_eq!(node.receive(beat + 1, &packet), Ok(nothing_new), "slot {t}");
         }
@@ -215,7 +226,7 @@ fn week(network: Network) {
         peak = peak.max(kept.len());
 
         assert_eq!(node.merge(beat + 2), Ok(()), "slot {t}");
-        kept.retain(|&[_, slot, _]| slot + network.expiry >= t);
+        kept.retain(|&(_, slot, _)| slot + network.expiry >= t);
         assert_eq!(node.memory().votes_used, kept.len(), "slot {t}");
         assert_eq!(lent(&node), first_lent, "slot {t}");
 
@@ -226,7 +237,7 @@ fn week(network: Network) {
             assert_eq!(node.head(t - 1), Err(Refusal::Slot), "slot {t}");
         }
         if t == 3 {
-            let length = node.write(false, &mut buffers[0]).expect("the largest packet fits");
+            let length = node.write(false, Width::Wide, &mut buffers[0]).expect("the largest packet fits");
             assert!(sleeper.receive(beat + 2, &buffers[0][..length]).is_ok());
             assert_eq!(sleeper.merge(beat + 2), Ok(()));
         }

@@ -8,7 +8,7 @@ use native.Mathlib.Omega.{arith}
 use lib.ListN.{length, getD, take}
 use lib.Seq.{take-all}
 use mir.Val.{boolByte}
-use Rattle.protocol.specs.declared.Vote.{Vote}
+use Rattle.protocol.specs.Entry.{Vote}
 use Rattle.protocol.specs.Lists.{any}
 use Rattle.protocol.specs.Store.{sameVote, since}
 use Rattle.protocol.specs.Calls.Receive.{addVotes, addSince}

@@ -7,8 +7,7 @@ use mathlib.Core.Path.{_≡_, ap, sym, _∙_}
 use native.Mathlib.Omega.{arith}
 use lib.Dec.{eqb}
 use lib.ListN.{length, getD, take}
-use Rattle.protocol.specs.declared.Block.{Block}
-use Rattle.protocol.specs.declared.Vote.{Vote}
+use Rattle.protocol.specs.Entry.{Block, Vote}
 use Rattle.protocol.specs.Chain.{Found, find, foundWith, genesis}
 use Rattle.protocol.specs.Store.{entries, sameVote}
 use Rattle.protocol.specs.Packet.{packetOf}

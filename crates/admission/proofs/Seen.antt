@@ -7,7 +7,7 @@ use native.Mathlib.Omega.{arith}
 use lib.Dec.{eqb}
 use lib.ListN.{length, getD, take, replicate}
 use lib.Seq.{take-all}
-use Rattle.protocol.specs.declared.Vote.{Vote}
+use Rattle.protocol.specs.Entry.{Vote}
 use Rattle.protocol.specs.Lists.{any}
 use Rattle.protocol.specs.Chain.{genesis}
 use Rattle.protocol.specs.Store.{sameVote}

@@ -2,8 +2,8 @@
 use Prim.Native.Nat.{ℕ}
 use mathlib.Core.Bool.{Bool, _&&_}
 use lib.Dec.{leb, ltb}
-use Rattle.protocol.specs.declared.Block.{Block}
-use Rattle.protocol.specs.declared.Vote.{Vote}
+use Rattle.protocol.specs.Words.{blockOf}
+use Rattle.protocol.specs.Entry.{Block, Vote}
 use Rattle.protocol.specs.Chain.{Found, found, missing, foundWith}
 use Rattle.protocol.specs.Sound.{between}
 use Rattle.protocol.specs.Calls.Receive.{knownAs}
@@ -11,7 +11,7 @@ use Rattle.admission.specs.declared.Lookup.{Lookup}
 use Rattle.admission.specs.declared.Lookup.the-variants.{Hit, Missing}
 
 abbrev pub foundOf : Lookup → Found
-foundOf (Hit b) = found b
+foundOf (Hit b) = found (blockOf b)
 foundOf Missing = missing
 
 -- `blockAllowed`, by what was found by the parent's number and by the block's own

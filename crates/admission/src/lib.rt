@@ -4,16 +4,18 @@
 // no index, for a packet that is longer than it has room for, each descent is a search of the table and the packet.
 // No function keeps an array.
 use protocol::Block;
+use protocol::Number;
 use protocol::Vote;
 ghost use mathlib.Core.Bool.{true, _&&_};
 ghost use mathlib.Core.Path.{_≡_};
 ghost use Prim.Native.Nat.{_+_, _*_, _<_, _≤_};
 ghost use lib.Dec.{eqb, leb, ltb};
 ghost use lib.ListN.{length, getD, take};
+ghost use Rattle.protocol.specs.Words.{value, blockOf, voteOf};
 ghost use Rattle.protocol.specs.Chain.{foundWith, genesis};
 ghost use Rattle.protocol.specs.Store.{entries, sameBlock, since};
 ghost use Rattle.protocol.specs.Packet.{packetOf};
-ghost use Rattle.protocol.specs.Lent.{rowsOf, makeBlock, makeVote};
+ghost use Rattle.protocol.specs.Lent.{BlocksFit, VotesFit, rowsOf, makeBlock, makeVote};
 ghost use Rattle.protocol.specs.Calls.Receive.{addBlocks, addSince, knownAs, blockAllowed, voteAllowed, headerAllowed, firstBadBlock, firstBadVote};
 ghost use Rattle.packets.specs.Header.{noVote};
 ghost use Rattle.index.specs.Index.{IndexOf, Room};
@@ -33,7 +35,7 @@ enum Lookup {
 
 // The block at a place of the table and the packet together: one more than where it is, or 0.
 fn block_of(blocks: &[u64], used: usize, bytes: &[u8], place: usize) -> Lookup
-    requires { ⌜ (4 * used ≤ length (now blocks)) × (place ≤ used + length (packetOf (now bytes) .blocks)) ⌝ }
+    requires { ⌜ BlocksFit used (now blocks) × (place ≤ used + length (packetOf (now bytes) .blocks)) ⌝ }
     ensures { λ r. ⌜ foundOf r ≡ foundAt (knownBlocks (now (blocks .entry)) used (now (bytes .entry))) place ⌝ }
 {
     if place == 0 {
@@ -56,10 +58,10 @@ fn below(parent: Lookup, slot: u64) -> bool
 }
 
 fn same_block(a: Block, b: Block) -> bool
-    ensures { λ r. ⌜ r ≡ sameBlock a b ⌝ }
+    ensures { λ r. ⌜ r ≡ sameBlock (blockOf a) (blockOf b) ⌝ }
 {
-    if a.number == b.number {
-        if a.parent == b.parent {
+    if numbers::same(a.number, b.number) {
+        if numbers::same(a.parent, b.parent) {
             return a.slot == b.slot;
         }
     }
@@ -68,7 +70,7 @@ fn same_block(a: Block, b: Block) -> bool
 
 // Whether the block that was found by b's number, if any, is b.
 fn known_as(b: Block, old: Lookup) -> bool
-    ensures { λ r. ⌜ r ≡ knownAs b (foundOf old) ⌝ }
+    ensures { λ r. ⌜ r ≡ knownAs (blockOf b) (foundOf old) ⌝ }
 {
     match old {
         Lookup::Hit(c) => same_block(c, b),
@@ -78,7 +80,7 @@ fn known_as(b: Block, old: Lookup) -> bool
 
 // Whether block b keeps the rules at a beat of this slot, by what was found among the blocks before it: by its parent's number and by its own.
 fn block_allowed(slot: u64, b: Block, parent: Lookup, old: Lookup) -> bool
-    ensures { λ r. ⌜ r ≡ blockPasses slot b (foundOf parent) (foundOf old) ⌝ }
+    ensures { λ r. ⌜ r ≡ blockPasses slot (blockOf b) (foundOf parent) (foundOf old) ⌝ }
 {
     if !ranges::within(1, slot, b.slot) {
         return false;
@@ -107,7 +109,7 @@ fn admit_block(
     links: &mut [u16],
     firsts: &mut [u64],
 ) -> Checked
-    requires { ⌜ (4 * used ≤ length (now blocks)) × (numbersDiffer (rowsOf makeBlock (now blocks) used) ≡ true) × (i < length (packetOf (now bytes) .blocks))
+    requires { ⌜ BlocksFit used (now blocks) × (numbersDiffer (rowsOf makeBlock (now blocks) used) ≡ true) × (i < length (packetOf (now bytes) .blocks))
         × (indexed ≡ true → Room (used + i + 1) (now links) × IndexOf KnownBlocks (now blocks) used (now bytes) (used + i) (now links))
         × (used + i < 64 * length (now firsts)) × BlocksSeen (now blocks) used (now bytes) i (now firsts) ⌝ }
     ensures { λ r. ⌜ (r .allowed ≡ blockAllowed slot (addBlocks (entries (rowsOf makeBlock (now (blocks .entry)) used)) (take i (packetOf (now (bytes .entry)) .blocks))) (getD (packetOf (now (bytes .entry)) .blocks) i genesis))
@@ -147,7 +149,7 @@ pub fn admit_blocks(
     links: &mut [u16],
     firsts: &mut [u64],
 ) -> Admitted
-    requires { ⌜ (4 * used ≤ length (now blocks)) × (numbersDiffer (rowsOf makeBlock (now blocks) used) ≡ true)
+    requires { ⌜ BlocksFit used (now blocks) × (numbersDiffer (rowsOf makeBlock (now blocks) used) ≡ true)
         × (indexed ≡ true → Room (used + length (packetOf (now bytes) .blocks)) (now links) × IndexOf KnownBlocks (now blocks) used (now bytes) used (now links))
         × (used + length (packetOf (now bytes) .blocks) ≤ 64 * length (now firsts)) × BlocksSeen (now blocks) used (now bytes) 0 (now firsts) ⌝ }
     ensures { λ r. ⌜ (r .bad ≡ firstBadBlock slot (entries (rowsOf makeBlock (now (blocks .entry)) used)) (packetOf (now (bytes .entry)) .blocks))
@@ -185,7 +187,7 @@ fn at_most(block: Lookup, slot: u64) -> bool
 
 // Whether a vote keeps the rules at a beat of this slot, by the block that was found by its number.
 fn vote_allowed(nodes: u64, slot: u64, vote: Vote, block: Lookup) -> bool
-    ensures { λ r. ⌜ r ≡ votePasses nodes slot vote (foundOf block) ⌝ }
+    ensures { λ r. ⌜ r ≡ votePasses nodes slot (voteOf vote) (foundOf block) ⌝ }
 {
     if nodes <= vote.voter {
         return false;
@@ -209,7 +211,7 @@ fn admit_vote(
     links: &[u16],
     firsts: &mut [u64],
 ) -> bool
-    requires { ⌜ (4 * used ≤ length (now blocks)) × (numbersDiffer (rowsOf makeBlock (now blocks) used) ≡ true) × (known ≡ length (packetOf (now bytes) .blocks))
+    requires { ⌜ BlocksFit used (now blocks) × (numbersDiffer (rowsOf makeBlock (now blocks) used) ≡ true) × (known ≡ length (packetOf (now bytes) .blocks))
         × (i < length (packetOf (now bytes) .votes)) × (indexed ≡ true → IndexOf KnownBlocks (now blocks) used (now bytes) (used + known) (now links))
         × (used + known ≤ 64 * length (now firsts)) × VotedSeen (now blocks) used (now bytes) i (now firsts) ⌝ }
     ensures { λ r. ⌜ (r ≡ voteAllowed nodes slot (addBlocks (entries (rowsOf makeBlock (now (blocks .entry)) used)) (packetOf (now (bytes .entry)) .blocks)) (getD (packetOf (now (bytes .entry)) .votes) i noVote))
@@ -238,7 +240,7 @@ pub fn admit_votes(
     links: &[u16],
     firsts: &mut [u64],
 ) -> usize
-    requires { ⌜ (4 * used ≤ length (now blocks)) × (numbersDiffer (rowsOf makeBlock (now blocks) used) ≡ true)
+    requires { ⌜ BlocksFit used (now blocks) × (numbersDiffer (rowsOf makeBlock (now blocks) used) ≡ true)
         × (indexed ≡ true → IndexOf KnownBlocks (now blocks) used (now bytes) (used + length (packetOf (now bytes) .blocks)) (now links))
         × (used + length (packetOf (now bytes) .blocks) ≤ 64 * length (now firsts))
         × BlocksSeen (now blocks) used (now bytes) (length (packetOf (now bytes) .blocks)) (now firsts) ⌝ }
@@ -283,7 +285,7 @@ fn is_new_vote(
     links: &mut [u16],
     firsts: &mut [u64],
 ) -> bool
-    requires { ⌜ (4 * used ≤ length (now votes)) × (votesDiffer (rowsOf makeVote (now votes) used) ≡ true) × (i < length (packetOf (now bytes) .votes))
+    requires { ⌜ VotesFit used (now votes) × (votesDiffer (rowsOf makeVote (now votes) used) ≡ true) × (i < length (packetOf (now bytes) .votes))
         × (indexed ≡ true → Room (used + i + 1) (now links) × IndexOf KnownVotes (now votes) used (now bytes) (used + i) (now links))
         × (used + i < 64 * length (now firsts)) × VotesSeen (now votes) used (now bytes) i (now firsts) ⌝ }
     ensures { λ r. ⌜ (r ≡ (since from (getD (packetOf (now (bytes .entry)) .votes) i noVote) && voteNew (now (votes .entry)) used (now (bytes .entry)) i))
@@ -311,7 +313,7 @@ pub fn new_votes(
     links: &mut [u16],
     firsts: &mut [u64],
 ) -> usize
-    requires { ⌜ (4 * used ≤ length (now votes)) × (votesDiffer (rowsOf makeVote (now votes) used) ≡ true)
+    requires { ⌜ VotesFit used (now votes) × (votesDiffer (rowsOf makeVote (now votes) used) ≡ true)
         × (indexed ≡ true → Room (used + length (packetOf (now bytes) .votes)) (now links) × IndexOf KnownVotes (now votes) used (now bytes) used (now links))
         × (used + length (packetOf (now bytes) .votes) ≤ 64 * length (now firsts)) × VotesSeen (now votes) used (now bytes) 0 (now firsts) ⌝ }
     ensures { λ r. ⌜ (used + r ≡ length (addSince from (entries (rowsOf makeVote (now (votes .entry)) used)) (packetOf (now (bytes .entry)) .votes)))
@@ -331,10 +333,10 @@ pub fn new_votes(
 // ---- the header
 
 // The block with this number, of this slot.
-fn has_slot(b: Block, number: u64, slot: u64) -> bool
-    ensures { λ r. ⌜ r ≡ (eqb (b .number) number && eqb (b .slot) slot) ⌝ }
+fn has_slot(b: Block, number: Number, slot: u64) -> bool
+    ensures { λ r. ⌜ r ≡ (eqb (value (b .number)) (value number) && eqb (b .slot) slot) ⌝ }
 {
-    if b.number == number {
+    if numbers::same(b.number, number) {
         return b.slot == slot;
     }
     false
@@ -345,7 +347,7 @@ pub fn header_allowed(bytes: &[u8]) -> bool
     ensures { λ r. ⌜ r ≡ headerAllowed (packetOf (now (bytes .entry))) ⌝ }
 {
     let h = packets::header_of(bytes);
-    if h.kind == 0 {
+    if !packets::is_proposal(h.kind) {
         return true;
     }
     let count = h.blocks as usize;

@@ -1,5 +1,6 @@
 -- What each answer of code means: document 01's refusal, or the values of a call that was carried out. Assumes nothing.
 use Prim.Native.Nat.{ℕ}
+use Rattle.protocol.specs.Words.{value}
 use Rattle.protocol.specs.Filters.{Choice, chosen, nothing}
 use Rattle.protocol.specs.Refusal as rules
 use Rattle.protocol.specs.Calls.Receive as receiving
@@ -29,13 +30,13 @@ receivedOf t = record { newBlocks = t .«new_blocks»; newVotes = t .«new_votes
 abbrev pub replyOf : Reply → rules.Reply Value
 replyOf reply.Done = rules.done nothingMore
 replyOf (reply.Received t) = rules.done (received (receivedOf t))
-replyOf (reply.Block b) = rules.done (block b)
+replyOf (reply.Block b) = rules.done (block (value b))
 replyOf (reply.Refused e) = rules.refused (refusalOf e)
 
 -- ---- Head, Deep and Fast
 
 abbrev pub answerOf : Answer → rules.Reply Choice
-answerOf (answer.Block b) = rules.done (chosen b)
+answerOf (answer.Block b) = rules.done (chosen (value b))
 answerOf answer.Nothing = rules.done nothing
 answerOf (answer.Refused e) = rules.refused (refusalOf e)
 

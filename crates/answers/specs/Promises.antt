@@ -5,6 +5,8 @@ use mathlib.Core.Path.{_≡_}
 use mathlib.Core.Bool.{Bool}
 use mathlib.Core.List.{List}
 use Rattle.protocol.specs.declared.Settings.{Settings}
+use Rattle.protocol.specs.declared.Width.{Width}
+use Rattle.protocol.specs.Words.{value}
 use Rattle.protocol.specs.Filters.{chosen}
 use Rattle.protocol.specs.Calls.Receive.{receive}
 use Rattle.protocol.specs.Calls.Propose.{propose}
@@ -47,7 +49,7 @@ module _ (s : Settings) (m : Lent) where
   -- the call that is asked for; the bytes are Receive's
   unfoldable pub Carries : Call → ℕ → List ℕ → Lent → Reply → Type 0
   Carries call.Receive beat bytes = Receives beat bytes
-  Carries (call.Propose number) beat bytes = Proposes beat number
+  Carries (call.Propose number) beat bytes = Proposes beat (value number)
   Carries call.Vote beat bytes = Votes beat
   Carries call.Merge beat bytes = Merges beat
 
@@ -64,6 +66,6 @@ module _ (s : Settings) (m : Lent) where
 
   -- ---- Write: the memory is only read; the buffer as it was and as it is left
 
-  pub record Writes (proposal : Bool) (old new : List ℕ) (r : Written) : Type 0 where
-    pub buffer : new ≡ writeLent s (λ p x. writing.write s p x proposal old) m old .buffer
-    pub length : writtenOf r ≡ writeLent s (λ p x. writing.write s p x proposal old) m old .reply
+  pub record Writes (proposal : Bool) (width : Width) (old new : List ℕ) (r : Written) : Type 0 where
+    pub buffer : new ≡ writeLent s (λ p x. writing.write s p x proposal width old) m old .buffer
+    pub length : writtenOf r ≡ writeLent s (λ p x. writing.write s p x proposal width old) m old .reply

@@ -1,5 +1,6 @@
 // The answers of the nine calls. What each means is in specs/Answers, what each call promises in specs/Promises.
 use protocol::Clock;
+use protocol::Number;
 use verdicts::Refusal;
 
 // What a Receive that was carried out answers: how many entries were new, and whether the packet came into view.
@@ -14,7 +15,7 @@ pub struct Taken {
 pub enum Reply {
     Done,
     Received(Taken),
-    Block(u64),
+    Block(Number),
     Refused(Refusal),
 }
 
@@ -27,14 +28,14 @@ pub struct Moved {
 // The calls that carry a beat. Propose is given the new block's number.
 pub enum Call {
     Receive,
-    Propose(u64),
+    Propose(Number),
     Vote,
     Merge,
 }
 
 // The answer of Head, Deep and Fast. Fast alone answers Nothing: no block has the quorum.
 pub enum Answer {
-    Block(u64),
+    Block(Number),
     Nothing,
     Refused(Refusal),
 }

@@ -13,7 +13,7 @@ use Rattle.protocol.specs.Store.{Places, Node}
 use Rattle.protocol.specs.Refusal as rules
 use Rattle.protocol.specs.Calls.Open.{openNode}
 use Rattle.protocol.specs.Packet.{field}
-use Rattle.protocol.specs.Lent.{Lent, placesIn, placesOf, nodeOf, lentSound, openLent, callLent}
+use Rattle.protocol.specs.Lent.{blockWords, voteWords, Lent, placesIn, placesOf, nodeOf, lentSound, openLent, callLent}
 use Rattle.protocol.proofs.Lent.Open.{open-lent, open-lent-reply, open-lent-node}
 use Rattle.protocol.proofs.Lent.Calls.{Lawful, CalledLent, call-lent}
 use Rattle.verdicts.specs.declared.Refusal.{Refusal}
@@ -112,7 +112,7 @@ module _ (s : Settings) (m : Lent) {y : Lent} {a : Reply} (P : Opens s m y a) wh
 
 -- ---- the memory that Open is given, and the input
 
-pub places-are : (m : Lent) {b v : ℕ} → placesIn (m .blocks) ≡ b → placesIn (m .votes) ≡ v → placesOf m ≡ record { blocks = b; votes = v }
+pub places-are : (m : Lent) {b v : ℕ} → placesIn blockWords (m .blocks) ≡ b → placesIn voteWords (m .votes) ≡ v → placesOf m ≡ record { blocks = b; votes = v }
 unfolding placesOf
 places-are m b v = λ i. record { blocks = b i; votes = v i }
 

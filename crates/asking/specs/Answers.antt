@@ -1,6 +1,7 @@
 -- What the answers of code mean. Assumes nothing.
 use Prim.Native.Nat.{ℕ}
 use mathlib.Core.Path.{_≡_}
+use Rattle.protocol.specs.Words.{value}
 use Rattle.protocol.specs.Filters.{Choice, chosen}
 use Rattle.protocol.specs.Refusal as rules
 use Rattle.confirm.specs.Top.{choiceIn}
@@ -11,7 +12,7 @@ use Rattle.asking.specs.declared.Answers.the-variants.{Found, Refused}
 use Rattle.asking.specs.Ask.{Findings, gather}
 
 abbrev pub answersOf : Answers → rules.Reply Findings
-answersOf (Found h d f) = rules.done (record { head = h; deep = d; fast = choiceIn f })
+answersOf (Found h d f) = rules.done (record { head = value h; deep = value d; fast = choiceIn f })
 answersOf (Refused e) = rules.refused (refusalOf e)
 
 unfoldable pub verdictIn : {A : Type 0} → rules.Reply A → rules.Verdict

@@ -1,9 +1,10 @@
 // A question to a fresh node and its answers: what the program `chainask` and the program of its cases share.
 // The input is n (1 byte), E and K (2 each), a slot (4), and a packet. Node 0 receives the packet and merges it.
-// The tables and the input take 82 KB of stack.
+// The tables and the input take 98 KB of stack.
 use answers::Answer;
 use answers::Reply;
 use protocol::Clock;
+use protocol::Number;
 use protocol::Settings;
 use verdicts::Refusal;
 use verdicts::Verdict;
@@ -11,7 +12,7 @@ ghost use mathlib.Core.Bool.{true};
 ghost use mathlib.Core.Path.{_≡_};
 ghost use Prim.Native.Nat.{_^_, _<_};
 ghost use Rattle.protocol.specs.Refusal as rules;
-ghost use Rattle.protocol.specs.Lent.{placesIn, placesOf, nodeOf, lentSound};
+ghost use Rattle.protocol.specs.Lent.{blockWords, voteWords, placesIn, placesOf, nodeOf, lentSound};
 ghost use Rattle.verdicts.specs.Verdict.{verdictOf};
 ghost use Rattle.verdicts.specs.Lent.{lent};
 ghost use Rattle.answers.specs.Answers.{replyOf, answerOf};
@@ -21,8 +22,8 @@ ghost use Rattle.asking.specs.Answers.{answersOf, verdictIn, Gathers};
 // The three answers, or the first refusal of a call.
 pub enum Answers {
     Found {
-        head: u64,
-        deep: u64,
+        head: Number,
+        deep: Number,
         fast: confirm::Answer,
     },
     Refused(Refusal),
@@ -201,7 +202,7 @@ fn opened(
     slot: u64,
     packet: &[u8],
 ) -> Answers
-    requires { ⌜ (placesIn (now blocks) ≡ 512) × (placesIn (now votes) ≡ 1024) × (slot < 2 ^ 32) ⌝ }
+    requires { ⌜ (placesIn blockWords (now blocks) ≡ 512) × (placesIn voteWords (now votes) ≡ 1024) × (slot < 2 ^ 32) ⌝ }
     ensures { λ r. ⌜ answersOf r ≡ openAndAsk settings slot (now (packet .entry)) ⌝ }
 {
     let mut blocks_used = 0;
@@ -255,22 +256,30 @@ pub fn asked(input: &[u8]) -> Answers
         depth: packets::number_at(input, 3, 2),
     };
     let slot = packets::number_at(input, 5, 4);
-    let mut blocks = [0u64; 2048];
-    let mut votes = [0u64; 4096];
+    let mut blocks = [0u64; 3072];
+    let mut votes = [0u64; 5120];
     opened(settings, &mut blocks, &mut votes, slot, &input[9..])
 }
 
-// A word and a number on a line.
-fn line(to: i32, word: &[u8], n: u64) {
+// A word and a block's number on a line.
+fn line(to: i32, word: &[u8], n: Number) {
+    let mut digits = [0u8; 39];
+    let start = numbers::decimal(n, &mut digits);
     io::write_all(to, word);
-    io::print_decimal(to, n);
+    io::write_all(to, &digits[start..]);
+    io::write_all(to, b"\n");
+}
+
+fn show_refusal(to: i32, refusal: Refusal) {
+    io::write_all(to, b"refused ");
+    io::print_decimal(to, verdicts::number(refusal));
     io::write_all(to, b"\n");
 }
 
 fn show(to: i32, a: Answers) {
     match a {
         Answers::Refused(refusal) => {
-            line(to, b"refused ", verdicts::number(refusal));
+            show_refusal(to, refusal);
         }
         Answers::Found { head, deep, fast } => {
             line(to, b"head ", head);

@@ -8,7 +8,7 @@ use lib.Dec.{eqb, ltb}
 use lib.ListN.{length, set}
 use lib.Seq.{getD-set-same, getD-set-other}
 use borrow.Author.Tests.{eqb-true, eqb-false, eq-eqb, lt-ltb, le-ltb}
-use Rattle.protocol.specs.declared.Vote.{Vote}
+use Rattle.protocol.specs.Entry.{Vote}
 use Rattle.protocol.specs.Filters.{equivocates, counted, window, Last, last, none, later, latest, chosen, nothing, choiceOf, kept}
 use Rattle.protocol.specs.Confirm.{voteIn, inSlot, validVote}
 use Rattle.protocol.proofs.Basics.Tests.{same-test}

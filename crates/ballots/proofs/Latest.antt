@@ -8,13 +8,15 @@ use lib.Dec.{eqb, ltb, leb}
 use lib.ListN.{length, getD, set, replicate, getD-replicate}
 use lib.Seq.{getD-set-same, getD-set-other}
 use borrow.Author.Tests.{eqb-true, eqb-false, ne-eqb, ltb-true, ltb-false, lt-ltb, le-ltb, leb-true, le-leb}
-use Rattle.protocol.specs.declared.Vote.{Vote}
+use Rattle.protocol.specs.Entry.{Vote}
 use Rattle.protocol.specs.Filters.{window, Last, last, none, later, latest}
 use Rattle.protocol.proofs.Basics.Tests.{same-test, and-left, and-right}
 use Rattle.ballots.specs.Latest.{lastAt, Latest, selected, votesIn}
 use Rattle.protocol.specs.Store.{Marked, entries, inView}
 use Rattle.protocol.specs.Lent.{makeVote, rowsOf}
 use Rattle.protocol.proofs.Filters.Kept.{window-true}
+use Rattle.numbers.specs.Kept.{NumbersFit, numberIn, keptIn}
+use Rattle.numbers.proofs.Kept.{kept-same, kept-other}
 use Rattle.rows.specs.Rows.{rowAt}
 use Rattle.ballots.proofs.Selected.{selected-in, selected-out}
 
@@ -63,8 +65,8 @@ unfolding lastAt
 held-slot slots numbers v a e z = go (eqb (getD slots v 0) 0) refl
   where
     go : (b : Bool) → eqb (getD slots v 0) 0 ≡ b
-        → after (cond b none (last (record { voter = v; slot = getD slots v 0; number = getD numbers v 0 }))) a
-        ≡ cond b none (last (record { voter = v; slot = getD slots v 0; number = getD numbers v 0 }))
+        → after (cond b none (last (record { voter = v; slot = getD slots v 0; number = numberIn numbers v }))) a
+        ≡ cond b none (last (record { voter = v; slot = getD slots v 0; number = numberIn numbers v }))
     go true h = absurd (omega (arith, eqb-true (getD slots v 0) 0 h, ltb-false (getD slots v 0) (a .slot) e))
     go false h = rw e
 
@@ -80,30 +82,30 @@ latest-old vs a E t slots numbers z h L = record { each = λ v l. L .each v l �
 
 -- a later one takes its voter's place
 pub latest-new : (vs : List Vote) (a : Vote) (E t : ℕ) (slots numbers : List ℕ) → window E t (a .slot) ≡ true → 0 < a .slot → getD slots (a .voter) 0 < a .slot
-    → a .voter < length slots → a .voter < length numbers
-    → Latest vs E t slots numbers → Latest (vs ++ (a ∷ [])) E t (set slots (a .voter) (a .slot)) (set numbers (a .voter) (a .number))
+    → a .voter < length slots → NumbersFit (a .voter + 1) numbers
+    → Latest vs E t slots numbers → Latest (vs ++ (a ∷ [])) E t (set slots (a .voter) (a .slot)) (keptIn numbers (a .voter) (a .number))
 unfolding lastAt
 latest-new vs a E t slots numbers w z h m n L = record { each = λ v l. go v l (eqb (a .voter) v) refl }
   where
-    new : lastAt (set slots (a .voter) (a .slot)) (set numbers (a .voter) (a .number)) (a .voter) ≡ last a
+    new : lastAt (set slots (a .voter) (a .slot)) (keptIn numbers (a .voter) (a .number)) (a .voter) ≡ last a
     new = unfold lastAt in (
-        rw (getD-set-same slots (a .voter) (a .slot) 0 m, getD-set-same numbers (a .voter) (a .number) 0 n, ne-eqb (a .slot) 0 (λ q. omega arith)))
+        rw (getD-set-same slots (a .voter) (a .slot) 0 m, kept-same numbers (a .voter) (a .number) n, ne-eqb (a .slot) 0 (λ q. omega arith)))
 
     over : after (lastAt slots numbers (a .voter)) a ≡ last a
     over = unfold lastAt in (pick (eqb (getD slots (a .voter) 0) 0))
       where
-        pick : (b : Bool) → after (cond b none (last (record { voter = a .voter; slot = getD slots (a .voter) 0; number = getD numbers (a .voter) 0 }))) a ≡ last a
+        pick : (b : Bool) → after (cond b none (last (record { voter = a .voter; slot = getD slots (a .voter) 0; number = numberIn numbers (a .voter) }))) a ≡ last a
         pick true = refl
         pick false = rw (lt-ltb (getD slots (a .voter) 0) (a .slot) h)
 
-    go : (v : ℕ) → v < 64 → (b : Bool) → eqb (a .voter) v ≡ b → lastAt (set slots (a .voter) (a .slot)) (set numbers (a .voter) (a .number)) v ≡ latest (vs ++ (a ∷ [])) E t v
+    go : (v : ℕ) → v < 64 → (b : Bool) → eqb (a .voter) v ≡ b → lastAt (set slots (a .voter) (a .slot)) (keptIn numbers (a .voter) (a .number)) v ≡ latest (vs ++ (a ∷ [])) E t v
     go v l true e =
         let q : a .voter ≡ v = eqb-true (a .voter) v e in
-        ap (lastAt (set slots (a .voter) (a .slot)) (set numbers (a .voter) (a .number))) (sym q) ∙ new
+        ap (lastAt (set slots (a .voter) (a .slot)) (keptIn numbers (a .voter) (a .number))) (sym q) ∙ new
         ∙ sym (latest-end E t v vs a ∙ rw (e, w, ← L .each v l, ← q) over)
     go v l false e =
         let q : v ≡ a .voter → ⊥ = λ o. eqb-false (a .voter) v e (sym o) in
-        rw (getD-set-other slots (a .voter) v (a .slot) 0 q, getD-set-other numbers (a .voter) v (a .number) 0 q)
+        rw (getD-set-other slots (a .voter) v (a .slot) 0 q, kept-other numbers (a .voter) (a .number) v q)
         (L .each v l ∙ sym (latest-end E t v vs a ∙ rw e))
 
 -- ---- one turn: row i was read as m
@@ -129,10 +131,10 @@ module _ (w : Bool) (ws : List ℕ) (i : ℕ) (m : Marked Vote) (read : m ≡ ro
           rw (selected-in makeVote w ws i m read shown)
           (latest-old (votesIn w ws i) (m .entry) E t slots numbers (window-true E t (m .entry .slot) inside .real) h L)
 
-      pub new-turn : getD slots (m .entry .voter) 0 < m .entry .slot → m .entry .voter < length slots → m .entry .voter < length numbers
-          → Latest (votesIn w ws (i + 1)) E t (set slots (m .entry .voter) (m .entry .slot)) (set numbers (m .entry .voter) (m .entry .number))
-      new-turn h a b =
-          rw (selected-in makeVote w ws i m read shown)
+      pub new-turn : {next : List ℕ} → getD slots (m .entry .voter) 0 < m .entry .slot → m .entry .voter < length slots → NumbersFit (m .entry .voter + 1) numbers
+          → next ≡ keptIn numbers (m .entry .voter) (m .entry .number) → Latest (votesIn w ws (i + 1)) E t (set slots (m .entry .voter) (m .entry .slot)) next
+      new-turn h a b k =
+          rw (k, selected-in makeVote w ws i m read shown)
           (latest-new (votesIn w ws i) (m .entry) E t slots numbers inside (window-true E t (m .entry .slot) inside .real) h a b L)
 
 -- ---- the begin

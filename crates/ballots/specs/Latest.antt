@@ -5,10 +5,11 @@ use mathlib.Core.List.{List}
 use mathlib.Core.Path.{_≡_}
 use lib.Dec.{eqb}
 use lib.ListN.{getD}
-use Rattle.protocol.specs.declared.Vote.{Vote}
+use Rattle.protocol.specs.Entry.{Vote}
 use Rattle.protocol.specs.Filters.{equivocates, counted, Last, last, none, latest, choiceOf, kept}
 use Rattle.protocol.specs.Store.{Marked, entries, inView}
 use Rattle.protocol.specs.Lent.{rowsOf, makeVote}
+use Rattle.numbers.specs.Kept.{numberIn}
 use Rattle.rows.specs.Rows.{rowAt}
 use Rattle.masks.specs.Masks.{maskOf}
 
@@ -31,7 +32,7 @@ equivocatorsOf vs E t = maskOf 64 (λ v. equivocates (counted E t) vs v)
 -- the vote that two arrays hold for voter v: its slot and its block's number; no vote has slot 0
 unfoldable pub lastAt : List ℕ → List ℕ → ℕ → Last
 lastAt slots numbers v =
-    cond (eqb (getD slots v 0) 0) none (last (record { voter = v; slot = getD slots v 0; number = getD numbers v 0 }))
+    cond (eqb (getD slots v 0) 0) none (last (record { voter = v; slot = getD slots v 0; number = numberIn numbers v }))
 
 -- the arrays hold the latest vote of each voter
 pub record Latest (vs : List Vote) (E t : ℕ) (slots numbers : List ℕ) : Type 0 where

@@ -2,13 +2,15 @@
 use rows::VoteRow;
 ghost use mathlib.Core.Bool.{_||_, _&&_, cond};
 ghost use mathlib.Core.Path.{_≡_};
-ghost use Prim.Native.Nat.{_+_, _*_, _<_, _≤_};
+ghost use Prim.Native.Nat.{_+_, _<_, _≤_};
 ghost use lib.Dec.{leb, ltb};
 ghost use lib.ListN.{length, set, replicate};
 ghost use Rattle.protocol.specs.Filters.{window};
+ghost use Rattle.protocol.specs.Lent.{VotesFit};
 ghost use Rattle.index.specs.Index.{Room};
 ghost use Rattle.index.specs.Places.{SlotIndex};
 ghost use Rattle.ballots.specs.Latest.{votesIn, VotersFit, equivocatorsOf, Latest, Kept};
+ghost use Rattle.numbers.specs.Kept.{NumbersFit};
 ghost use Rattle.masks.specs.Masks.{bitOf};
 
 // Whether a vote of an earlier slot has not expired at slot t.
@@ -50,7 +52,7 @@ fn equivocators_next(
     links: &mut [u16],
     mask: u64,
 ) -> u64
-    requires { ⌜ (4 * i + 4 ≤ length (now votes)) × Room (i + 1) (now links) × VotersFit (now votes) (i + 1) × SlotIndex whole (now votes) i (now links)
+    requires { ⌜ VotesFit (i + 1) (now votes) × Room (i + 1) (now links) × VotersFit (now votes) (i + 1) × SlotIndex whole (now votes) i (now links)
         × (mask ≡ equivocatorsOf (votesIn whole (now votes) i) expiry t) ⌝ }
     ensures { λ r. ⌜ (r ≡ equivocatorsOf (votesIn whole (now (votes .entry)) (i + 1)) expiry t)
         × SlotIndex whole (now (votes .entry)) (i + 1) (now (links .exit)) ⌝ }
@@ -60,7 +62,7 @@ fn equivocators_next(
         let new = rows::vote_at(votes, i);
         if counts(whole, expiry, t, new) {
             let first = rows::vote_at(votes, place - 1);
-            if first.vote.number != new.vote.number {
+            if !numbers::same(first.vote.number, new.vote.number) {
                 return masks::with(mask, new.vote.voter);
             }
         }
@@ -78,7 +80,7 @@ fn latest_next(
     slots: &mut [u64],
     numbers: &mut [u64],
 )
-    requires { ⌜ (4 * i + 3 < length (now votes)) × VotersFit (now votes) (i + 1) × (length (now slots) ≡ 64) × (length (now numbers) ≡ 64)
+    requires { ⌜ VotesFit (i + 1) (now votes) × VotersFit (now votes) (i + 1) × (length (now slots) ≡ 64) × NumbersFit 64 (now numbers)
         × Latest (votesIn whole (now votes) i) expiry t (now slots) (now numbers) ⌝ }
     ensures { λ r. ⌜ Latest (votesIn whole (now (votes .entry)) (i + 1)) expiry t (now (slots .exit)) (now (numbers .exit)) ⌝ }
 {
@@ -87,7 +89,7 @@ fn latest_next(
         let v = row.vote.voter as usize;
         if is_later(row.vote.slot, slots[v]) {
             slots[v] = row.vote.slot;
-            numbers[v] = row.vote.number;
+            numbers::keep(numbers, v, row.vote.number);
         }
     }
 }
@@ -103,7 +105,7 @@ fn gather(
     slots: &mut [u64],
     numbers: &mut [u64],
 ) -> u64
-    requires { ⌜ (4 * used ≤ length (now votes)) × (used ≤ 8192) × VotersFit (now votes) used × (length (now slots) ≡ 64) × (length (now numbers) ≡ 64)
+    requires { ⌜ VotesFit used (now votes) × (used ≤ 8192) × VotersFit (now votes) used × (length (now slots) ≡ 64) × NumbersFit 64 (now numbers)
         × Latest (votesIn whole (now votes) 0) expiry t (now slots) (now numbers) ⌝ }
     ensures { λ r. ⌜ (r ≡ equivocatorsOf (votesIn whole (now (votes .entry)) used) expiry t)
         × Latest (votesIn whole (now (votes .entry)) used) expiry t (now (slots .exit)) (now (numbers .exit)) ⌝ }
@@ -140,7 +142,7 @@ pub fn kept_votes(
     slots: &mut [u64],
     numbers: &mut [u64],
 )
-    requires { ⌜ (4 * used ≤ length (now votes)) × (used ≤ 8192) × VotersFit (now votes) used × (now slots ≡ replicate 64 0) × (length (now numbers) ≡ 64) ⌝ }
+    requires { ⌜ VotesFit used (now votes) × (used ≤ 8192) × VotersFit (now votes) used × (now slots ≡ replicate 64 0) × NumbersFit 64 (now numbers) ⌝ }
     ensures { λ r. ⌜ Kept (votesIn whole (now (votes .entry)) used) expiry t (now (slots .exit)) (now (numbers .exit)) ⌝ }
 {
     let dropped = gather(votes, used, whole, expiry, t, slots, numbers);

@@ -25,6 +25,7 @@ use Rattle.verdicts.specs.declared.Refusal.the-variants.{
   Slot,
   Buffer,
   Proposal,
+  Wide,
 }
 use Rattle.verdicts.specs.Verdict.{numberOf}
 
@@ -50,3 +51,4 @@ refusal-not-zero Voted = refl
 refusal-not-zero Slot = refl
 refusal-not-zero Buffer = refl
 refusal-not-zero Proposal = refl
+refusal-not-zero Wide = refl

@@ -5,6 +5,7 @@ use mathlib.Core.List.{List}
 use mathlib.Core.Path.{_≡_, subst}
 use Rattle.protocol.specs.declared.Settings as protocolSettings
 use Rattle.protocol.specs.declared.Clock as protocolClock
+use Rattle.protocol.specs.declared.Width.{Width}
 use Rattle.verdicts.specs.Lent.{lent}
 use Rattle.answers.specs.declared.Answer as answers
 use Rattle.answers.specs.declared.Written as answersWritten
@@ -43,6 +44,6 @@ module _ {s : Settings} {k : Clock} {s₁ : protocolSettings.Settings} {k₁ : p
           → Stands (IsFast (settingsIn s) (lent b v m n (clockIn k)) slot) foundOf r
       fast = read {a = a} (λ s k. IsFast s (lent b v m n k) slot)
 
-    pub writes : {proposal : Bool} {old new : List ℕ} {a : answersWritten.Written} {r : Written} → s₁ ≡ settingsIn s → k₁ ≡ clockIn k
-        → Writes s₁ (lent b v m n k₁) proposal old new a → r ≡ writtenOf a → Stands (Writes (settingsIn s) (lent b v m n (clockIn k)) proposal old new) writtenOf r
-    writes {proposal} {old} {new} = read (λ s k. Writes s (lent b v m n k) proposal old new)
+    pub writes : {proposal : Bool} {width : Width} {old new : List ℕ} {a : answersWritten.Written} {r : Written} → s₁ ≡ settingsIn s → k₁ ≡ clockIn k
+        → Writes s₁ (lent b v m n k₁) proposal width old new a → r ≡ writtenOf a → Stands (Writes (settingsIn s) (lent b v m n (clockIn k)) proposal width old new) writtenOf r
+    writes {proposal} {width} {old} {new} = read (λ s k. Writes s (lent b v m n k) proposal width old new)

@@ -2,9 +2,12 @@
 -- `refusal` is 0 if the call was carried out, else document 01's number; `index` is the refused entry's; a field that the answer does not have is 0.
 -- Assumes nothing.
 use mathlib.Core.Path.{_≡_}
-use mathlib.Core.Bool.{cond}
+use mathlib.Core.Bool.{Bool, cond}
 use Rattle.protocol.specs.declared.Settings as protocolSettings
 use Rattle.protocol.specs.declared.Clock as protocolClock
+use Rattle.protocol.specs.declared.Number as protocolNumber
+use Rattle.protocol.specs.declared.Width.{Width}
+use Rattle.protocol.specs.declared.Width.the-variants.{Narrow, Wide}
 use Rattle.verdicts.specs.Verdict.{numberOf, indexOf}
 use Rattle.answers.specs.declared.Reply.{Reply}
 use Rattle.answers.specs.declared.Reply.the-variants as reply
@@ -14,6 +17,7 @@ use Rattle.answers.specs.declared.Written as answersWritten
 use Rattle.answers.specs.declared.Written.the-variants as written
 use Rattle.capi.specs.declared.Settings.{Settings}
 use Rattle.capi.specs.declared.Clock.{Clock}
+use Rattle.capi.specs.declared.Number.{Number}
 use Rattle.capi.specs.declared.Answer.{Answer}
 use Rattle.capi.specs.declared.Found.{Found}
 use Rattle.capi.specs.declared.Written.{Written}
@@ -29,31 +33,46 @@ clockIn k = record { seen = k .seen; done = k .done; merged = k .merged; propose
 abbrev pub clockOut : protocolClock.Clock → Clock
 clockOut k = record { seen = k .seen; done = k .done; merged = k .merged; proposed = k .proposed }
 
+-- ---- numbers, and whether a packet is written wide
+
+abbrev pub numberIn : Number → protocolNumber.Number
+numberIn n = record { lower = n .lower; upper = n .upper }
+
+abbrev pub numberOut : protocolNumber.Number → Number
+numberOut n = record { lower = n .lower; upper = n .upper }
+
+-- what stands in an answer that has no number
+abbrev pub noNumber : Number
+noNumber = record { lower = 0; upper = 0 }
+
+abbrev pub widthIn : Bool → Width
+widthIn wide = cond wide Wide Narrow
+
 -- ---- answers
 
 -- the clock is the one after the call
 abbrev pub answerOf : Clock → Reply → Answer
 answerOf k reply.Done =
-    record { refusal = 0; index = 0; value = 0; «new_blocks» = 0; «new_votes» = 0; brought = 0; clock = k }
+    record { refusal = 0; index = 0; value = noNumber; «new_blocks» = 0; «new_votes» = 0; brought = 0; clock = k }
 answerOf k (reply.Received t) =
     record {
       refusal = 0;
       index = 0;
-      value = 0;
+      value = noNumber;
       «new_blocks» = t .«new_blocks»;
       «new_votes» = t .«new_votes»;
       brought = cond (t .brought) 1 0;
       clock = k;
     }
 answerOf k (reply.Block b) =
-    record { refusal = 0; index = 0; value = b; «new_blocks» = 0; «new_votes» = 0; brought = 0; clock = k }
+    record { refusal = 0; index = 0; value = numberOut b; «new_blocks» = 0; «new_votes» = 0; brought = 0; clock = k }
 answerOf k (reply.Refused e) =
-    record { refusal = numberOf e; index = indexOf e; value = 0; «new_blocks» = 0; «new_votes» = 0; brought = 0; clock = k }
+    record { refusal = numberOf e; index = indexOf e; value = noNumber; «new_blocks» = 0; «new_votes» = 0; brought = 0; clock = k }
 
 abbrev pub foundOf : answers.Answer → Found
-foundOf (answer.Block b) = record { refusal = 0; found = 1; value = b }
-foundOf answer.Nothing = record { refusal = 0; found = 0; value = 0 }
-foundOf (answer.Refused e) = record { refusal = numberOf e; found = 0; value = 0 }
+foundOf (answer.Block b) = record { refusal = 0; found = 1; value = numberOut b }
+foundOf answer.Nothing = record { refusal = 0; found = 0; value = noNumber }
+foundOf (answer.Refused e) = record { refusal = numberOf e; found = 0; value = noNumber }
 
 abbrev pub writtenOf : answersWritten.Written → Written
 writtenOf (written.Length n) = record { refusal = 0; length = n }

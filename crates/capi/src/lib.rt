@@ -2,10 +2,12 @@
 // An enum cannot be exported, so an answer is a struct of numbers; specs/Structs says which struct stands for which answer.
 // Every function takes any memory, any clock and any settings that a caller may pass.
 use answers::Reply;
+use protocol::Width;
 ghost use mathlib.Core.Path.{_≡_};
+ghost use Rattle.protocol.specs.Words.{value};
 ghost use Rattle.verdicts.specs.Lent.{lent};
 ghost use Rattle.answers.specs.Promises.{Opens, Receives, Proposes, Votes, Merges, IsHead, IsDeep, IsFast, Writes};
-ghost use Rattle.capi.specs.Structs.{settingsIn, clockIn, clockOut, answerOf, foundOf, writtenOf, Stands};
+ghost use Rattle.capi.specs.Structs.{settingsIn, clockIn, clockOut, numberIn, widthIn, answerOf, foundOf, writtenOf, Stands};
 
 // What a node is opened with.
 #[repr(C)]
@@ -25,12 +27,19 @@ pub struct Clock {
     pub proposed: u64,
 }
 
+// A block's number: lower + 2^64 * upper.
+#[repr(C)]
+pub struct Number {
+    pub lower: u64,
+    pub upper: u64,
+}
+
 // The answer of a call that changes the memory, with the clock after the call. The index is that of the entry which Receive refused.
 #[repr(C)]
 pub struct Answer {
     pub refusal: u64,
     pub index: u64,
-    pub value: u64,
+    pub value: Number,
     pub new_blocks: u64,
     pub new_votes: u64,
     pub brought: u64,
@@ -42,7 +51,7 @@ pub struct Answer {
 pub struct Found {
     pub refusal: u64,
     pub found: u64,
-    pub value: u64,
+    pub value: Number,
 }
 
 // The answer of Write.
@@ -87,6 +96,24 @@ fn clock_out(clock: protocol::Clock) -> Clock
     }
 }
 
+fn number_in(number: Number) -> protocol::Number
+    ensures { λ r. ⌜ r ≡ numberIn number ⌝ }
+{
+    protocol::Number {
+        lower: number.lower,
+        upper: number.upper,
+    }
+}
+
+fn width_in(wide: bool) -> Width
+    ensures { λ r. ⌜ r ≡ widthIn wide ⌝ }
+{
+    if wide {
+        return Width::Wide;
+    }
+    Width::Narrow
+}
+
 fn answer_of(reply: Reply, clock: Clock) -> Answer
     ensures { λ r. ⌜ r ≡ answerOf clock reply ⌝ }
 {
@@ -94,7 +121,7 @@ fn answer_of(reply: Reply, clock: Clock) -> Answer
         Reply::Done => Answer {
             refusal: 0,
             index: 0,
-            value: 0,
+            value: Number { lower: 0, upper: 0 },
             new_blocks: 0,
             new_votes: 0,
             brought: 0,
@@ -103,7 +130,7 @@ fn answer_of(reply: Reply, clock: Clock) -> Answer
         Reply::Received(taken) => Answer {
             refusal: 0,
             index: 0,
-            value: 0,
+            value: Number { lower: 0, upper: 0 },
             new_blocks: taken.new_blocks,
             new_votes: taken.new_votes,
             brought: taken.brought as u64,
@@ -112,7 +139,10 @@ fn answer_of(reply: Reply, clock: Clock) -> Answer
         Reply::Block(number) => Answer {
             refusal: 0,
             index: 0,
-            value: number,
+            value: Number {
+                lower: number.lower,
+                upper: number.upper,
+            },
             new_blocks: 0,
             new_votes: 0,
             brought: 0,
@@ -121,7 +151,7 @@ fn answer_of(reply: Reply, clock: Clock) -> Answer
         Reply::Refused(refusal) => Answer {
             refusal: verdicts::number(refusal),
             index: verdicts::index(refusal) as u64,
-            value: 0,
+            value: Number { lower: 0, upper: 0 },
             new_blocks: 0,
             new_votes: 0,
             brought: 0,
@@ -137,17 +167,20 @@ fn found_of(answer: answers::Answer) -> Found
         answers::Answer::Block(number) => Found {
             refusal: 0,
             found: 1,
-            value: number,
+            value: Number {
+                lower: number.lower,
+                upper: number.upper,
+            },
         },
         answers::Answer::Nothing => Found {
             refusal: 0,
             found: 0,
-            value: 0,
+            value: Number { lower: 0, upper: 0 },
         },
         answers::Answer::Refused(refusal) => Found {
             refusal: verdicts::number(refusal),
             found: 0,
-            value: 0,
+            value: Number { lower: 0, upper: 0 },
         },
     }
 }
@@ -229,9 +262,9 @@ pub extern "C" fn likvost_propose(
     votes: &mut [u64],
     votes_used: &mut usize,
     beat: u64,
-    number: u64,
+    number: Number,
 ) -> Answer
-    ensures { λ r. ⌜ Stands (Proposes (settingsIn settings) (lent (now (blocks .entry)) (now (votes .entry)) (now («blocks_used» .entry)) (now («votes_used» .entry)) (clockIn clock)) beat number
+    ensures { λ r. ⌜ Stands (Proposes (settingsIn settings) (lent (now (blocks .entry)) (now (votes .entry)) (now («blocks_used» .entry)) (now («votes_used» .entry)) (clockIn clock)) beat (value (numberIn number))
         (lent (now (blocks .exit)) (now (votes .exit)) (now («blocks_used» .exit)) (now («votes_used» .exit)) (clockIn (r .clock)))) (answerOf (r .clock)) r ⌝ }
 {
     let moved = node::propose(
@@ -242,7 +275,7 @@ pub extern "C" fn likvost_propose(
         votes,
         votes_used,
         beat,
-        number,
+        number_in(number),
     );
     let after = moved.clock;
     let reply = moved.reply;
@@ -388,9 +421,10 @@ pub extern "C" fn likvost_write(
     votes: &[u64],
     votes_used: usize,
     proposal: bool,
+    wide: bool,
     buffer: &mut [u8],
 ) -> Written
-    ensures { λ r. ⌜ Stands (Writes (settingsIn settings) (lent (now (blocks .entry)) (now (votes .entry)) «blocks_used» «votes_used» (clockIn clock)) proposal (now (buffer .entry)) (now (buffer .exit))) writtenOf r ⌝ }
+    ensures { λ r. ⌜ Stands (Writes (settingsIn settings) (lent (now (blocks .entry)) (now (votes .entry)) «blocks_used» «votes_used» (clockIn clock)) proposal (widthIn wide) (now (buffer .entry)) (now (buffer .exit))) writtenOf r ⌝ }
 {
     let written = writing::write(
         settings_in(settings),
@@ -400,6 +434,7 @@ pub extern "C" fn likvost_write(
         votes,
         votes_used,
         proposal,
+        width_in(wide),
         buffer,
     );
     written_of(written)

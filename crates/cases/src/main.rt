@@ -2,19 +2,22 @@
 // Each line of the input is what is tried, a colon, a word and numbers; one without a colon is a heading. The word's first letter says what
 // to do; what stands between two numbers is free. A capital prepares what the node is lent and writes nothing:
 //   Settings: n, own index, E, K                   Clock: seen, done, merged, proposed
-//   Blocks, Votes: the table's length in words, the word in all places that are not given, the rows used, the words of the rows
+//   Blocks, Votes: the table's length in words, the word in all places that are not given, the rows used, the words of the rows:
+//     six of a block (its number, lower and upper half, its parent's, its slot, its mark), five of a vote (voter, slot, number, mark)
 // Any other makes a call on that, which stays as the call leaves it, and writes what is tried and what came out. After a refusal every
 // word is compared with what was lent:
 //   open: n, own index, E, K                       propose: beat, number            vote, merge: beat
 //   receive: beat, kind, slot, number, how many blocks and these (number, parent, slot), how many votes and these (voter, slot, number)
-//   bytes: beat, length; that many zero bytes are received
-//   head, deep, fast: slot                         write: 1 for the proposal or 0 for gossip, the buffer's length
+//   bytes: beat, length, kind; that many bytes are received, zero but for the kind
+//   head, deep, fast: slot                         write: 1 for the proposal or 0 for gossip, 1 for wide or 0 for narrow, the buffer's length
+// In a call 1000 stands for 2^64: a block's number n is n % 1000 + 2^64 * (n / 1000). In a packet each half of it is below 256.
 use answers::Answer;
 use answers::Call;
 use answers::Moved;
 use answers::Reply;
 use protocol::Clock;
 use protocol::Settings;
+use protocol::Width;
 
 // What a node is lent beside the words of its tables.
 struct Held {
@@ -54,15 +57,15 @@ fn same(
 fn show_held(held: Held, blocks: &[u64], votes: &[u64]) {
     trials::show_clock(held.clock);
     trials::text(b", blocks");
-    trials::show_rows(blocks, held.blocks_used);
+    trials::show_blocks(blocks, held.blocks_used);
     trials::text(b", votes");
-    trials::show_rows(votes, held.votes_used);
+    trials::show_votes(votes, held.votes_used);
 }
 
 // The call by its first letter.
 fn call(letter: u8, words: &[u64]) -> Call {
     match letter {
-        b'p' => Call::Propose(trials::at(words, 1)),
+        b'p' => Call::Propose(trials::block_number(trials::at(words, 1))),
         b'v' => Call::Vote,
         b'm' => Call::Merge,
         _ => Call::Receive,
@@ -154,8 +157,8 @@ fn changed(
     blocks: &mut [u64],
     votes: &mut [u64],
 ) -> Held {
-    let mut old_blocks = [0u64; 8196];
-    let mut old_votes = [0u64; 32772];
+    let mut old_blocks = [0u64; 12294];
+    let mut old_votes = [0u64; 40965];
     trials::copy(blocks, &mut old_blocks);
     trials::copy(votes, &mut old_votes);
     shown(
@@ -171,7 +174,7 @@ fn changed(
 }
 
 fn carried(held: Held, letter: u8, words: &[u64], blocks: &mut [u64], votes: &mut [u64]) -> Held {
-    let mut bytes = [0u8; 128];
+    let mut bytes = [0u8; 256];
     let n = trials::length(letter, words, &mut bytes);
     let end = trials::within_bytes(n, &bytes);
     changed(held, letter, words, &bytes[..end], blocks, votes)
@@ -213,8 +216,8 @@ fn answered(held: Held, blocks: &[u64], votes: &[u64], letter: u8, slot: u64) ->
 }
 
 // Each byte of the buffer is 238.
-fn written(held: Held, blocks: &[u64], votes: &[u64], proposal: bool, length: usize) {
-    let mut space = [238u8; 100];
+fn written(held: Held, blocks: &[u64], votes: &[u64], proposal: bool, width: Width, length: usize) {
+    let mut space = [238u8; 200];
     let n = trials::within_bytes(length, &space);
     let answer = writing::write(
         held.settings,
@@ -224,6 +227,7 @@ fn written(held: Held, blocks: &[u64], votes: &[u64], proposal: bool, length: us
         votes,
         held.votes_used,
         proposal,
+        width,
         &mut space[..n],
     );
     trials::show_written(answer, trials::touched(&space));
@@ -264,7 +268,8 @@ fn called(held: Held, letter: u8, words: &[u64], blocks: &mut [u64], votes: &mut
                 blocks,
                 votes,
                 trials::at(words, 0) == 1,
-                trials::size(words, 1),
+                trials::width(trials::at(words, 1)),
+                trials::size(words, 2),
             );
             held
         }
@@ -308,7 +313,7 @@ fn line(held: Held, bytes: &[u8], blocks: &mut [u64], votes: &mut [u64]) -> Held
     let colon = trials::find(bytes, b':');
     let rest = &bytes[colon..];
     let mut words = [0u64; 256];
-    let count = trials::numbers(rest, &mut words);
+    let count = trials::read_numbers(rest, &mut words);
     let n = trials::within(count, &words);
     acted(
         held,
@@ -346,7 +351,7 @@ fn lines(bytes: &[u8], blocks: &mut [u64], votes: &mut [u64]) {
 fn main() {
     let mut bytes = [0u8; 32768];
     let n = io::read_full(0, &mut bytes);
-    let mut blocks = [0u64; 8196];
-    let mut votes = [0u64; 32772];
+    let mut blocks = [0u64; 12294];
+    let mut votes = [0u64; 40965];
     lines(&bytes[..n], &mut blocks, &mut votes);
 }

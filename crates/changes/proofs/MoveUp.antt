@@ -7,10 +7,10 @@ use mathlib.Core.Path.{_≡_, refl, ap, sym, _∙_}
 use native.Mathlib.Omega.{arith}
 use lib.ListN.{length, take, drop, replicate, length-append}
 use lib.Seq.{take-all, take-at, length-take-le}
-use Rattle.protocol.specs.declared.Vote.{Vote}
+use Rattle.protocol.specs.Entry.{Vote}
 use Rattle.protocol.specs.Lists.{filter}
 use Rattle.protocol.specs.Store.{Marked, visible, show, showAll, since, rowsSince}
-use Rattle.protocol.specs.Lent.{rowsOf, wordsOf, stored, makeVote, voteRow, emptied}
+use Rattle.protocol.specs.Lent.{voteWords, rowsOf, wordsOf, stored, makeVote, voteRow, emptied}
 use Rattle.protocol.proofs.Basics.Filter.{filter-append}
 use Rattle.protocol.proofs.Store.Growth.{show-append}
 use Rattle.protocol.proofs.Store.Since.{length-since}
@@ -57,14 +57,14 @@ module _ (ws₀ : List ℕ) (n from : ℕ) where
         ∙ filter-append (λ m. since from (m .entry)) (take i rows) (a ∷ [])
 
     -- it stays, and is written behind those that stayed
-    pub move-turn : since from (a .entry) ≡ true → {ws′ : List ℕ} → ws′ ≡ putRow ws kept (voteRow (visible (a .entry)))
+    pub move-turn : since from (a .entry) ≡ true → {ws′ : List ℕ} → ws′ ≡ putRow voteWords ws kept (voteRow (visible (a .entry)))
         → (ws′ ≡ movedTo (i + 1)) × (kept + 1 ≡ length (keptTo (i + 1)))
     unfolding showAll show
     move-turn s f =
         let m : keptTo (i + 1) ≡ keptTo i ++ (a ∷ []) = next ∙ ap (λ (b : Bool). keptTo i ++ cond b (a ∷ []) []) s in
         let v : showAll (keptTo i ++ (a ∷ [])) ≡ showAll (keptTo i) ++ (visible (a .entry) ∷ [])
         = show-append (λ b. true) (keptTo i) (a ∷ []) ∙ ap (λ (b : Bool). showAll (keptTo i) ++ (record { entry = a .entry; shown = b } ∷ [])) (or-true (a .shown)) in (
-          f ∙ ap (λ (w : List ℕ). putRow w kept (voteRow (visible (a .entry)))) e
+          f ∙ ap (λ (w : List ℕ). putRow voteWords w kept (voteRow (visible (a .entry)))) e
               ∙ put-end vote-codec (showAll (keptTo i)) ws₀ (visible (a .entry)) kept (length-all (keptTo i) ∙ sym k)
               ∙ ap (λ (l : List (Marked Vote)). stored voteRow l ws₀) (sym v ∙ ap showAll (sym m)),
           omega (arith, ap length m, length-append (keptTo i) (a ∷ []), k),
@@ -81,15 +81,15 @@ module _ (ws₀ : List ℕ) (n from : ℕ) where
 
 -- zero in the places that are free then
 pub moved-freed : (ws₀ : List ℕ) (n from kept : ℕ) {ws ws′ : List ℕ} → let L = rowsSince from (rowsOf makeVote ws₀ n) in
-    ws ≡ stored voteRow (showAll L) ws₀ → kept ≡ length L → ws′ ≡ take (4 * kept) ws ++ (replicate (4 * n - 4 * kept) 0 ++ drop (4 * n) ws)
+    ws ≡ stored voteRow (showAll L) ws₀ → kept ≡ length L → ws′ ≡ take (voteWords * kept) ws ++ (replicate (voteWords * n - voteWords * kept) 0 ++ drop (voteWords * n) ws)
     → ws′ ≡ stored voteRow (showAll L) (emptied n ws₀)
 unfolding stored
 moved-freed ws₀ n from kept {ws} {ws′} e k f =
     let L = showAll (rowsSince from (rowsOf makeVote ws₀ n)) in
     let l : length L ≡ kept = length-all (rowsSince from (rowsOf makeVote ws₀ n)) ∙ sym k in
     let most : kept ≤ n = omega (arith, k, length-since from (rowsOf makeVote ws₀ n), length-rowsOf makeVote ws₀ n) in
-    let t : take (4 * kept) ws ≡ wordsOf voteRow L
-    = ap (take (4 * kept)) e ∙ take-at (wordsOf voteRow L) (drop (4 * length L) ws₀) (4 * kept) (omega (arith, length-wordsOf vote-codec L, l)) in
-    let d : drop (4 * n) ws ≡ drop (4 * n) ws₀ = ap (drop (4 * n)) e ∙ drop-stored vote-codec L ws₀ (4 * n) (omega (arith, l, most)) in
-    let z : 4 * n - 4 * kept ≡ 4 * (n - length L) = omega (arith, l) in
-    f ∙ rw (t, d, z) (sym (stored-freed vote-codec L n ws₀ (omega (arith, l, most))))
+    let t : take (voteWords * kept) ws ≡ wordsOf voteRow L
+    = ap (take (voteWords * kept)) e ∙ take-at (wordsOf voteRow L) (drop (length (wordsOf voteRow L)) ws₀) (voteWords * kept) (omega (arith, length-wordsOf vote-codec L, l)) in
+    let d : drop (voteWords * n) ws ≡ drop (voteWords * n) ws₀ = ap (drop (voteWords * n)) e ∙ drop-stored vote-codec L ws₀ (voteWords * n) (omega (arith, l, most)) in
+    let z : voteWords * n - voteWords * kept ≡ voteWords * (n - length L) = omega (arith, l) in
+    f ∙ rw (t, d, z) (sym (stored-freed L n ws₀ (omega (arith, l, most))))

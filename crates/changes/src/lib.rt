@@ -10,12 +10,13 @@ ghost use mathlib.Core.Path.{_≡_};
 ghost use Prim.Native.Nat.{_+_, _-_, _*_, _≤_};
 ghost use lib.ListN.{length, take, drop, replicate};
 ghost use Rattle.protocol.specs.Store.{showAll, rowsSince, fresh};
-ghost use Rattle.protocol.specs.Lent.{rowsOf, wordsOf, stored, makeBlock, makeVote, blockRow, voteRow, marksSound, emptied};
+ghost use Rattle.protocol.specs.Words.{blockOf, voteOf};
+ghost use Rattle.protocol.specs.Lent.{BlocksFit, VotesFit, blockWords, rowsOf, wordsOf, stored, makeBlock, makeVote, blockRow, voteRow, marksSound, emptied};
 
 // One block more, at the end.
 pub fn append_block(blocks: &mut [u64], used: &mut usize, block: Block, shown: bool)
-    requires { ⌜ (4 * (now used + 1) ≤ length (now blocks)) × (marksSound (now blocks) (now used) ≡ true) ⌝ }
-    ensures { λ r. ⌜ (now (blocks .exit) ≡ stored blockRow (rowsOf makeBlock (now (blocks .entry)) (now (used .entry)) ++ (record { entry = block; shown = shown } ∷ [])) (now (blocks .entry)))
+    requires { ⌜ BlocksFit (now used + 1) (now blocks) × (marksSound makeBlock (now blocks) (now used) ≡ true) ⌝ }
+    ensures { λ r. ⌜ (now (blocks .exit) ≡ stored blockRow (rowsOf makeBlock (now (blocks .entry)) (now (used .entry)) ++ (record { entry = blockOf block; shown = shown } ∷ [])) (now (blocks .entry)))
         × (now (used .exit) ≡ now (used .entry) + 1) ⌝ }
 {
     let place = *used;
@@ -32,8 +33,8 @@ pub fn append_block(blocks: &mut [u64], used: &mut usize, block: Block, shown: b
 
 // One vote more, at the end.
 pub fn append_vote(votes: &mut [u64], used: &mut usize, vote: Vote, shown: bool)
-    requires { ⌜ (4 * (now used + 1) ≤ length (now votes)) × (marksSound (now votes) (now used) ≡ true) ⌝ }
-    ensures { λ r. ⌜ (now (votes .exit) ≡ stored voteRow (rowsOf makeVote (now (votes .entry)) (now (used .entry)) ++ (record { entry = vote; shown = shown } ∷ [])) (now (votes .entry)))
+    requires { ⌜ VotesFit (now used + 1) (now votes) × (marksSound makeVote (now votes) (now used) ≡ true) ⌝ }
+    ensures { λ r. ⌜ (now (votes .exit) ≡ stored voteRow (rowsOf makeVote (now (votes .entry)) (now (used .entry)) ++ (record { entry = voteOf vote; shown = shown } ∷ [])) (now (votes .entry)))
         × (now (used .exit) ≡ now (used .entry) + 1) ⌝ }
 {
     let place = *used;
@@ -50,7 +51,7 @@ pub fn append_vote(votes: &mut [u64], used: &mut usize, vote: Vote, shown: bool)
 
 // Every block comes into view.
 pub fn show_all_blocks(blocks: &mut [u64], used: usize)
-    requires { ⌜ 4 * used ≤ length (now blocks) ⌝ }
+    requires { ⌜ BlocksFit used (now blocks) ⌝ }
     ensures { λ r. ⌜ now (blocks .exit) ≡ stored blockRow (showAll (rowsOf makeBlock (now (blocks .entry)) used)) (now (blocks .entry)) ⌝ }
 {
     let mut i: usize = 0;
@@ -71,7 +72,7 @@ pub fn show_all_blocks(blocks: &mut [u64], used: usize)
 
 // Every vote comes into view.
 pub fn show_all_votes(votes: &mut [u64], used: usize)
-    requires { ⌜ 4 * used ≤ length (now votes) ⌝ }
+    requires { ⌜ VotesFit used (now votes) ⌝ }
     ensures { λ r. ⌜ now (votes .exit) ≡ stored voteRow (showAll (rowsOf makeVote (now (votes .entry)) used)) (now (votes .entry)) ⌝ }
 {
     let mut place: usize = 0;
@@ -104,7 +105,7 @@ fn zero(words: &mut [u64], first: usize, end: usize)
 
 // The votes of slot `from` and later come into view and move up to the front, in their order. The answer is how many these are.
 fn move_up(votes: &mut [u64], used: usize, from: u64) -> usize
-    requires { ⌜ 4 * used ≤ length (now votes) ⌝ }
+    requires { ⌜ VotesFit used (now votes) ⌝ }
     ensures { λ r. ⌜ (now (votes .exit) ≡ stored voteRow (showAll (rowsSince from (rowsOf makeVote (now (votes .entry)) used))) (now (votes .entry)))
         × (r ≡ length (rowsSince from (rowsOf makeVote (now (votes .entry)) used))) ⌝ }
 {
@@ -132,31 +133,32 @@ fn move_up(votes: &mut [u64], used: usize, from: u64) -> usize
 // Every vote comes into view, and those of slots below `from` are removed: the others move up in their order, and the places that
 // become free are set to zero. The cost is one pass over the rows.
 pub fn merge_votes(votes: &mut [u64], used: &mut usize, from: u64)
-    requires { ⌜ 4 * now used ≤ length (now votes) ⌝ }
+    requires { ⌜ VotesFit (now used) (now votes) ⌝ }
     ensures { λ r. ⌜ (now (votes .exit) ≡ stored voteRow (showAll (rowsSince from (rowsOf makeVote (now (votes .entry)) (now (used .entry))))) (emptied (now (used .entry)) (now (votes .entry))))
         × (now (used .exit) ≡ length (rowsSince from (rowsOf makeVote (now (votes .entry)) (now (used .entry))))) ⌝ }
 {
     let before = *used;
     let kept = move_up(votes, before, from);
-    zero(votes, 4 * kept, 4 * before);
+    zero(votes, 5 * kept, 5 * before);
     *used = kept;
 }
 
 // The tables of a fresh node: block 0 alone, in view, and every other place zero.
 pub fn clear(blocks: &mut [u64], votes: &mut [u64])
-    requires { ⌜ 4 ≤ length (now blocks) ⌝ }
-    ensures { λ r. ⌜ (now (blocks .exit) ≡ wordsOf blockRow (fresh .blocks) ++ replicate (length (now (blocks .entry)) - 4) 0)
+    requires { ⌜ BlocksFit 1 (now blocks) ⌝ }
+    ensures { λ r. ⌜ (now (blocks .exit) ≡ wordsOf blockRow (fresh .blocks) ++ replicate (length (now (blocks .entry)) - blockWords) 0)
         × (now (votes .exit) ≡ replicate (length (now (votes .entry))) 0) ⌝ }
 {
     zero(blocks, 0, blocks.len());
     zero(votes, 0, votes.len());
+    let zero_number = numbers::zero();
     rows::put_block(
         blocks,
         0,
         BlockRow {
             block: Block {
-                number: 0,
-                parent: 0,
+                number: zero_number,
+                parent: zero_number,
                 slot: 0,
             },
             shown: true,

@@ -10,10 +10,10 @@ use native.Mathlib.Omega.{arith}
 use lib.Dec.{eqb}
 use lib.ListN.{getD, take, drop, take-append-drop}
 use borrow.Author.Tests.{eq-eqb, ne-eqb}
-use Rattle.protocol.specs.declared.Block.{Block}
+use Rattle.protocol.specs.Entry.{Block}
 use Rattle.protocol.specs.Chain.{genesis}
 use Rattle.protocol.specs.Store.{Marked, entries, inView, visible}
-use Rattle.protocol.specs.Lent.{rowsOf, makeBlock}
+use Rattle.protocol.specs.Lent.{blockWords, rowsOf, makeBlock}
 use Rattle.protocol.proofs.Basics.Tests.{and-left, and-right}
 use Rattle.protocol.proofs.Chain.Relations.{In, Sound}
 use Rattle.protocol.proofs.Store.Follow.{allFollow, blockFollows, Follows, follows-true}
@@ -63,7 +63,7 @@ module _ (slot : ℕ) (ws : List ℕ) (n : ℕ) (T : Table slot (rowsOf makeBloc
   follows-at : (i : ℕ) → 0 < i → i < n → Follows slot (entries (rowsOf makeBlock ws i)) (blockAt ws i)
   unfolding rowsOf entries
   follows-at zero z h = absurd (omega arith)
-  follows-at (suc k) z h = go (entries (rowsOf makeBlock (drop 4 ws) k)) (entries (drop (suc k + 1) (rowsOf makeBlock ws n))) (sym (rows-split ws n (suc k) h) ∙ T .is)
+  follows-at (suc k) z h = go (entries (rowsOf makeBlock (drop blockWords ws) k)) (entries (drop (suc k + 1) (rowsOf makeBlock ws n))) (sym (rows-split ws n (suc k) h) ∙ T .is)
     where
       go : (xs ys : List Block) → (blockAt ws 0 ∷ xs) ++ (blockAt ws (suc k) ∷ ys) ≡ genesis ∷ T .rest → Follows slot (blockAt ws 0 ∷ xs) (blockAt ws (suc k))
       go xs ys e =
@@ -107,7 +107,7 @@ module _ (slot : ℕ) (ws : List ℕ) (n : ℕ) (T : Table slot (rowsOf makeBloc
       front : (k : ℕ) → In genesis (inView (rowsOf makeBlock ws k)) → n ≡ k → (0 < n) × (blockAt ws 0 ≡ genesis) × (rowAt makeBlock ws 0 .shown ≡ true)
       front zero m e = unfold rowsOf inView in (absurd (List·Memᴰ·not-nil m))
       front (suc k) m e = unfold rowsOf in (
-          let f = table-front slot (rowAt makeBlock ws 0) (rowsOf makeBlock (drop 4 ws) k) (rw e at T) in
+          let f = table-front slot (rowAt makeBlock ws 0) (rowsOf makeBlock (drop blockWords ws) k) (rw e at T) in
           (omega arith, f .0, f .1))
 
       one : (i j : ℕ) → i < n → j < n → blockAt ws i .number ≡ blockAt ws j .number → Dec (i < j) → Dec (j < i) → i ≡ j

@@ -7,8 +7,7 @@ use native.Mathlib.Numerals.{add-one}
 use native.Mathlib.Omega.{arith}
 use lib.ListN.{getD}
 use Rattle.protocol.specs.declared.Settings.{Settings}
-use Rattle.protocol.specs.declared.Block.{Block}
-use Rattle.protocol.specs.declared.Vote.{Vote}
+use Rattle.protocol.specs.Entry.{Block, Vote}
 use Rattle.protocol.specs.Store.{entries, inView, Node}
 use Rattle.protocol.specs.Lent.{Lent, rowsOf, makeBlock, makeVote, placesOf, nodeOf, lentSound}
 use Rattle.protocol.specs.Chain.{genesis}
@@ -24,7 +23,7 @@ use Rattle.protocol.proofs.Store.Views.{view-stored}
 use Rattle.protocol.proofs.Walk.Best.{walk-is, walk-one, walk-known}
 use Rattle.protocol.proofs.Walk.Sameness.{walk-to}
 use Rattle.protocol.proofs.Lent.Memory.{lent-true, lent-used}
-use Rattle.protocol.proofs.Lent.Rows.{length-rowsOf, places-fit}
+use Rattle.protocol.proofs.Lent.Rows.{length-rowsOf, blocks-fit, votes-fit}
 use Rattle.rows.specs.Rows.{rowAt}
 use Rattle.ballots.specs.Latest.{selected, votesIn, VotersFit, Kept}
 use Rattle.subtrees.specs.Places.{blockAt, blocksIn, BlocksSound}
@@ -148,7 +147,7 @@ lent-tables s m e =
     record {
       places = placesOf m;
       clock = m .clock;
-      blocks-fit = places-fit (m .blocks) (m .blocksUsed) (u .0);
-      votes-fit = places-fit (m .votes) (m .votesUsed) (u .1);
+      blocks-fit = blocks-fit (m .blocks) (m .blocksUsed) (u .0);
+      votes-fit = votes-fit (m .votes) (m .votesUsed) (u .1);
       is-sound = lent-true s m e .node;
     }

@@ -8,7 +8,7 @@ use native.Mathlib.Omega.{arith}
 use lib.Dec.{eqb, leb, ltb}
 use lib.ListN.{getD}
 use borrow.Author.Tests.{eqb-true, eq-eqb, leb-true, le-leb, ltb-true, ltb-false}
-use Rattle.protocol.specs.declared.Block.{Block}
+use Rattle.protocol.specs.Entry.{Block}
 use Rattle.protocol.specs.Chain.{above}
 use Rattle.protocol.specs.Filters.{last, none, Choice, chosen, nothing, choiceOf}
 use Rattle.protocol.specs.Walk.{count, supports, weight, weightAt}
@@ -16,6 +16,7 @@ use Rattle.protocol.proofs.Basics.Counting.{count-ext}
 use Rattle.protocol.proofs.Basics.Tests.{and-left, and-right, either, both, or-left, or-right, same-test}
 use Rattle.protocol.proofs.Chain.Above.{above-cast, above-true, above-holds}
 use Rattle.protocol.proofs.Chain.Relations.{Known, Above, here, up}
+use Rattle.numbers.specs.Kept.{numberIn}
 use Rattle.masks.specs.Masks.{bitOf, maskOf}
 use Rattle.masks.proofs.Masks.{bit-mask, mask-ext}
 use Rattle.ballots.specs.Latest.{votesIn, lastAt}
@@ -78,10 +79,10 @@ module _ {w : Bool} {ws : List ℕ} {n : ℕ} (H : Held w ws n) where
   reaches-supports slots numbers j v l K = go (eqb (getD slots v 0) 0) refl
     where
       go : (b : Bool) → eqb (getD slots v 0) 0 ≡ b
-          → (not b && upTo (λ y. parentPlace ws y) n 1 j (placeIn ws n (getD numbers v 0)))
-          ≡ supports (blocksIn w ws n) (choiceOf (cond b none (last (record { voter = v; slot = getD slots v 0; number = getD numbers v 0 })))) (blockAt ws j .number)
+          → (not b && upTo (λ y. parentPlace ws y) n 1 j (placeIn ws n (numberIn numbers v)))
+          ≡ supports (blocksIn w ws n) (choiceOf (cond b none (last (record { voter = v; slot = getD slots v 0; number = numberIn numbers v })))) (blockAt ws j .number)
       go true e = refl
-      go false e = up-is (getD numbers v 0) j (K (getD numbers v 0) (rw e)) l
+      go false e = up-is (numberIn numbers v) j (K (numberIn numbers v) (rw e)) l
 
 -- ---- weights
 

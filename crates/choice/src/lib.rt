@@ -1,11 +1,13 @@
 // Heads and bases: the walk from block 0 to the heaviest leaf, over lent tables.
 use protocol::Block;
+use protocol::Number;
 use protocol::Settings;
 ghost use mathlib.Core.Path.{_≡_};
-ghost use Prim.Native.Nat.{ℕ, _+_, _*_, _^_, _<_, _≤_};
+ghost use Prim.Native.Nat.{ℕ, _+_, _^_, _<_, _≤_};
 ghost use lib.ListN.{length, getD, set, replicate};
+ghost use Rattle.protocol.specs.Words.{value, blockOf};
 ghost use Rattle.protocol.specs.Store.{entries, inView};
-ghost use Rattle.protocol.specs.Lent.{rowsOf, makeBlock, makeVote};
+ghost use Rattle.protocol.specs.Lent.{BlocksFit, rowsOf, makeBlock, makeVote};
 ghost use Rattle.protocol.specs.Walk.{isChild, bestChild, walk, weightAt, head, base};
 ghost use Rattle.ballots.specs.Latest.{votesIn};
 ghost use Rattle.subtrees.specs.Places.{blockAt, blocksIn, parentPlace, BlocksSound, Parents};
@@ -15,11 +17,11 @@ ghost use Rattle.choice.specs.Tables.{TablesSound};
 ghost use Rattle.choice.specs.Weights.{Supporters, Counted};
 
 // Whether b is a child of block a, of a slot below the limit.
-fn is_child(lim: u64, a: u64, b: Block) -> bool
-    ensures { λ r. ⌜ r ≡ isChild lim a b ⌝ }
+fn is_child(lim: u64, a: Number, b: Block) -> bool
+    ensures { λ r. ⌜ r ≡ isChild lim (value a) (blockOf b) ⌝ }
 {
-    if 0 < b.number {
-        if b.parent == a {
+    if !numbers::is_zero(b.number) {
+        if numbers::same(b.parent, a) {
             return b.slot < lim;
         }
     }
@@ -28,7 +30,7 @@ fn is_child(lim: u64, a: u64, b: Block) -> bool
 
 // Whether the block at place d goes before the one at place c: more voters, or as many and a smaller number.
 fn beats(blocks: &[u64], weights: &[u32], d: usize, c: usize) -> bool
-    requires { ⌜ (4 * d + 3 < length (now blocks)) × (4 * c + 3 < length (now blocks)) × (d < length (now weights)) × (c < length (now weights)) ⌝ }
+    requires { ⌜ BlocksFit (d + 1) (now blocks) × BlocksFit (c + 1) (now blocks) × (d < length (now weights)) × (c < length (now weights)) ⌝ }
     ensures { λ r. ⌜ r ≡ beatsAt (now (blocks .entry)) (now (weights .entry)) d c ⌝ }
 {
     let x = weights[c];
@@ -39,7 +41,7 @@ fn beats(blocks: &[u64], weights: &[u32], d: usize, c: usize) -> bool
     if x == y {
         let p = rows::block_at(blocks, d);
         let q = rows::block_at(blocks, c);
-        return p.block.number < q.block.number;
+        return numbers::is_below(p.block.number, q.block.number);
     }
     false
 }
@@ -50,12 +52,12 @@ fn better_place(
     weights: &[u32],
     whole: bool,
     lim: u64,
-    a: u64,
+    a: Number,
     i: usize,
     best: usize,
 ) -> usize
-    requires { ⌜ (4 * i + 3 < length (now blocks)) × (4 * best + 3 < length (now blocks)) × (i < length (now weights)) × (best < length (now weights)) ⌝ }
-    ensures { λ r. ⌜ r ≡ betterPlace (now (blocks .entry)) (now (weights .entry)) whole lim a i best ⌝ }
+    requires { ⌜ BlocksFit (i + 1) (now blocks) × BlocksFit (best + 1) (now blocks) × (i < length (now weights)) × (best < length (now weights)) ⌝ }
+    ensures { λ r. ⌜ r ≡ betterPlace (now (blocks .entry)) (now (weights .entry)) whole lim (value a) i best ⌝ }
 {
     let row = rows::block_at(blocks, i);
     if rows::selects(whole, row.shown) {
@@ -106,7 +108,7 @@ fn best_child(
     lim: u64,
     a: usize,
 ) -> usize
-    requires { ⌜ (4 * used ≤ length (now blocks)) × (used ≤ length (now children)) × (used ≤ length (now siblings)) × (used ≤ length (now weights)) × (a < used)
+    requires { ⌜ BlocksFit used (now blocks) × (used ≤ length (now children)) × (used ≤ length (now siblings)) × (used ≤ length (now weights)) × (a < used)
         × BlocksSound (now blocks) used × Linked (λ i. parentPlace (now blocks) i) used 1 (now children) (now siblings) ⌝ }
     ensures { λ r. ⌜ (r < used) × (bestChild (weightIn (now (blocks .entry)) used (now (weights .entry))) lim (blockAt (now (blocks .entry)) a .number)
         (blocksIn whole (now (blocks .entry)) used) ≡ foundAt (now (blocks .entry)) r) ⌝ }
@@ -131,7 +133,7 @@ fn leaf(
     whole: bool,
     lim: u64,
 ) -> usize
-    requires { ⌜ (4 * used ≤ length (now blocks)) × (used ≤ 2048) × (used ≤ length (now weights)) × (length (now parents) ≡ 2048)
+    requires { ⌜ BlocksFit used (now blocks) × (used ≤ 2048) × (used ≤ length (now weights)) × (length (now parents) ≡ 2048)
         × BlocksSound (now blocks) used × Parents (now blocks) used (now parents) ⌝ }
     ensures { λ r. ⌜ (r < used) × (blockAt (now (blocks .entry)) r .number
         ≡ walk (weightIn (now (blocks .entry)) used (now (weights .entry))) (blocksIn whole (now (blocks .entry)) used) lim) ⌝ }
@@ -151,7 +153,7 @@ fn leaf(
 
 // The voters of each subtree, by the votes kept for slot t: the word at a block's place is the set of the voters whose kept vote is for it or
 // for a block above it. Also the place of each block's parent.
-// The cost is a descent for each vote, two for each block and one for each voter. Stack: 1 KB for the kept votes of 64 voters, and while they
+// The cost is a descent for each vote, two for each block and one for each voter. Stack: 1.5 KB for the kept votes of 64 voters, and while they
 // are gathered 80 KiB.
 pub fn weigh(
     settings: Settings,
@@ -170,7 +172,7 @@ pub fn weigh(
         × Supporters whole (now (blocks .entry)) «blocks_used» (now (votes .entry)) «votes_used» expiry t (now (masks .exit)) ⌝ }
 {
     let mut slots = [0u64; 64];
-    let mut numbers = [0u64; 64];
+    let mut numbers = [0u64; 128];
     ballots::kept_votes(
         votes,
         votes_used,
@@ -241,9 +243,9 @@ fn heaviest(
     whole: bool,
     t: u64,
     lim: u64,
-) -> u64
+) -> Number
     requires { ⌜ TablesSound settings (now blocks) «blocks_used» (now votes) «votes_used» ⌝ }
-    ensures { λ r. ⌜ r ≡ walk (weightAt (blocksIn whole (now (blocks .entry)) «blocks_used») (votesIn whole (now (votes .entry)) «votes_used») (settings .nodes) (settings .expiry) t)
+    ensures { λ r. ⌜ value r ≡ walk (weightAt (blocksIn whole (now (blocks .entry)) «blocks_used») (votesIn whole (now (votes .entry)) «votes_used») (settings .nodes) (settings .expiry) t)
         (blocksIn whole (now (blocks .entry)) «blocks_used») lim ⌝ }
 {
     let mut parents = [0u16; 2048];
@@ -270,9 +272,9 @@ pub fn head(
     votes: &[u64],
     votes_used: usize,
     t: u64,
-) -> u64
+) -> Number
     requires { ⌜ TablesSound settings (now blocks) «blocks_used» (now votes) «votes_used» × (t + 1 < 2 ^ 64) ⌝ }
-    ensures { λ r. ⌜ r ≡ head (inView (rowsOf makeBlock (now (blocks .entry)) «blocks_used»)) (inView (rowsOf makeVote (now (votes .entry)) «votes_used»))
+    ensures { λ r. ⌜ value r ≡ head (inView (rowsOf makeBlock (now (blocks .entry)) «blocks_used»)) (inView (rowsOf makeVote (now (votes .entry)) «votes_used»))
         (settings .nodes) (settings .expiry) t ⌝ }
 {
     heaviest(
@@ -295,9 +297,9 @@ pub fn base(
     votes: &[u64],
     votes_used: usize,
     t: u64,
-) -> u64
+) -> Number
     requires { ⌜ TablesSound settings (now blocks) «blocks_used» (now votes) «votes_used» ⌝ }
-    ensures { λ r. ⌜ r ≡ base (entries (rowsOf makeBlock (now (blocks .entry)) «blocks_used»)) (entries (rowsOf makeVote (now (votes .entry)) «votes_used»))
+    ensures { λ r. ⌜ value r ≡ base (entries (rowsOf makeBlock (now (blocks .entry)) «blocks_used»)) (entries (rowsOf makeVote (now (votes .entry)) «votes_used»))
         (settings .nodes) (settings .expiry) t ⌝ }
 {
     heaviest(settings, blocks, blocks_used, votes, votes_used, true, t, t)

@@ -8,8 +8,7 @@ use native.Mathlib.Decide.{decLt}
 use native.Mathlib.Nat.{le-of-eq}
 use native.Mathlib.Omega.{arith}
 use lib.Dec.{leb}
-use Rattle.protocol.specs.declared.Block.{Block}
-use Rattle.protocol.specs.declared.Vote.{Vote}
+use Rattle.protocol.specs.Entry.{Block, Vote}
 use Rattle.protocol.specs.Filters.{Choice, chosen, nothing, kept}
 use Rattle.protocol.specs.Store.{Marked, inView}
 use Rattle.protocol.specs.Lent.{rowsOf, makeBlock, makeVote}

@@ -5,7 +5,7 @@ use mathlib.Core.List.{List}
 use mathlib.Core.Logic.{inl}
 use mathlib.Core.Path.{_≡_, refl, ap, sym, _∙_}
 use native.Mathlib.Omega.{arith}
-use Rattle.protocol.specs.declared.Block.{Block}
+use Rattle.protocol.specs.Entry.{Block}
 use Rattle.protocol.specs.Confirm.{deepFrom, deep}
 use Rattle.protocol.specs.Store.{Marked, inView}
 use Rattle.protocol.specs.Lent.{rowsOf, makeBlock, makeVote}

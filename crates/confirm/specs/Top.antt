@@ -3,6 +3,7 @@ use Prim.Native.Nat.{ℕ, zero, suc, _*_}
 use mathlib.Core.Bool.{_&&_, cond}
 use mathlib.Core.List.{List}
 use lib.Dec.{leb}
+use Rattle.protocol.specs.Words.{value}
 use Rattle.protocol.specs.Filters.{Choice, chosen, nothing}
 use Rattle.protocol.specs.Lent.{makeBlock}
 use Rattle.rows.specs.Rows.{rowAt}
@@ -13,7 +14,7 @@ use Rattle.confirm.specs.declared.Answer.the-variants.{Chosen, Nothing}
 
 -- the answer of code: a block's number, or none
 abbrev pub choiceIn : Answer → Choice
-choiceIn (Chosen x) = chosen x
+choiceIn (Chosen x) = chosen (value x)
 choiceIn Nothing = nothing
 
 -- the last of the first k rows that is in view and has three quarters of n voters

@@ -1,12 +1,14 @@
 // The two confirmations, over lent tables: the deep block and the fast block.
+use protocol::Number;
 use protocol::Settings;
 ghost use mathlib.Core.Bool.{true, false};
 ghost use mathlib.Core.Path.{_≡_};
 ghost use Prim.Native.Nat.{_+_, _-_, _*_, _^_, _<_, _≤_};
 ghost use lib.Dec.{leb};
 ghost use lib.ListN.{length};
+ghost use Rattle.protocol.specs.Words.{value};
 ghost use Rattle.protocol.specs.Store.{inView};
-ghost use Rattle.protocol.specs.Lent.{rowsOf, makeBlock, makeVote};
+ghost use Rattle.protocol.specs.Lent.{BlocksFit, rowsOf, makeBlock, makeVote};
 ghost use Rattle.protocol.specs.Walk.{count};
 ghost use Rattle.protocol.specs.Confirm.{deepFrom, deep, fast};
 ghost use Rattle.rows.specs.Rows.{rowAt};
@@ -17,15 +19,15 @@ ghost use Rattle.confirm.specs.Top.{choiceIn, topChoice};
 
 // A block's number, or none.
 pub enum Answer {
-    Chosen(u64),
+    Chosen(Number),
     Nothing,
 }
 
 // The number of the first block of a slot of at most m, from the block at a place down by the parents' places. One turn for each block on the way.
-fn climb_down(blocks: &[u64], used: usize, parents: &[u16], from: usize, m: u64) -> u64
-    requires { ⌜ (4 * used ≤ length (now blocks)) × (used ≤ length (now parents)) × BlocksSound (now blocks) used × Parents (now blocks) used (now parents)
+fn climb_down(blocks: &[u64], used: usize, parents: &[u16], from: usize, m: u64) -> Number
+    requires { ⌜ BlocksFit used (now blocks) × (used ≤ length (now parents)) × BlocksSound (now blocks) used × Parents (now blocks) used (now parents)
         × (from < used) × (rowAt makeBlock (now blocks) from .shown ≡ true) ⌝ }
-    ensures { λ r. ⌜ r ≡ deepFrom (blocksIn false (now (blocks .entry)) used) m (blockAt (now (blocks .entry)) from .number) ⌝ }
+    ensures { λ r. ⌜ value r ≡ deepFrom (blocksIn false (now (blocks .entry)) used) m (blockAt (now (blocks .entry)) from .number) ⌝ }
 {
     let mut i: usize = from;
     loop {
@@ -55,9 +57,9 @@ pub fn deep(
     votes: &[u64],
     votes_used: usize,
     t: u64,
-) -> u64
+) -> Number
     requires { ⌜ TablesSound settings (now blocks) «blocks_used» (now votes) «votes_used» × (t + 1 < 2 ^ 64) ⌝ }
-    ensures { λ r. ⌜ r ≡ deep (inView (rowsOf makeBlock (now (blocks .entry)) «blocks_used»)) (inView (rowsOf makeVote (now (votes .entry)) «votes_used»))
+    ensures { λ r. ⌜ value r ≡ deep (inView (rowsOf makeBlock (now (blocks .entry)) «blocks_used»)) (inView (rowsOf makeVote (now (votes .entry)) «votes_used»))
         (settings .nodes) (settings .expiry) (settings .depth) t ⌝ }
 {
     let mut parents = [0u16; 2048];
@@ -91,7 +93,7 @@ fn is_quorum(n: u64, mask: u64) -> bool
 
 // The last block in view with three quarters of n voters. The blocks with as many are on one chain, so it is the highest of them.
 fn top(blocks: &[u64], used: usize, masks: &[u64], n: u64) -> Answer
-    requires { ⌜ (4 * used ≤ length (now blocks)) × (used ≤ length (now masks)) × (n ≤ 64) ⌝ }
+    requires { ⌜ BlocksFit used (now blocks) × (used ≤ length (now masks)) × (n ≤ 64) ⌝ }
     ensures { λ r. ⌜ choiceIn r ≡ topChoice (now (blocks .entry)) (now (masks .entry)) n used ⌝ }
 {
     let mut i: usize = used;
@@ -100,7 +102,8 @@ fn top(blocks: &[u64], used: usize, masks: &[u64], n: u64) -> Answer
         let row = rows::block_at(blocks, i);
         if row.shown {
             if is_quorum(n, masks[i]) {
-                return Answer::Chosen(row.block.number);
+                let number = row.block.number;
+                return Answer::Chosen(number);
             }
         }
     }

@@ -6,6 +6,7 @@ use native.Mathlib.Nat.{mod-lt}
 use native.Mathlib.Omega.{arith}
 use lib.Dec.{eqb, T}
 use borrow.Author.Tests.{eqb-true, eqb-false}
+use Rattle.protocol.specs.declared.Width.the-variants.{Wide}
 use Rattle.protocol.specs.Lent.{Lent, openLent}
 use Rattle.protocol.proofs.Lent.Open.{open-lent-reply}
 use Rattle.answers.specs.Answers.{nothingMore, mapReply}
@@ -47,8 +48,8 @@ module _ (D : Deployment) (w : State) where
   made : (s : Step) → Made s
   made Begin = (_, begins)
   made (Due i number) = due-made i number (w .beat % 3) refl (mod-lt (w .beat) (omega arith))
-  made (Gossip i old) = let f = write-met (settings (network D) i) (w .memory i) false old in (_, gossips i old (f .0) (f .1) (f .2))
-  made (Proposal i old) = let f = write-met (settings (network D) i) (w .memory i) true old in (_, sendsProposal i old (f .0) (f .1) (f .2))
+  made (Gossip i old) = let f = write-met (settings (network D) i) (w .memory i) false Wide old in (_, gossips i old (f .0) (f .1) (f .2))
+  made (Proposal i old) = let f = write-met (settings (network D) i) (w .memory i) true Wide old in (_, sendsProposal i old (f .0) (f .1) (f .2))
   made (Receive i bytes) = let f = receive-met (settings (network D) i) (w .memory i) (w .beat) bytes in (_, receives i bytes (f .0) (f .1) (f .2))
 
 -- ---- every run

@@ -2,6 +2,7 @@
 -- asked for nothing before the call. Assumes nothing.
 use mathlib.Core.Path.{_≡_, refl}
 use denote.Ref.{now}
+use Rattle.protocol.specs.Words.{value}
 use Rattle.verdicts.specs.Lent.{lent}
 use Rattle.answers.specs.Promises.{Opens, Receives, Proposes, Votes, Merges, IsHead, IsDeep, IsFast, Writes}
 use Rattle.node.proofs.«open».Reads as opening
@@ -31,7 +32,7 @@ pub receive-told : receiving.Learnt ≡ (λ κs (s, (c, (bs, (m, (vs, (n, (beat,
 receive-told = refl
 
 pub propose-told : proposing.Learnt ≡ (λ κs (s, (c, (bs, (m, (vs, (n, (beat, (number, _)))))))) r (_, (_, (bs′, (m′, (vs′, (n′, _)))))).
-    Proposes s (lent (now bs) (now vs) (now m) (now n) c) beat number (lent (now bs′) (now vs′) (now m′) (now n′) (r .clock)) (r .reply))
+    Proposes s (lent (now bs) (now vs) (now m) (now n) c) beat (value number) (lent (now bs′) (now vs′) (now m′) (now n′) (r .clock)) (r .reply))
 propose-told = refl
 
 pub vote-told : voting.Learnt ≡ (λ κs (s, (c, (bs, (m, (vs, (n, (beat, _))))))) r (_, (_, (bs′, (m′, (vs′, (n′, _)))))).
@@ -42,8 +43,8 @@ pub merge-told : merging.Learnt ≡ (λ κs (s, (c, (bs, (m, (vs, (n, (beat, _))
     Merges s (lent (now bs) (now vs) (now m) (now n) c) beat (lent (now bs′) (now vs′) (now m′) (now n′) (r .clock)) (r .reply))
 merge-told = refl
 
-pub write-told : writing.Learnt ≡ (λ κs (s, (c, (bs, (m, (vs, (n, (proposal, (buffer, _)))))))) r (_, (_, (_, (_, (_, (_, (_, (buffer′, _)))))))).
-    Writes s (lent (now bs) (now vs) m n c) proposal (now buffer) (now buffer′) r)
+pub write-told : writing.Learnt ≡ (λ κs (s, (c, (bs, (m, (vs, (n, (proposal, (width, (buffer, _))))))))) r (_, (_, (_, (_, (_, (_, (_, (_, (buffer′, _))))))))).
+    Writes s (lent (now bs) (now vs) m n c) proposal width (now buffer) (now buffer′) r)
 write-told = refl
 
 pub head-told : asking-head.Learnt ≡ (λ κs (s, (c, (bs, (m, (vs, (n, (slot, _))))))) r _. IsHead s (lent (now bs) (now vs) m n c) slot r)

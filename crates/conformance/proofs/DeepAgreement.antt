@@ -3,6 +3,8 @@ use Prim.Native.Nat.{ℕ, _%_}
 use mathlib.Core.Path.{_≡_, sym, ap, _∙_, subst}
 use mathlib.Core.Bool.{true}
 use native.Mathlib.Omega.{arith}
+use Rattle.protocol.specs.declared.Number.{Number}
+use Rattle.protocol.specs.Words.{value}
 use Rattle.protocol.specs.Filters.{chosen}
 use Rattle.protocol.specs.Refusal.{done}
 use Rattle.protocol.specs.Calls.Vote.{vote}
@@ -48,13 +50,13 @@ module _ (D : Deployment) (i a : ℕ) (u : State) (A : CodeJustVoted D i a u) wh
       subst (λ (o : State). Follows D (A .before) (Due i (A .number)) o) (sym (A .left))
       (follows D (A .before) (C .healthy) (Due i (A .number)) _ (is-true _ (A .due)) (votes i (A .number) (A .memory) (reply.Block (A .block)) phase (A .vote)))
 
-  replied : vote (settings (network D) i) (network D .places i) (decoded D (A .before) .node i) (A .before .beat) .reply ≡ done (A .block)
+  replied : vote (settings (network D) i) (network D .places i) (decoded D (A .before) .node i) (A .before .beat) .reply ≡ done (value (A .block))
   replied =
       let s = settings (network D) i in
       let K = called s (network D .places i) (decoded D (A .before) .node i) (A .before .memory i) (C .healthy i honest)
       (holds D (A .before) (C .healthy) i honest) block (λ p x. vote s p x (A .before .beat)) (vote-lawful s (A .before .beat)) (A .memory) (reply.Block (A .block)) (A .vote) in
-      let r = done-mapped block _ (block (A .block)) (sym (K .reply)) in
-      let e : r .0 ≡ A .block = cc in
+      let r = done-mapped block _ (block (value (A .block))) (sym (K .reply)) in
+      let e : r .0 ≡ value (A .block) = cc in
       r .1 ∙ ap done e
 
   just-voted : JustVoted (network D) i a (decoded D u)
@@ -64,7 +66,7 @@ module _ (D : Deployment) (i a : ℕ) (u : State) (A : CodeJustVoted D i a u) wh
     number = A .number;
     due = A .due;
     beat = A .beat;
-    value = A .block;
+    value = value (A .block);
     reply = replied;
     left = sym (F .world);
   }
@@ -76,7 +78,7 @@ module _ (D : Deployment) (i a : ℕ) (u : State) (A : CodeJustVoted D i a u) wh
 
 -- ---- the claims
 
-answers-block : (r : Answer) (d : ℕ) → answerOf r ≡ done (chosen d) → (e : ℕ) × (r ≡ answer.Block e)
+answers-block : (r : Answer) (d : ℕ) → answerOf r ≡ done (chosen d) → (e : Number) × (r ≡ answer.Block e)
 answers-block (answer.Block b) d e = (b, λ i. answer.Block b)
 answers-block answer.Nothing d e = let z : _≡_ {A = ℕ} 0 1 = cc in absurd (omega arith)
 answers-block (answer.Refused k) d e = let z : _≡_ {A = ℕ} 0 1 = cc in absurd (omega arith)
@@ -91,8 +93,9 @@ decoded-deep : (D : Deployment) (w : State) (i a d : ℕ) → CodeDeepAfterVote 
 decoded-deep D w i a d H =
     let A = H .justVoted in
     let u = H .state in
-    let r = done-mapped chosen _ (chosen d) (sym (H .deep)) in
-    let e : r .0 ≡ d = cc in
+    let r = done-mapped chosen _ (chosen (value (H .number))) (sym (H .deep)) in
+    let f : r .0 ≡ value (H .number) = cc in
+    let e : r .0 ≡ d = f ∙ sym (H .block) in
     record {
       world = decoded D u;
       justVoted = just-voted D i a u A;

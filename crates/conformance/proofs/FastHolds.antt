@@ -1,7 +1,8 @@
 -- A fast block stays, said of what the code answers. Assumes nothing.
 use Prim.Native.Nat.{ℕ}
-use mathlib.Core.Path.{sym, _∙_}
-use Rattle.protocol.specs.Refusal.{first}
+use mathlib.Core.Path.{ap, sym, _∙_}
+use Rattle.protocol.specs.Filters.{chosen}
+use Rattle.protocol.specs.Refusal.{first, done}
 use Rattle.protocol.specs.Calls.Query.{queryTests, fastQuery}
 use Rattle.protocol.proofs.Calls.Refusal.{answer-done}
 use Rattle.resilience.specs.Run.{settings}
@@ -26,7 +27,7 @@ decoded-fast D w i t F H =
       run = C .run;
       honest = H .honest;
       fast = answer-done (first (queryTests s (network D .places i) (decoded D u .node i) t)) _ _
-          (sym (asked D u (C .healthy) i (is-true _ (H .honest)) (λ p x. fastQuery s p x t)) ∙ sym (H .fast)) .1;
+          (sym (asked D u (C .healthy) i (is-true _ (H .honest)) (λ p x. fastQuery s p x t)) ∙ sym (H .fast) ∙ ap (λ (x : ℕ). done (chosen x)) (sym (H .block))) .1;
       onward = going D u w (C .healthy) (H .onward) .onward;
     }
 

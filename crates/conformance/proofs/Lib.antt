@@ -11,4 +11,5 @@ pub mod Removed
 pub mod Questions
 pub mod DeepAgreement
 pub mod FastHolds
+pub mod OldStock
 pub mod Witness

@@ -6,6 +6,7 @@ use mathlib.Core.Bool.{Bool, true}
 use mathlib.Core.List.{List}
 use native.Mathlib.Omega.{arith}
 use Rattle.protocol.specs.declared.Settings.{Settings}
+use Rattle.protocol.specs.declared.Width.{Width}
 use Rattle.protocol.specs.Store.{Places, Node}
 use Rattle.protocol.specs.Refusal.{Outcome, Reply, refused, done}
 use Rattle.protocol.specs.Calls.Open.{openNode}
@@ -69,5 +70,6 @@ module _ (s : Settings) (pl : Places) (x : Node) (m : Lent) (H : Healthy s pl m)
         };
       }
 
-  pub wrote : (proposal : Bool) (old : List ℕ) → writeLent s (λ p y. write s p y proposal old) m old ≡ write s pl x proposal old
-  wrote proposal old = write-lent s (λ p y. write s p y proposal old) m old (H .sound) ∙ (λ k. write s (H .places k) (sym holds k) proposal old)
+  pub wrote : (proposal : Bool) (width : Width) (old : List ℕ) → writeLent s (λ p y. write s p y proposal width old) m old ≡ write s pl x proposal width old
+  wrote proposal width old =
+      write-lent s (λ p y. write s p y proposal width old) m old (H .sound) ∙ (λ k. write s (H .places k) (sym holds k) proposal width old)

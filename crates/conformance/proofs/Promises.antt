@@ -6,6 +6,9 @@ use mathlib.Core.Bool.{Bool, true, false, false≢true, _||_, cond}
 use mathlib.Core.List.{List, [], _∷_, List·Memᴰ·head, Memᴰ·append-right}
 use lib.Dec.{eqb}
 use borrow.Author.Tests.{eqb-true}
+use Rattle.protocol.specs.declared.Width.{Width}
+use Rattle.protocol.specs.Words.{numberAs}
+use Rattle.protocol.proofs.Words.{join-halves}
 use Rattle.protocol.specs.declared.Settings.{Settings}
 use Rattle.protocol.specs.Lists.{any, all}
 use Rattle.protocol.specs.Store.{Places, Node}
@@ -36,7 +39,7 @@ use Rattle.answers.specs.Promises.{Leaves, Receives, Proposes, Votes, Merges, W
 abbrev refusals : List Refusal
 refusals =
     refusal.Unsound ∷ refusal.Beat ∷ refusal.Form ∷ refusal.Header ∷ refusal.Places ∷ refusal.Phase ∷ refusal.Done ∷ refusal.Joined
-    ∷ refusal.Proposer ∷ refusal.Number ∷ refusal.Voted ∷ refusal.Buffer ∷ refusal.Proposal ∷ []
+    ∷ refusal.Proposer ∷ refusal.Number ∷ refusal.Voted ∷ refusal.Buffer ∷ refusal.Proposal ∷ refusal.Wide ∷ []
 
 abbrev isBy : ℕ → rules.Refusal → Bool
 isBy k (by j) = eqb j k
@@ -68,13 +71,13 @@ first-refusal ts k h F =
 answerWith : Value → Reply
 answerWith nothingMore = reply.Done
 answerWith (received t) = reply.Received (record { «new_blocks» = t .newBlocks; «new_votes» = t .newVotes; brought = t .brought })
-answerWith (block b) = reply.Block b
+answerWith (block b) = reply.Block (numberAs b)
 
 answer-with : (a : Value) → replyOf (answerWith a) ≡ done a
 unfolding answerWith
 answer-with nothingMore = refl
 answer-with (received t) = refl
-answer-with (block b) = refl
+answer-with (block b) = ap (λ (n : ℕ). done (block n)) (join-halves b)
 
 module _ {A : Type 0} (value : A → Value) where
   abbrev HasAnswer : rules.Reply A → Type 0
@@ -136,10 +139,10 @@ module _ (s : Settings) (m : Lent) where
   decided-length ts n o h (carried f e) = (written.Length n, sym e)
   decided-length ts n o h (declined k F e) = rw e (refused-length k (first-refusal ts k h F))
 
-  pub write-met : (proposal : Bool) (old : List ℕ) → (new : List ℕ) × (r : Written) × Writes s m proposal old new r
+  pub write-met : (proposal : Bool) (width : Width) (old : List ℕ) → (new : List ℕ) × (r : Written) × Writes s m proposal width old new r
   unfolding writeLent writeTests any all
-  write-met proposal old = let g = go (lentSound s m) in (_, g .0, record { buffer = refl; length = g .1 })
+  write-met proposal width old = let g = go (lentSound s m) in (_, g .0, record { buffer = refl; length = g .1 })
     where
-      go : (b : Bool) → HasLength (cond b (write s (placesOf m) (nodeOf m) proposal old) (record { reply = refused (by 6); buffer = old }) .reply)
-      go true = decided-length _ _ _ refl (write-decided s (placesOf m) (nodeOf m) proposal old)
+      go : (b : Bool) → HasLength (cond b (write s (placesOf m) (nodeOf m) proposal width old) (record { reply = refused (by 6); buffer = old }) .reply)
+      go true = decided-length _ _ _ refl (write-decided s (placesOf m) (nodeOf m) proposal width old)
       go false = refused-length (by 6) refl

@@ -5,6 +5,7 @@ use mathlib.Core.Bool.{Bool, true, false, cond}
 use mathlib.Core.List.{List, [], _∷_, _++_}
 use lib.Dec.{eqb}
 use borrow.Author.Tests.{eqb-true, eq-eqb, ne-eqb}
+use Rattle.protocol.specs.declared.Width.the-variants.{Wide}
 use Rattle.protocol.specs.Store.{Places, Node}
 use Rattle.protocol.specs.Refusal.{Outcome}
 use Rattle.protocol.specs.Calls.Write.{write}
@@ -89,12 +90,12 @@ module _ (D : Deployment) (w : State) (H : AllHealthy D w) where
       healthy = healthy-after (w .memory i) (H i h);
     }
 
-    written : (proposal : Bool) (old new : List ℕ) (r : Written) → Writes (settings N i) (w .memory i) proposal old new r
+    written : (proposal : Bool) (old new : List ℕ) (r : Written) → Writes (settings N i) (w .memory i) proposal Wide old new r
         → packetSent (w .beat) i new r
-        ≡ sends (w .beat) i (write (settings N i) (N .places i) (W .node i) proposal old)
+        ≡ sends (w .beat) i (write (settings N i) (N .places i) (W .node i) proposal Wide old)
     written proposal old new r P =
-        let e = wrote (settings N i) (N .places i) (W .node i) (w .memory i) (H i h) holds proposal old in
-        same-packet (w .beat) i new r (write (settings N i) (N .places i) (W .node i) proposal old)
+        let e = wrote (settings N i) (N .places i) (W .node i) (w .memory i) (H i h) holds proposal Wide old in
+        same-packet (w .beat) i new r (write (settings N i) (N .places i) (W .node i) proposal Wide old)
         (P .buffer ∙ ap (λ y. y .buffer) e) (P .length ∙ ap (λ y. y .reply) e)
 
   -- ---- the step

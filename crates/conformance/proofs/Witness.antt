@@ -3,12 +3,13 @@
 use mathlib.Core.Path.{_≡_}
 use mathlib.Core.List.{_∷_}
 use lib.ListN.{replicate}
+use Rattle.protocol.specs.Words.{join}
 use Rattle.protocol.specs.Store.{freshClock}
 use Rattle.protocol.specs.Lent.{rowsOf, placesIn, placesOf, nodeOf}
 use Rattle.protocol.proofs.Basics.Tests.{and-left}
 use Rattle.resilience.proofs.Witness.Acts.{butOne}
 use Rattle.resilience.proofs.Witness.Premises.{proposedTest, proposed-true, meetsTest}
-use Rattle.resilience.proofs.Witness.FiveNodes.{five, acts, end, met}
+use Rattle.resilience.proofs.Witness.FiveNodes.{five, acts, twin, end, met}
 use Rattle.conformance.specs.State.{Deployment, State, decoded}
 use Rattle.conformance.specs.CodeRun.{CodeRun}
 use Rattle.conformance.specs.Conformance.{Completeness}
@@ -23,11 +24,11 @@ deployment =
       depth = 2;
       honest = butOne;
       lent = λ i.
-          record { blocks = 0 ∷ 0 ∷ 0 ∷ 1 ∷ replicate 36 0; votes = replicate 120 0; blocksUsed = 1; votesUsed = 0; clock = freshClock };
+          record { blocks = 0 ∷ 0 ∷ 0 ∷ 0 ∷ 0 ∷ 1 ∷ replicate 54 0; votes = replicate 150 0; blocksUsed = 1; votesUsed = 0; clock = freshClock };
     }
 
 pub five-nodes : (w : State) × CodeRun deployment w × (decoded deployment w ≡ end)
-unfolding Completeness meetsTest placesOf placesIn nodeOf rowsOf
+unfolding Completeness meetsTest placesOf placesIn nodeOf rowsOf join
 five-nodes =
-    let P = proposed-true five acts 6 2 21 11 (and-left (proposedTest five acts 6 2 21 11) _ met) .started in
+    let P = proposed-true five acts 6 2 twin 11 (and-left (proposedTest five acts 6 2 twin 11) _ met) .started in
     completes deployment (P .opened) end (P .run)

@@ -5,6 +5,8 @@ use Prim.Native.Nat.{ℕ, _+_, _*_}
 use mathlib.Core.Bool.{true, false}
 use mathlib.Core.List.{[], _∷_}
 use lib.Dec.{T}
+use Rattle.protocol.specs.declared.Number.{Number}
+use Rattle.protocol.specs.Words.{value}
 use Rattle.protocol.specs.Lent.{Lent}
 use Rattle.answers.specs.declared.Reply.the-variants as reply
 use Rattle.answers.specs.declared.Answer.{Answer}
@@ -22,16 +24,18 @@ pub record CodeJustVoted (D : Deployment) (i a : ℕ) (u : State) : Type 0 where
   pub number : ℕ
   pub due : T (allowed (network D) (decoded D before) (Due i number))
   pub beat : before .beat ≡ 3 * a + 1
-  pub block : ℕ
+  pub block : Number
   pub memory : Lent
   pub vote : Votes (settings (network D) i) (before .memory i) (before .beat) memory (reply.Block block)
-  pub left : u ≡ after before i memory (owes true false) (voted (before .beat) i block ∷ woke (before .beat) i ∷ [])
+  pub left : u ≡ after before i memory (owes true false) (voted (before .beat) i (value block) ∷ woke (before .beat) i ∷ [])
 
 -- what Deep for a answers there; and the run went on from there and stands in w
 pub record CodeDeepAfterVote (D : Deployment) (w : State) (i a d : ℕ) : Type 0 where
   pub state : State
   pub justVoted : CodeJustVoted D i a state
-  pub deep : IsDeep (settings (network D) i) (state .memory i) a (answer.Block d)
+  pub number : Number
+  pub deep : IsDeep (settings (network D) i) (state .memory i) a (answer.Block number)
+  pub block : d ≡ value number
   pub onward : CodeOnward D state w
 
 unfoldable pub CodeDeepAgreement : Type 0
@@ -41,4 +45,4 @@ CodeDeepAgreement = (D : Deployment) (w : State) → Agree (network D) (decoded 
 unfoldable pub CodeDeepAnswered : Type 0
 CodeDeepAnswered =
     (D : Deployment) (i a : ℕ) (u : State) → CodeJustVoted D i a u →
-    (r : Answer) → IsDeep (settings (network D) i) (u .memory i) a r → (d : ℕ) × (r ≡ answer.Block d)
+    (r : Answer) → IsDeep (settings (network D) i) (u .memory i) a r → (d : Number) × (r ≡ answer.Block d)

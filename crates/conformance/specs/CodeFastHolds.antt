@@ -1,7 +1,10 @@
 -- Request 11 of the code: what Fast answers on the memory of an honest node, by the promises of the calls alone. The claim is the one of
 -- resilience/specs/FastHolds, on the log of what the code answered. Assumes nothing.
 use Prim.Native.Nat.{ℕ}
+use mathlib.Core.Path.{_≡_}
 use lib.Dec.{T}
+use Rattle.protocol.specs.declared.Number.{Number}
+use Rattle.protocol.specs.Words.{value}
 use Rattle.answers.specs.declared.Answer.the-variants as answer
 use Rattle.answers.specs.Promises.{IsFast}
 use Rattle.resilience.specs.Run.{settings, isHonest}
@@ -15,7 +18,9 @@ pub record CodeHasFast (D : Deployment) (w : State) (i t F : ℕ) : Type 0 where
   pub state : State
   pub run : CodeRun D state
   pub honest : T (isHonest (network D) i)
-  pub fast : IsFast (settings (network D) i) (state .memory i) t (answer.Block F)
+  pub number : Number
+  pub fast : IsFast (settings (network D) i) (state .memory i) t (answer.Block number)
+  pub block : F ≡ value number
   pub onward : CodeOnward D state w
 
 unfoldable pub CodeFastHolds : Type 0

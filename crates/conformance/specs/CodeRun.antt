@@ -6,6 +6,8 @@ use mathlib.Core.Bool.{Bool, true, false, _||_, cond}
 use mathlib.Core.List.{List, [], _∷_, _++_}
 use lib.ListN.{take}
 use lib.Dec.{eqb, T}
+use Rattle.protocol.specs.declared.Width.the-variants.{Wide}
+use Rattle.protocol.specs.Words.{value}
 use Rattle.protocol.specs.Lent.{Lent}
 use Rattle.verdicts.specs.declared.Refusal.{Refusal}
 use Rattle.verdicts.specs.Verdict.{numberOf}
@@ -25,7 +27,7 @@ want beat i e = cond (eqb (numberOf e) 10 || eqb (numberOf e) 18) (lacked beat i
 
 -- of a Propose, Vote, Merge or Receive; `f` says what a block that is answered stands for
 abbrev pub logged : ℕ → ℕ → (ℕ → List Event) → Reply → List Event
-logged beat i f (reply.Block x) = f x
+logged beat i f (reply.Block x) = f (value x)
 logged beat i f reply.Done = []
 logged beat i f (reply.Received t) = []
 logged beat i f (reply.Refused e) = want beat i e
@@ -69,12 +71,12 @@ pub data CodeStep (D : Deployment) (w : State) : Step → State → Type 0 where
       Merges (settings (network D) i) (w .memory i) (w .beat) m r →
       CodeStep D w (Due i number)
       (after w i m (owes true false) (logged (w .beat) i (λ x. []) r ++ (woke (w .beat) i ∷ [])))
-  -- "sends its stock, and its proposal if it made one, both by Write": the memory is only read; the buffer before and after
+  -- "sends its stock, and its proposal if it made one, both by Write", "in the run .. wide": the memory is only read; the buffer before and after
   gossips : (i : ℕ) (old new : List ℕ) (r : Written) →
-      Writes (settings (network D) i) (w .memory i) false old new r →
+      Writes (settings (network D) i) (w .memory i) false Wide old new r →
       CodeStep D w (Gossip i old) (after w i (w .memory i) (afterGossip (w .turn i)) (packetSent (w .beat) i new r))
   sendsProposal : (i : ℕ) (old new : List ℕ) (r : Written) →
-      Writes (settings (network D) i) (w .memory i) true old new r →
+      Writes (settings (network D) i) (w .memory i) true Wide old new r →
       CodeStep D w (Proposal i old) (after w i (w .memory i) (afterProposal (w .turn i)) (packetSent (w .beat) i new r))
   -- "Receive calls between beats carry the beat last begun"
   receives : (i : ℕ) (bytes : List ℕ) (m : Lent) (r : Reply) →

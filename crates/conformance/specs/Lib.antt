@@ -6,3 +6,4 @@ pub mod CodeRemoval
 pub mod CodeDeepAgreement
 pub mod CodeFastHolds
 pub mod CodeAsynchrony
+pub mod CodeOldStock

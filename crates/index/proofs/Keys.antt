@@ -1,19 +1,21 @@
 -- Keys that are compared, and what can be read. Assumes nothing.
-use Prim.Native.Nat.{ℕ, _+_, _*_, _/_, _%_, _-_, _≤_, _<_}
+use Prim.Native.Nat.{ℕ, _+_, _*_, _/_, _%_, _^_, _-_, _≤_, _<_}
 use mathlib.Core.Bool.{true, false}
 use mathlib.Core.List.{List}
 use mathlib.Core.Path.{_≡_, refl, ap, sym, _∙_}
 use native.Mathlib.Omega.{arith}
 use borrow.Author.Tests.{eqb-true, eq-eqb, ltb-true, ltb-false}
 use lib.Dec.{eqb}
-use lib.ListN.{length, getD}
-use Rattle.protocol.specs.declared.Block.{Block}
+use lib.ListN.{length, getD, drop}
+use lib.Seq.{getD-drop}
+use Rattle.protocol.specs.Entry.{Block}
 use Rattle.protocol.specs.Chain.{genesis}
 use Rattle.protocol.specs.Store.{visible}
 use Rattle.protocol.specs.Packet.{packetOf}
-use Rattle.protocol.specs.Lent.{makeBlock, makeVote}
+use Rattle.protocol.specs.Lent.{blockWords, voteWords, makeBlock, makeVote}
 use Rattle.packets.specs.Header.{noVote}
 use Rattle.rows.specs.Rows.{rowAt}
+use Rattle.protocol.proofs.Words.{lower-join, upper-join}
 use Rattle.protocol.proofs.Basics.Tests.{both, and-left, and-right, clashing}
 use Rattle.index.specs.declared.Key.{Key}
 use Rattle.index.specs.declared.Kind.{Kind}
@@ -28,12 +30,21 @@ key-same x y e =
     let p : x .a ≡ y .a = eqb-true (x .a) (y .a) (and-left _ _ e) in
     let f = and-right (eqb (x .a) (y .a)) _ e in
     let q : x .b ≡ y .b = eqb-true (x .b) (y .b) (and-left _ _ f) in
-    let r : x .c ≡ y .c = eqb-true (x .c) (y .c) (and-right (eqb (x .b) (y .b)) _ f) in
-    λ i. record { a = p i; b = q i; c = r i }
+    let g = and-right (eqb (x .b) (y .b)) _ f in
+    let r : x .c ≡ y .c = eqb-true (x .c) (y .c) (and-left _ _ g) in
+    let s : x .d ≡ y .d = eqb-true (x .d) (y .d) (and-right (eqb (x .c) (y .c)) _ g) in
+    λ i. record { a = p i; b = q i; c = r i; d = s i }
 
 pub same-key : (x y : Key) → x ≡ y → sameKey x y ≡ true
 unfolding sameKey
-same-key x y e = ap (sameKey x) (sym e) ∙ both (eq-eqb (x .a) (x .a) refl) (both (eq-eqb (x .b) (x .b) refl) (eq-eqb (x .c) (x .c) refl))
+same-key x y e =
+    ap (sameKey x) (sym e)
+    ∙ both (eq-eqb (x .a) (x .a) refl) (both (eq-eqb (x .b) (x .b) refl) (both (eq-eqb (x .c) (x .c) refl) (eq-eqb (x .d) (x .d) refl)))
+
+-- the last words decide, if the others are the same
+pub last-words : (x y : Key) → x .a ≡ y .a → x .b ≡ y .b → x .c ≡ y .c → eqb (x .d) (y .d) ≡ sameKey x y
+unfolding sameKey
+last-words x y p q r = rw (eq-eqb (x .a) (y .a) p, eq-eqb (x .b) (y .b) q, eq-eqb (x .c) (y .c) r)
 
 quarter : (a : ℕ) → a < 18446744073709551616 → a / 4 < 4611686018427387904
 quarter a h = omega arith
@@ -57,10 +68,6 @@ readable-less KnownVotes ws used bytes n m h r = (r .0, omega (arith, r .1))
 no-flag : true ≡ false → ⊥
 no-flag e = clashing refl e
 
--- the first word of a row
-start : (ws : List ℕ) (j : ℕ) → getD ws (4 * j + 0) 0 ≡ getD ws (4 * j) 0
-start ws j = let z : 4 * j + 0 ≡ 4 * j = omega arith in ap (λ (i : ℕ). getD ws i 0) z
-
 module _ (ws : List ℕ) (used : ℕ) (bytes : List ℕ) (j : ℕ) where
   pub past : (kind : Kind) → inTable kind used j ≡ false → used ≤ j
   past Blocks h = absurd (no-flag h)
@@ -71,7 +78,7 @@ module _ (ws : List ℕ) (used : ℕ) (bytes : List ℕ) (j : ℕ) where
   past KnownVotes h = ltb-false j used h
 
   -- a row is read, or an entry of the packet
-  pub row-fits : (kind : Kind) → Readable kind ws used bytes (j + 1) → inTable kind used j ≡ true → 4 * j + 3 < length ws
+  pub row-fits : (kind : Kind) → Readable kind ws used bytes (j + 1) → inTable kind used j ≡ true → offsetsOf kind .words * (j + 1) ≤ length ws
   row-fits Blocks r h = omega arith
   row-fits Votes r h = omega arith
   row-fits Slots r h = omega arith
@@ -87,20 +94,33 @@ module _ (ws : List ℕ) (used : ℕ) (bytes : List ℕ) (j : ℕ) where
   in-packet KnownBlocks r h = omega (arith, r .1, ltb-false j used h)
   in-packet KnownVotes r h = omega (arith, r .1, ltb-false j used h)
 
-  number-row : rowKey (offsetsOf Blocks) ws j ≡ numberKey (rowAt makeBlock ws j .entry .number)
-  number-row = ap numberKey (start ws j)
+  -- the words of lent memory have 64 bits
+  module _ (words : (i : ℕ) → getD ws i 0 < 2 ^ 64) where
+    word : (k i : ℕ) → getD (drop k ws) i 0 < 2 ^ 64
+    word k i = rw (getD-drop k ws i 0) (words (k + i))
 
-  vote-row : rowKey (offsetsOf Votes) ws j ≡ voteKey (rowAt makeVote ws j .entry)
-  vote-row = ap (λ (x : ℕ). record { a = getD ws (4 * j + 2) 0; b = getD ws (4 * j + 1) 0; c = x }) (start ws j)
+    number-row : rowKey (offsetsOf Blocks) ws j ≡ numberKey (rowAt makeBlock ws j .entry .number)
+    number-row =
+        let row = drop (blockWords * j) ws in
+        let l = sym (lower-join (getD row 0 0) (getD row 1 0) (word (blockWords * j) 0)) in
+        let u = sym (upper-join (getD row 0 0) (getD row 1 0) (word (blockWords * j) 0)) in
+        λ i. record { a = l i; b = l i; c = l i; d = u i }
 
-  pub row-keyed : (kind : Kind) → inTable kind used j ≡ true → rowKey (offsetsOf kind) ws j ≡ keyAt kind ws used bytes j
-  row-keyed Blocks h = number-row
-  row-keyed Votes h = vote-row
-  row-keyed Slots h = ap (λ (x : ℕ). record { a = getD ws (4 * j + 1) 0; b = getD ws (4 * j + 1) 0; c = x }) (start ws j)
-  row-keyed View h = ap (λ (x : ℕ). record { a = getD ws (4 * j + 3) 0; b = getD ws (4 * j + 1) 0; c = x }) (start ws j)
-  row-keyed KnownBlocks h =
-      number-row ∙ ap (λ (b : Block). numberKey (b .number)) (known-row makeBlock ws used (packetOf bytes .blocks) j (visible genesis) (ltb-true j used h) refl)
-  row-keyed KnownVotes h = vote-row ∙ ap voteKey (known-row makeVote ws used (packetOf bytes .votes) j (visible noVote) (ltb-true j used h) refl)
+    vote-row : rowKey (offsetsOf Votes) ws j ≡ voteKey (rowAt makeVote ws j .entry)
+    vote-row =
+        let row = drop (voteWords * j) ws in
+        let l = sym (lower-join (getD row 2 0) (getD row 3 0) (word (voteWords * j) 2)) in
+        let u = sym (upper-join (getD row 2 0) (getD row 3 0) (word (voteWords * j) 2)) in
+        λ i. record { a = l i; b = getD row 1 0; c = getD row 0 0; d = u i }
+
+    pub row-keyed : (kind : Kind) → inTable kind used j ≡ true → rowKey (offsetsOf kind) ws j ≡ keyAt kind ws used bytes j
+    row-keyed Blocks h = number-row
+    row-keyed Votes h = vote-row
+    row-keyed Slots h = refl
+    row-keyed View h = refl
+    row-keyed KnownBlocks h =
+        number-row ∙ ap (λ (b : Block). numberKey (b .number)) (known-row makeBlock ws used (packetOf bytes .blocks) j (visible genesis) (ltb-true j used h) refl)
+    row-keyed KnownVotes h = vote-row ∙ ap voteKey (known-row makeVote ws used (packetOf bytes .votes) j (visible noVote) (ltb-true j used h) refl)
 
   pub packet-keyed : (kind : Kind) → Readable kind ws used bytes (j + 1) → inTable kind used j ≡ false → packetKey kind bytes (j - used) ≡ keyAt kind ws used bytes j
   packet-keyed Blocks r h = absurd (no-flag h)

@@ -7,12 +7,13 @@ use native.Mathlib.Omega.{arith}
 use borrow.Author.Tests.{eq-eqb, ne-eqb, eqb-true}
 use lib.Dec.{eqb, leb}
 use lib.ListN.{take, drop, take-append-drop}
-use Rattle.protocol.specs.declared.Block.{Block}
-use Rattle.protocol.specs.declared.Vote.{Vote}
+use Rattle.protocol.specs.Entry.{Block, Vote}
+use Rattle.protocol.specs.Words.{join}
 use Rattle.protocol.specs.Lists.{any}
 use Rattle.protocol.specs.Chain.{genesis}
 use Rattle.protocol.specs.Store.{Marked, sameVote, visible}
 use Rattle.protocol.specs.Lent.{Make, rowsOf, makeBlock, makeVote}
+use Rattle.protocol.proofs.Words.{join-halves}
 use Rattle.protocol.proofs.Basics.Tests.{not-passes, same-test}
 use Rattle.protocol.proofs.Lent.Rows.{length-rowsOf}
 use Rattle.protocol.proofs.Store.Views.{vote-same, same-vote}
@@ -40,7 +41,7 @@ none make ws = refl
 -- ---- blocks
 
 number-told : {x y : ℕ} → numberKey x ≡ numberKey y → x ≡ y
-number-told e = ap (λ (k : Key). k .a) e
+number-told {x} {y} e = sym (join-halves x) ∙ ap (λ (k : Key). join (k .a) (k .d)) e ∙ join-halves y
 
 pub number-tells : {A : Type 0} (of : A → ℕ) (x : ℕ) → Tells (λ a. numberKey (of a)) (numberKey x) (λ a. eqb (of a) x)
 number-tells of x = record { yes = λ a e. eq-eqb (of a) x (number-told e); no = λ a f. ne-eqb (of a) x (λ e. f (ap numberKey e)) }
@@ -80,7 +81,9 @@ differ-before ws n i h e =
 -- ---- votes
 
 vote-told : {v w : Vote} → voteKey v ≡ voteKey w → v ≡ w
-vote-told e = ap (λ (k : Key). record { voter = k .c; slot = k .b; number = k .a }) e
+vote-told {v} {w} e =
+    let n = sym (join-halves (v .number)) ∙ ap (λ (k : Key). join (k .a) (k .d)) e ∙ join-halves (w .number) in
+    λ i. record { voter = e i .c; slot = e i .b; number = n i }
 
 pub vote-tells : {A : Type 0} (of : A → Vote) (v : Vote) → Tells (λ a. voteKey (of a)) (voteKey v) (λ a. sameVote (of a) v)
 vote-tells of v =

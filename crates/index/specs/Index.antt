@@ -1,13 +1,13 @@
 -- The key at each place, for each kind of entry, and the links that are an index of the first places. Assumes nothing.
 use Prim.Native.Nat.{ℕ, zero, suc, _+_, _*_, _≤_, _<_}
-use mathlib.Core.Bool.{Bool, true}
+use mathlib.Core.Bool.{Bool, true, false, cond}
 use mathlib.Core.List.{List, [], _∷_, _++_}
 use lib.Dec.{ltb}
-use lib.ListN.{length, getD}
+use lib.ListN.{length, getD, drop}
 use Rattle.protocol.specs.Chain.{genesis}
 use Rattle.protocol.specs.Store.{Marked, entries}
 use Rattle.protocol.specs.Packet.{packetOf}
-use Rattle.protocol.specs.Lent.{Make, rowsOf, makeBlock, makeVote}
+use Rattle.protocol.specs.Lent.{blockWords, voteWords, BlocksFit, VotesFit, Make, rowsOf, makeBlock, makeVote}
 use Rattle.packets.specs.Header.{noVote}
 use Rattle.rows.specs.Rows.{rowAt}
 use Rattle.search_tree.specs.Lists.{distinct}
@@ -22,33 +22,39 @@ use Rattle.index.specs.Keys.{numberKey, voteKey, sameKey, keyShape}
 unfoldable pub joined : {A : Type 0} → Make (Marked A) → List ℕ → ℕ → List A → List A
 joined make ws used ys = entries (rowsOf make ws used) ++ ys
 
--- where the words of a key stand in a row
+-- how many words a row has, and where those of a key stand in it
 abbrev pub offsetsOf : Kind → Offsets
-offsetsOf Blocks = record { a = 0; b = 0; c = 0 }
-offsetsOf KnownBlocks = record { a = 0; b = 0; c = 0 }
-offsetsOf Votes = record { a = 2; b = 1; c = 0 }
-offsetsOf KnownVotes = record { a = 2; b = 1; c = 0 }
-offsetsOf Slots = record { a = 1; b = 1; c = 0 }
-offsetsOf View = record { a = 3; b = 1; c = 0 }
+offsetsOf Blocks = record { words = blockWords; a = 0; b = 0; c = 0; d = 1; wide = true }
+offsetsOf KnownBlocks = record { words = blockWords; a = 0; b = 0; c = 0; d = 1; wide = true }
+offsetsOf Votes = record { words = voteWords; a = 2; b = 1; c = 0; d = 3; wide = true }
+offsetsOf KnownVotes = record { words = voteWords; a = 2; b = 1; c = 0; d = 3; wide = true }
+offsetsOf Slots = record { words = voteWords; a = 1; b = 1; c = 0; d = 0; wide = false }
+offsetsOf View = record { words = voteWords; a = 4; b = 1; c = 0; d = 0; wide = false }
 
 abbrev pub rowKey : Offsets → List ℕ → ℕ → Key
-rowKey o ws j = record { a = getD ws (4 * j + o .a) 0; b = getD ws (4 * j + o .b) 0; c = getD ws (4 * j + o .c) 0 }
+rowKey o ws j =
+    let row = drop (o .words * j) ws in
+    record { a = getD row (o .a) 0; b = getD row (o .b) 0; c = getD row (o .c) 0; d = cond (o .wide) (getD row (o .d) 0) 0 }
+
+-- what stands for a key where there is none
+abbrev pub noKey : Key
+noKey = record { a = 0; b = 0; c = 0; d = 0 }
 
 abbrev pub packetKey : Kind → List ℕ → ℕ → Key
 packetKey KnownBlocks bytes i = numberKey (getD (packetOf bytes .blocks) i genesis .number)
 packetKey KnownVotes bytes i = voteKey (getD (packetOf bytes .votes) i noVote)
-packetKey Blocks bytes i = numberKey 0
-packetKey Votes bytes i = numberKey 0
-packetKey Slots bytes i = numberKey 0
-packetKey View bytes i = numberKey 0
+packetKey Blocks bytes i = noKey
+packetKey Votes bytes i = noKey
+packetKey Slots bytes i = noKey
+packetKey View bytes i = noKey
 
 -- the key at place j: of a row, or of the table's rows and then the packet's entries; by voter and slot a row has its slot or its mark in the
 -- place of the number
 abbrev pub keyAt : Kind → List ℕ → ℕ → List ℕ → ℕ → Key
 keyAt Blocks ws used bytes j = numberKey (rowAt makeBlock ws j .entry .number)
 keyAt Votes ws used bytes j = voteKey (rowAt makeVote ws j .entry)
-keyAt Slots ws used bytes j = let v = rowAt makeVote ws j .entry in record { a = v .slot; b = v .slot; c = v .voter }
-keyAt View ws used bytes j = let v = rowAt makeVote ws j .entry in record { a = getD ws (4 * j + 3) 0; b = v .slot; c = v .voter }
+keyAt Slots ws used bytes j = let v = rowAt makeVote ws j .entry in record { a = v .slot; b = v .slot; c = v .voter; d = 0 }
+keyAt View ws used bytes j = let v = rowAt makeVote ws j .entry in record { a = getD (drop (voteWords * j) ws) 4 0; b = v .slot; c = v .voter; d = 0 }
 keyAt KnownBlocks ws used bytes j = numberKey (getD (joined makeBlock ws used (packetOf bytes .blocks)) j genesis .number)
 keyAt KnownVotes ws used bytes j = voteKey (getD (joined makeVote ws used (packetOf bytes .votes)) j noVote)
 
@@ -72,12 +78,12 @@ InPacket View bytes i = ⊥
 
 -- the first n places can be read
 abbrev pub Readable : Kind → List ℕ → ℕ → List ℕ → ℕ → Type 0
-Readable Blocks ws used bytes n = 4 * n ≤ length ws
-Readable Votes ws used bytes n = 4 * n ≤ length ws
-Readable Slots ws used bytes n = 4 * n ≤ length ws
-Readable View ws used bytes n = 4 * n ≤ length ws
-Readable KnownBlocks ws used bytes n = (4 * used ≤ length ws) × (n ≤ used + length (packetOf bytes .blocks))
-Readable KnownVotes ws used bytes n = (4 * used ≤ length ws) × (n ≤ used + length (packetOf bytes .votes))
+Readable Blocks ws used bytes n = BlocksFit n ws
+Readable Votes ws used bytes n = VotesFit n ws
+Readable Slots ws used bytes n = VotesFit n ws
+Readable View ws used bytes n = VotesFit n ws
+Readable KnownBlocks ws used bytes n = BlocksFit used ws × (n ≤ used + length (packetOf bytes .blocks))
+Readable KnownVotes ws used bytes n = VotesFit used ws × (n ≤ used + length (packetOf bytes .votes))
 
 abbrev pub IndexOf : Kind → List ℕ → ℕ → List ℕ → ℕ → List ℕ → Type 0
 IndexOf kind ws used bytes n ls = Index keyShape (keyAt kind ws used bytes) n ls

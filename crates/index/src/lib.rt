@@ -1,19 +1,21 @@
 // One index for every kind of entry, in links that a caller lends: blocks by number, votes, and votes by voter and slot; of a table alone, or of
 // a table and then a packet. What differs between the kinds is the key that stands at a place. The descent, adding and building are the same.
-// Two keys that differ part at the first digit in which they differ, so a descent meets at most 27 blocks, 45 votes (49 of a packet, whose voters
+// Two keys that differ part at the first digit in which they differ, so a descent meets at most 65 blocks, 77 votes (81 of a packet, whose voters
 // are below 256), and 14 votes by voter and slot, where voters are below 64 and slots below 2^30. Honest entries meet one or two.
 // No function keeps an array: the largest call takes less than 1 KB of stack.
 use protocol::Block;
+use protocol::Number;
 use protocol::Vote;
 use search_tree::Spot;
-ghost use mathlib.Core.Bool.{true};
+ghost use mathlib.Core.Bool.{true, cond};
 ghost use mathlib.Core.Path.{_≡_};
 ghost use Prim.Native.Nat.{_+_, _*_, _<_, _≤_};
 ghost use lib.Dec.{leb};
 ghost use lib.ListN.{length, getD};
 ghost use Rattle.protocol.specs.Chain.{genesis};
+ghost use Rattle.protocol.specs.Words.{value, blockOf, voteOf};
 ghost use Rattle.protocol.specs.Packet.{packetOf};
-ghost use Rattle.protocol.specs.Lent.{rowsOf, makeBlock, makeVote};
+ghost use Rattle.protocol.specs.Lent.{BlocksFit, VotesFit, rowsOf, makeBlock, makeVote};
 ghost use Rattle.bitset.specs.Bitset.{inserted};
 ghost use Rattle.search_tree.specs.Tree.{Placed, Sought, Blank};
 ghost use Rattle.index.specs.Keys.{numberKey, voteKey, sameKey, rootOf, firstOf, restOf, keyShape};
@@ -22,16 +24,19 @@ ghost use Rattle.index.specs.Index.{offsetsOf, rowKey, packetKey, keyAt,
 ghost use Rattle.index.specs.Places.{placeOfNumber, numbersDiffer, votesDiffer, BlockIndex, VoteIndex, SlotIndex, slotKey, knownBlocks};
 ghost use Rattle.index.specs.Firsts.{firstPlace};
 
-// What an index goes by: three words. Its root is chosen by b and c, and digits of a and b part those that share a root.
+// What an index goes by: four words, of which d is the upper half of a number. Its root is chosen by b, c and d, and digits of all four part those
+// that share a root.
 pub struct Key {
     pub a: u64,
     pub b: u64,
     pub c: u64,
+    pub d: u64,
 }
 
-// What is left of a key's digits: 128 bits, of which each step takes the lowest two.
+// What is left of a key's digits: 192 bits, of which each step takes the lowest two.
 pub struct Digits {
     pub low: u64,
+    pub middle: u64,
     pub high: u64,
 }
 
@@ -46,34 +51,40 @@ pub enum Kind {
     KnownVotes,
 }
 
-// Where the words of a key stand in a row.
+// How many words a row has, and where those of a key stand in it.
 struct Offsets {
+    words: usize,
     a: usize,
     b: usize,
     c: usize,
+    // the upper half of a number, if the key has one
+    d: usize,
+    wide: bool,
 }
 
 // ---- keys
 
 // The key of a block's number.
-fn number_key(number: u64) -> Key
-    ensures { λ r. ⌜ r ≡ numberKey number ⌝ }
+fn number_key(number: Number) -> Key
+    ensures { λ r. ⌜ r ≡ numberKey (value number) ⌝ }
 {
     Key {
-        a: number,
-        b: number,
-        c: number,
+        a: number.lower,
+        b: number.lower,
+        c: number.lower,
+        d: number.upper,
     }
 }
 
 // The key of a vote.
 fn vote_key(vote: Vote) -> Key
-    ensures { λ r. ⌜ r ≡ voteKey vote ⌝ }
+    ensures { λ r. ⌜ r ≡ voteKey (voteOf vote) ⌝ }
 {
     Key {
-        a: vote.number,
+        a: vote.number.lower,
         b: vote.slot,
         c: vote.voter,
+        d: vote.number.upper,
     }
 }
 
@@ -82,7 +93,9 @@ fn same_key(x: Key, y: Key) -> bool
 {
     if x.a == y.a {
         if x.b == y.b {
-            return x.c == y.c;
+            if x.c == y.c {
+                return x.d == y.d;
+            }
         }
     }
     false
@@ -92,7 +105,7 @@ fn same_key(x: Key, y: Key) -> bool
 fn root(key: Key) -> usize
     ensures { λ r. ⌜ r ≡ rootOf key ⌝ }
 {
-    ((key.b % 128 * 64 + key.c % 8192) % 8192) as usize
+    ((key.b % 128 * 64 + key.c % 8192 + key.d % 8192) % 8192) as usize
 }
 
 // The digits of a key at its root. Where c is a block's number, c / 8192 brings the bits that the root has left to the front.
@@ -101,9 +114,11 @@ fn first(key: Key) -> Digits
 {
     let high = key.b / 128;
     let left = high + key.c / 8192;
-    let low = std::num::wrapping_add_u64(key.a, left);
+    let sum = std::num::wrapping_add_u64(key.a, left);
+    let low = std::num::wrapping_add_u64(sum, key.d);
     Digits {
         low: low,
+        middle: key.d,
         high: high,
     }
 }
@@ -113,38 +128,95 @@ fn rest(digits: Digits) -> Digits
     ensures { λ r. ⌜ r ≡ restOf digits ⌝ }
 {
     Digits {
-        low: digits.low / 4 + digits.high % 4 * 4611686018427387904,
+        low: digits.low / 4 + digits.middle % 4 * 4611686018427387904,
+        middle: digits.middle / 4 + digits.high % 4 * 4611686018427387904,
         high: digits.high / 4,
     }
 }
 
 // Where a row of the kind has its key.
 fn offsets_of(kind: Kind) -> Offsets
-    ensures { λ r. ⌜ (r ≡ offsetsOf kind) × (r .a ≤ 3) × (r .b ≤ 3) × (r .c ≤ 3) ⌝ }
+    ensures { λ r. ⌜ (r ≡ offsetsOf kind) × (r .a < r .words) × (r .b < r .words) × (r .c < r .words) × (r .d < r .words) ⌝ }
 {
     match kind {
-        Kind::Blocks => Offsets { a: 0, b: 0, c: 0 },
-        Kind::KnownBlocks => Offsets { a: 0, b: 0, c: 0 },
-        Kind::Votes => Offsets { a: 2, b: 1, c: 0 },
-        Kind::KnownVotes => Offsets { a: 2, b: 1, c: 0 },
-        Kind::Slots => Offsets { a: 1, b: 1, c: 0 },
-        Kind::View => Offsets { a: 3, b: 1, c: 0 },
+        Kind::Blocks => Offsets {
+            words: 6,
+            a: 0,
+            b: 0,
+            c: 0,
+            d: 1,
+            wide: true,
+        },
+        Kind::KnownBlocks => Offsets {
+            words: 6,
+            a: 0,
+            b: 0,
+            c: 0,
+            d: 1,
+            wide: true,
+        },
+        Kind::Votes => Offsets {
+            words: 5,
+            a: 2,
+            b: 1,
+            c: 0,
+            d: 3,
+            wide: true,
+        },
+        Kind::KnownVotes => Offsets {
+            words: 5,
+            a: 2,
+            b: 1,
+            c: 0,
+            d: 3,
+            wide: true,
+        },
+        Kind::Slots => Offsets {
+            words: 5,
+            a: 1,
+            b: 1,
+            c: 0,
+            d: 0,
+            wide: false,
+        },
+        Kind::View => Offsets {
+            words: 5,
+            a: 4,
+            b: 1,
+            c: 0,
+            d: 0,
+            wide: false,
+        },
     }
+}
+
+// The word at a place, or 0 where the key has no upper half.
+fn upper_at(words: &[u64], at: usize, wide: bool) -> u64
+    requires { ⌜ at < length (now words) ⌝ }
+    ensures { λ r. ⌜ r ≡ cond wide (getD (now (words .entry)) at 0) 0 ⌝ }
+{
+    if wide {
+        return words[at];
+    }
+    0
 }
 
 // The key of row j.
 fn row_key(kind: Kind, words: &[u64], j: usize) -> Key
-    requires { ⌜ 4 * j + 3 < length (now words) ⌝ }
+    requires { ⌜ offsetsOf kind .words * (j + 1) ≤ length (now words) ⌝ }
     ensures { λ r. ⌜ r ≡ rowKey (offsetsOf kind) (now (words .entry)) j ⌝ }
 {
     let o = offsets_of(kind);
-    let a = 4 * j + o.a;
-    let b = 4 * j + o.b;
-    let c = 4 * j + o.c;
+    let at = o.words * j;
+    let a = at + o.a;
+    let b = at + o.b;
+    let c = at + o.c;
+    let d = upper_at(words, at + o.d, o.wide);
     Key {
         a: words[a],
         b: words[b],
         c: words[c],
+        d: d,
     }
 }
 
@@ -162,10 +234,30 @@ fn packet_key(kind: Kind, bytes: &[u8], i: usize) -> Key
             let vote = packets::vote_at(bytes, i);
             vote_key(vote)
         }
-        Kind::Blocks => Key { a: 0, b: 0, c: 0 },
-        Kind::Votes => Key { a: 0, b: 0, c: 0 },
-        Kind::Slots => Key { a: 0, b: 0, c: 0 },
-        Kind::View => Key { a: 0, b: 0, c: 0 },
+        Kind::Blocks => Key {
+            a: 0,
+            b: 0,
+            c: 0,
+            d: 0,
+        },
+        Kind::Votes => Key {
+            a: 0,
+            b: 0,
+            c: 0,
+            d: 0,
+        },
+        Kind::Slots => Key {
+            a: 0,
+            b: 0,
+            c: 0,
+            d: 0,
+        },
+        Kind::View => Key {
+            a: 0,
+            b: 0,
+            c: 0,
+            d: 0,
+        },
     }
 }
 
@@ -338,7 +430,7 @@ fn join(
 
 // The index of the first `used` blocks, in links that are all free; and whether they differ. The cost is a descent for each row.
 pub fn build_blocks(blocks: &[u64], used: usize, links: &mut [u16]) -> bool
-    requires { ⌜ (4 * used ≤ length (now blocks)) × Room used (now links) × Blank (now links) ⌝ }
+    requires { ⌜ BlocksFit used (now blocks) × Room used (now links) × Blank (now links) ⌝ }
     ensures { λ r. ⌜ (r ≡ numbersDiffer (rowsOf makeBlock (now (blocks .entry)) used))
         × BlockIndex (now (blocks .entry)) used (now (links .exit)) ⌝ }
 {
@@ -347,7 +439,7 @@ pub fn build_blocks(blocks: &[u64], used: usize, links: &mut [u16]) -> bool
 
 // The index of the first `used` votes, in links that are all free; and whether they differ. The cost is a descent for each row.
 pub fn build_votes(votes: &[u64], used: usize, links: &mut [u16]) -> bool
-    requires { ⌜ (4 * used ≤ length (now votes)) × Room used (now links) × Blank (now links) ⌝ }
+    requires { ⌜ VotesFit used (now votes) × Room used (now links) × Blank (now links) ⌝ }
     ensures { λ r. ⌜ (r ≡ votesDiffer (rowsOf makeVote (now (votes .entry)) used))
         × VoteIndex (now (votes .entry)) used (now (links .exit)) ⌝ }
 {
@@ -355,9 +447,9 @@ pub fn build_votes(votes: &[u64], used: usize, links: &mut [u16]) -> bool
 }
 
 // One more than the place of the first block with the number among the first n, or 0. The cost is a descent.
-pub fn place(blocks: &[u64], n: usize, links: &[u16], number: u64) -> usize
-    requires { ⌜ (4 * n ≤ length (now blocks)) × BlockIndex (now blocks) n (now links) ⌝ }
-    ensures { λ r. ⌜ r ≡ placeOfNumber (rowsOf makeBlock (now (blocks .entry)) n) number ⌝ }
+pub fn place(blocks: &[u64], n: usize, links: &[u16], number: Number) -> usize
+    requires { ⌜ BlocksFit n (now blocks) × BlockIndex (now blocks) n (now links) ⌝ }
+    ensures { λ r. ⌜ r ≡ placeOfNumber (rowsOf makeBlock (now (blocks .entry)) n) (value number) ⌝ }
 {
     let key = number_key(number);
     find(Kind::Blocks, blocks, 0, b"", n, links, key)
@@ -365,7 +457,7 @@ pub fn place(blocks: &[u64], n: usize, links: &[u16], number: u64) -> usize
 
 // Row n joins the index of the blocks before it. The cost is a descent.
 pub fn add_block(blocks: &[u64], n: usize, links: &mut [u16])
-    requires { ⌜ (4 * n + 4 ≤ length (now blocks)) × Room (n + 1) (now links) × BlockIndex (now blocks) n (now links) ⌝ }
+    requires { ⌜ BlocksFit (n + 1) (now blocks) × Room (n + 1) (now links) × BlockIndex (now blocks) n (now links) ⌝ }
     ensures { λ r. ⌜ BlockIndex (now (blocks .entry)) (n + 1) (now (links .exit)) ⌝ }
 {
     add(Kind::Blocks, blocks, 0, b"", n, links);
@@ -374,7 +466,7 @@ pub fn add_block(blocks: &[u64], n: usize, links: &mut [u16])
 // Row n joins the index by voter and slot of the rows before it; the answer is one more than the place of the first of these with its voter
 // and slot, or 0. Of the view, rows that wait are kept apart. The cost is a descent.
 pub fn slot_add(votes: &[u64], n: usize, whole: bool, links: &mut [u16]) -> usize
-    requires { ⌜ (4 * n + 4 ≤ length (now votes)) × Room (n + 1) (now links) × SlotIndex whole (now votes) n (now links) ⌝ }
+    requires { ⌜ VotesFit (n + 1) (now votes) × Room (n + 1) (now links) × SlotIndex whole (now votes) n (now links) ⌝ }
     ensures { λ r. ⌜ Placed (slotKey whole (now (votes .entry))) n (slotKey whole (now (votes .entry)) n) r
         × SlotIndex whole (now (votes .entry)) (n + 1) (now (links .exit)) ⌝ }
 {
@@ -398,8 +490,8 @@ pub fn fits(used: usize, count: usize, most: usize) -> bool
 
 // The block at place j.
 pub fn block_at(blocks: &[u64], used: usize, bytes: &[u8], j: usize) -> Block
-    requires { ⌜ (4 * used ≤ length (now blocks)) × (j < used + length (packetOf (now bytes) .blocks)) ⌝ }
-    ensures { λ r. ⌜ r ≡ getD (knownBlocks (now (blocks .entry)) used (now (bytes .entry))) j genesis ⌝ }
+    requires { ⌜ BlocksFit used (now blocks) × (j < used + length (packetOf (now bytes) .blocks)) ⌝ }
+    ensures { λ r. ⌜ blockOf r ≡ getD (knownBlocks (now (blocks .entry)) used (now (bytes .entry))) j genesis ⌝ }
 {
     if j < used {
         let row = rows::block_at(blocks, j);
@@ -416,10 +508,10 @@ pub fn known_block(
     n: usize,
     indexed: bool,
     links: &[u16],
-    number: u64,
+    number: Number,
 ) -> usize
     requires { ⌜ Readable KnownBlocks (now blocks) used (now bytes) n × (indexed ≡ true → IndexOf KnownBlocks (now blocks) used (now bytes) n (now links)) ⌝ }
-    ensures { λ r. ⌜ Placed (keyAt KnownBlocks (now (blocks .entry)) used (now (bytes .entry))) n (numberKey number) r ⌝ }
+    ensures { λ r. ⌜ Placed (keyAt KnownBlocks (now (blocks .entry)) used (now (bytes .entry))) n (numberKey (value number)) r ⌝ }
 {
     let key = number_key(number);
     seek(

@@ -5,30 +5,31 @@ use mathlib.Core.List.{List, [], _∷_, _++_}
 use mathlib.Core.Path.{_≡_, refl, ap, sym, _∙_}
 use native.Mathlib.Nat.{le-of-eq}
 use native.Mathlib.Omega.{arith}
-use lib.Dec.{eqb, leb}
+use lib.Dec.{leb}
 use lib.ListN.{length}
 use borrow.Author.Tests.{leb-true, eqb-true}
+use Rattle.protocol.specs.declared.Number.{Number}
+use Rattle.protocol.specs.Words.{value}
 use Rattle.protocol.specs.declared.Settings.{Settings}
 use Rattle.protocol.specs.declared.Clock.{Clock}
-use Rattle.protocol.specs.declared.Block.{Block}
-use Rattle.protocol.specs.declared.Vote.{Vote}
+use Rattle.protocol.specs.Entry.{Block, Vote}
 use Rattle.protocol.specs.Lists.{any}
 use Rattle.protocol.specs.Walk as walk
 use Rattle.protocol.specs.Store.{Marked, entries, inView, waiting, visible, showAll, sameVote, keptFrom, rowsSince, Node}
 use Rattle.protocol.specs.Sound.{between, placesSound}
-use Rattle.protocol.specs.Packet.{Packet, packetOf}
+use Rattle.protocol.specs.Packet.{Packet, packetOf, isProposal}
 use Rattle.protocol.specs.Refusal.{first, done}
 use Rattle.protocol.specs.Calls.Open.{openTests}
 use Rattle.protocol.specs.Calls.Receive.{receiveTests, addBlocks, addSince, blocksAfter, votesAfter, brings, stoodOn, receivedOf, receiveInto}
 use Rattle.protocol.specs.Calls.Propose.{proposeTests, baseOf}
 use Rattle.protocol.specs.Calls.Vote.{voteTests, headOf}
 use Rattle.protocol.specs.Calls.Merge.{mergeTests}
-use Rattle.protocol.specs.Lent.{Lent, rowsOf, stored, makeBlock, makeVote, blockRow, voteRow, placesIn, placesOf, nodeOf, emptied, storeNode, cleared}
+use Rattle.protocol.specs.Lent.{blockWords, voteWords, BlocksFit, VotesFit, Lent, rowsOf, stored, makeBlock, makeVote, blockRow, voteRow, placesIn, placesOf, nodeOf, emptied, storeNode, cleared}
 use Rattle.protocol.proofs.Basics.Tests.{and-left, and-right}
 use Rattle.protocol.proofs.Calls.Passed as passed
 use Rattle.protocol.proofs.Calls.Passed.{opens}
 use Rattle.protocol.proofs.Store.Views.{length-show}
-use Rattle.protocol.proofs.Lent.Rows.{places-fit, block-codec, vote-codec, stored-same, length-rowsOf}
+use Rattle.protocol.proofs.Lent.Rows.{blocks-fit, block-codec, vote-codec, stored-same, length-rowsOf}
 use Rattle.storing.specs.Grown.{Holds}
 use Rattle.receiving.specs.Accepted.{Accepted, onlyBlocks, onlyVotes, onlyClock}
 use Rattle.receiving.proofs.Node.{receives-accepted}
@@ -55,7 +56,7 @@ use Rattle.node.proofs.Tables.{store-is, store-grown, length-more, leng
 
 -- ---- Open
 
-module _ (s : Settings) (m : Lent) {v : Verdict} (h : verdictOf v ≡ first (openTests s (record { blocks = placesIn (m .blocks); votes = placesIn (m .votes) }))) where
+module _ (s : Settings) (m : Lent) {v : Verdict} (h : verdictOf v ≡ first (openTests s (record { blocks = placesIn blockWords (m .blocks); votes = placesIn voteWords (m .votes) }))) where
   pub open-leaves : {e : Refusal} {r : Moved} → v ≡ Refuse e → r ≡ record { reply = reply.Refused e; clock = m .clock } → Opens s m (lent (m .blocks) (m .votes) (m .blocksUsed) (m .votesUsed) (r .clock)) (r .reply)
   unfolding placesOf
   open-leaves e f = left-refused (open-refused s m _ (said (Refuse _) h e)) f
@@ -65,12 +66,12 @@ module _ (s : Settings) (m : Lent) {v : Verdict} (h : verdictOf v ≡ first (ope
   open-clears e k = left-done (open-done s m (said Pass h e)) k refl
 
 -- block 0 has a place
-pub open-room : (s : Settings) (bw vw : List ℕ) {v : Verdict} → verdictOf v ≡ first (openTests s (record { blocks = placesIn bw; votes = placesIn vw }))
-    → v ≡ Pass → 4 ≤ length bw
+pub open-room : (s : Settings) (bw vw : List ℕ) {v : Verdict} → verdictOf v ≡ first (openTests s (record { blocks = placesIn blockWords bw; votes = placesIn voteWords vw }))
+    → v ≡ Pass → BlocksFit 1 bw
 unfolding placesSound between
 open-room s bw vw h e =
     let o = opens s _ (said Pass h e) .places in
-    places-fit bw 1 (leb-true 1 (placesIn bw) (and-left (leb 1 (placesIn bw)) _ (and-left _ (between 1 8192 (placesIn vw)) o)))
+    blocks-fit bw 1 (leb-true 1 (placesIn blockWords bw) (and-left (leb 1 (placesIn blockWords bw)) _ (and-left _ (between 1 8192 (placesIn voteWords vw)) o)))
 
 -- ---- Receive
 
@@ -81,7 +82,7 @@ received-clock k beat brought = record { seen = beat; done = k .done; merged = k
 brought-slot : (x : Node) (beat : ℕ) (p : Packet) {b : Bool} → b ≡ brings x beat p → cond b (beat / 3) (x .clock .proposed) ≡ cond b (p .slot) (x .clock .proposed)
 unfolding brings
 brought-slot x beat p {b = true} e =
-    let q : p .slot * 3 ≡ beat = eqb-true _ _ (and-left _ _ (and-right (eqb (p .kind) 1) _ (sym e))) in omega arith
+    let q : p .slot * 3 ≡ beat = eqb-true _ _ (and-left _ _ (and-right (isProposal (p .kind)) _ (sym e))) in omega arith
 brought-slot x beat p {b = false} e = refl
 
 -- no row is lost
@@ -110,13 +111,13 @@ module _ (s : Settings) (m : Lent) (beat : ℕ) (bytes : List ℕ) {v : Verdict}
   unfolding nodeOf
   receive-accepts e = receives-accepted s (placesOf m) (nodeOf m) beat bytes (tests-passed e)
 
-  pub receive-block-room : v ≡ Pass → 4 * length (addBlocks (entries (rowsOf makeBlock (m .blocks) (m .blocksUsed))) (packetOf bytes .blocks)) ≤ length (m .blocks)
+  pub receive-block-room : v ≡ Pass → BlocksFit (length (addBlocks (entries (rowsOf makeBlock (m .blocks) (m .blocksUsed))) (packetOf bytes .blocks))) (m .blocks)
   receive-block-room e = receive-room-blocks s m beat bytes (said Pass h e)
 
   pub receive-few : v ≡ Pass → length (addBlocks (entries (rowsOf makeBlock (m .blocks) (m .blocksUsed))) (packetOf bytes .blocks)) ≤ 2048
   receive-few e = receive-few-blocks s m beat bytes (said Pass h e)
 
-  pub receive-vote-room : {from : ℕ} → v ≡ Pass → from ≡ keptFrom s (m .clock .merged) → 4 * length (addSince from (entries (rowsOf makeVote (m .votes) (m .votesUsed))) (packetOf bytes .votes)) ≤ length (m .votes)
+  pub receive-vote-room : {from : ℕ} → v ≡ Pass → from ≡ keptFrom s (m .clock .merged) → VotesFit (length (addSince from (entries (rowsOf makeVote (m .votes) (m .votesUsed))) (packetOf bytes .votes))) (m .votes)
   receive-vote-room e f = rw f (receive-room-votes s m beat bytes (said Pass h e))
 
   pub receive-stores : {brought : Bool} {from : ℕ} {bw vw : List ℕ} {bu vu : ℕ} {k : Clock} → v ≡ Pass
@@ -148,19 +149,19 @@ module _ (s : Settings) (m : Lent) (beat number : ℕ) {v : Verdict} (h : verdic
   pub propose-leaves : {e : Refusal} {r : Moved} → v ≡ Refuse e → r ≡ record { reply = reply.Refused e; clock = m .clock } → Proposes s m beat number (lent (m .blocks) (m .votes) (m .blocksUsed) (m .votesUsed) (r .clock)) (r .reply)
   propose-leaves e f = left-refused (propose-refused s m beat number _ (said (Refuse _) h e)) f
 
-  pub propose-room : v ≡ Pass → 4 * (m .blocksUsed + 1) ≤ length (m .blocks)
+  pub propose-room : v ≡ Pass → BlocksFit (m .blocksUsed + 1) (m .blocks)
   propose-room e = places.propose-room s m beat number (said Pass h e)
 
-  pub propose-stores : {base bu : ℕ} {shown bw vw : List ℕ} → v ≡ Pass
-      → base ≡ walk.base (entries (rowsOf makeBlock (m .blocks) (m .blocksUsed))) (entries (rowsOf makeVote (m .votes) (m .votesUsed))) (s .nodes) (s .expiry) (beat / 3)
+  pub propose-stores : {base : Number} {bu : ℕ} {shown bw vw : List ℕ} → v ≡ Pass
+      → value base ≡ walk.base (entries (rowsOf makeBlock (m .blocks) (m .blocksUsed))) (entries (rowsOf makeVote (m .votes) (m .votesUsed))) (s .nodes) (s .expiry) (beat / 3)
       → shown ≡ stored blockRow (showAll (rowsOf makeBlock (m .blocks) (m .blocksUsed))) (m .blocks)
-      → bw ≡ stored blockRow (rowsOf makeBlock shown (m .blocksUsed) ++ (visible (record { number = number; parent = base; slot = beat / 3 }) ∷ [])) shown
+      → bw ≡ stored blockRow (rowsOf makeBlock shown (m .blocksUsed) ++ (visible (record { number = number; parent = value base; slot = beat / 3 }) ∷ [])) shown
       → bu ≡ m .blocksUsed + 1
       → vw ≡ stored voteRow (showAll (rowsOf makeVote (m .votes) (m .votesUsed))) (m .votes)
       → Proposes s m beat number (lent bw vw bu (m .votesUsed) (record { seen = beat; done = beat; merged = m .clock .merged; proposed = beat / 3 })) (reply.Block base)
   unfolding nodeOf baseOf
   propose-stores {base} e f g b n w =
-      let new : Marked Block = visible (record { number = number; parent = base; slot = beat / 3 }) in
+      let new : Marked Block = visible (record { number = number; parent = value base; slot = beat / 3 }) in
       left-done (propose-done s m beat number (said Pass h e))
       (rw (← f) (store-grown _ m (append-shown block-codec (m .blocks) (m .blocksUsed) g new b) w
       (n ∙ length-append-shown block-codec (m .blocks) (m .blocksUsed) new) (length-shown vote-codec (m .votes) (m .votesUsed)) (le-of-eq (length-shown vote-codec (m .votes) (m .votesUsed)))))
@@ -172,18 +173,18 @@ module _ (s : Settings) (m : Lent) (beat : ℕ) {v : Verdict} (h : verdictOf v �
   pub vote-leaves : {e : Refusal} {r : Moved} → v ≡ Refuse e → r ≡ record { reply = reply.Refused e; clock = m .clock } → Votes s m beat (lent (m .blocks) (m .votes) (m .blocksUsed) (m .votesUsed) (r .clock)) (r .reply)
   vote-leaves e f = left-refused (vote-refused s m beat _ (said (Refuse _) h e)) f
 
-  pub vote-room : v ≡ Pass → 4 * (m .votesUsed + 1) ≤ length (m .votes)
+  pub vote-room : v ≡ Pass → VotesFit (m .votesUsed + 1) (m .votes)
   vote-room e = places.vote-room s m beat (said Pass h e)
 
-  pub vote-stores : {head vu : ℕ} {vw : List ℕ} → v ≡ Pass
-      → head ≡ walk.head (inView (rowsOf makeBlock (m .blocks) (m .blocksUsed))) (inView (rowsOf makeVote (m .votes) (m .votesUsed))) (s .nodes) (s .expiry) (beat / 3)
-      → vw ≡ stored voteRow (rowsOf makeVote (m .votes) (m .votesUsed) ++ (waiting (record { voter = s .own; slot = beat / 3; number = head }) ∷ [])) (m .votes)
+  pub vote-stores : {head : Number} {vu : ℕ} {vw : List ℕ} → v ≡ Pass
+      → value head ≡ walk.head (inView (rowsOf makeBlock (m .blocks) (m .blocksUsed))) (inView (rowsOf makeVote (m .votes) (m .votesUsed))) (s .nodes) (s .expiry) (beat / 3)
+      → vw ≡ stored voteRow (rowsOf makeVote (m .votes) (m .votesUsed) ++ (waiting (record { voter = s .own; slot = beat / 3; number = value head }) ∷ [])) (m .votes)
       → vu ≡ m .votesUsed + 1
       → Votes s m beat (lent (m .blocks) vw (m .blocksUsed) vu (record { seen = beat; done = beat; merged = m .clock .merged; proposed = m .clock .proposed })) (reply.Block head)
   unfolding nodeOf headOf
   vote-stores {head} e f w n =
       let R = passed-ready s _ m h e .memory in
-      let new : Marked Vote = waiting (record { voter = s .own; slot = beat / 3; number = head }) in
+      let new : Marked Vote = waiting (record { voter = s .own; slot = beat / 3; number = value head }) in
       left-done (vote-done s m beat (said Pass h e))
       (rw (← f) (store-grown _ m (sym (stored-same block-codec (m .blocks) (m .blocksUsed) (R .block-marks) (R .block-words))) w
       (sym (length-rowsOf makeBlock (m .blocks) (m .blocksUsed))) (n ∙ length-more makeVote (m .votes) (m .votesUsed) _) (omega (arith, length-more makeVote (m .votes) (m .votesUsed) new))))
@@ -213,7 +214,7 @@ module _ (s : Settings) (m : Lent) (beat : ℕ) (bytes : List ℕ) {after : Lent
   unfolding Carries
   carries-receive e h = rw e h
 
-  pub carries-propose : {number : ℕ} → c ≡ call.Propose number → Proposes s m beat number after r → Carries s m c beat bytes after r
+  pub carries-propose : {number : Number} → c ≡ call.Propose number → Proposes s m beat (value number) after r → Carries s m c beat bytes after r
   unfolding Carries
   carries-propose e h = rw e h
 

@@ -8,7 +8,7 @@ use lib.ListN.{length, drop, length-append, length-drop}
 use Rattle.protocol.specs.Store.{Marked, allWaiting, show, showAll, Node}
 use Rattle.protocol.specs.Lent.{Lent, Make, rowsOf, stored, blockRow, voteRow, marksSound, emptied, storeNode}
 use Rattle.protocol.proofs.Store.Views.{length-show}
-use Rattle.protocol.proofs.Lent.Rows.{Codec, vote-codec, stored-emptied, rows-stored, marks-stored, length-rowsOf}
+use Rattle.protocol.proofs.Lent.Rows.{Codec, stored-emptied, rows-stored, marks-stored, length-rowsOf}
 use Rattle.rows.proofs.Stored.{stored-longer}
 use Rattle.verdicts.specs.Lent.{lent}
 
@@ -22,7 +22,7 @@ store-is x m b v bu vu = λ i. record { blocks = b i; votes = v i; blocksUsed = 
 -- where no vote left, no place became free
 pub store-grown : (x : Node) (m : Lent) {bw vw : List ℕ} {bu vu : ℕ} → bw ≡ stored blockRow (x .blocks) (m .blocks) → vw ≡ stored voteRow (x .votes) (m .votes)
     → bu ≡ length (x .blocks) → vu ≡ length (x .votes) → m .votesUsed ≤ length (x .votes) → lent bw vw bu vu (x .clock) ≡ storeNode x m
-store-grown x m b v bu vu h = store-is x m b (v ∙ sym (stored-emptied vote-codec (x .votes) (m .votesUsed) (m .votes) h)) bu vu
+store-grown x m b v bu vu h = store-is x m b (v ∙ sym (stored-emptied (x .votes) (m .votesUsed) (m .votes) h)) bu vu
 
 -- ---- one row more
 
@@ -50,7 +50,7 @@ module _ {A : Type 0} {make : Make (Marked A)} {row : Marked A → List ℕ} (co
   length-shown = sym (length-show _ (rowsOf make ws n) ∙ length-rowsOf make ws n)
 
   module _ {shown : List ℕ} (e : shown ≡ stored row (showAll (rowsOf make ws n)) ws) where
-    pub shown-marks : marksSound shown n ≡ true
+    pub shown-marks : marksSound make shown n ≡ true
     shown-marks = rw e (marks-stored codec (showAll (rowsOf make ws n)) ws n (sym length-shown))
 
     -- and one row more

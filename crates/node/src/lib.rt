@@ -6,6 +6,7 @@ use answers::Reply;
 use answers::Taken;
 use protocol::Block;
 use protocol::Clock;
+use protocol::Number;
 use protocol::Settings;
 use protocol::Vote;
 use verdicts::Refusal;
@@ -13,6 +14,7 @@ use verdicts::Verdict;
 ghost use mathlib.Core.Bool.{cond};
 ghost use mathlib.Core.Path.{_≡_};
 ghost use Prim.Native.Nat.{_/_};
+ghost use Rattle.protocol.specs.Words.{value};
 ghost use Rattle.verdicts.specs.Lent.{lent};
 ghost use Rattle.answers.specs.declared.Reply.the-variants.{Refused};
 ghost use Rattle.answers.specs.Promises.{Opens, Receives, Proposes, Votes, Merges, Carries};
@@ -141,10 +143,10 @@ pub fn propose(
     votes: &mut [u64],
     votes_used: &mut usize,
     beat: u64,
-    number: u64,
+    number: Number,
 ) -> Moved
     ensures { λ r. ⌜ Proposes settings (lent (now (blocks .entry)) (now (votes .entry)) (now («blocks_used» .entry)) (now («votes_used» .entry)) clock)
-        beat number
+        beat (value number)
         (lent (now (blocks .exit)) (now (votes .exit)) (now («blocks_used» .exit)) (now («votes_used» .exit)) (r .clock)) (r .reply) ⌝ }
 {
     let blocks_before = *blocks_used;

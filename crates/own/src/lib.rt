@@ -4,15 +4,16 @@ use protocol::Block;
 use protocol::Clock;
 use protocol::Settings;
 use protocol::Vote;
-ghost use mathlib.Core.Bool.{_&&_};
+ghost use mathlib.Core.Bool.{_&&_, cond};
 ghost use mathlib.Core.List.{[]};
 ghost use mathlib.Core.Path.{_≡_};
-ghost use Prim.Native.Nat.{_+_, _*_, _/_, _%_, _≤_, _<_};
+ghost use Prim.Native.Nat.{_+_, _/_, _%_, _<_};
 ghost use lib.Dec.{eqb};
-ghost use lib.ListN.{length};
 ghost use Rattle.protocol.specs.Lists.{any};
 ghost use Rattle.protocol.specs.Store.{entries, inView, keptFrom};
-ghost use Rattle.protocol.specs.Lent.{rowsOf, makeBlock, makeVote};
+ghost use Rattle.protocol.specs.Chain.{genesis};
+ghost use Rattle.protocol.specs.Words.{blockOf};
+ghost use Rattle.protocol.specs.Lent.{BlocksFit, VotesFit, rowsOf, makeBlock, makeVote};
 ghost use Rattle.protocol.specs.Calls.Write.{lastBlock, proposedNow};
 
 // Whether the node is joined for the beat's slot: the slot before it was the last one merged.
@@ -55,7 +56,7 @@ fn is_vote_of(vote: Vote, voter: u64, slot: u64) -> bool
 
 // Whether a vote of this voter for this slot is known.
 pub fn has_voted(votes: &[u64], used: usize, voter: u64, slot: u64) -> bool
-    requires { ⌜ 4 * used ≤ length (now votes) ⌝ }
+    requires { ⌜ VotesFit used (now votes) ⌝ }
     ensures { λ r. ⌜ r ≡ any (λ a. eqb (a .voter) voter && eqb (a .slot) slot) (entries (rowsOf makeVote (now (votes .entry)) used)) ⌝ }
 {
     let mut i: usize = 0;
@@ -71,12 +72,13 @@ pub fn has_voted(votes: &[u64], used: usize, voter: u64, slot: u64) -> bool
 
 // The last block in view.
 pub fn last_in_view(blocks: &[u64], used: usize) -> Block
-    requires { ⌜ 4 * used ≤ length (now blocks) ⌝ }
-    ensures { λ r. ⌜ r ≡ lastBlock (inView (rowsOf makeBlock (now (blocks .entry)) used)) ⌝ }
+    requires { ⌜ BlocksFit used (now blocks) ⌝ }
+    ensures { λ r. ⌜ blockOf r ≡ lastBlock (inView (rowsOf makeBlock (now (blocks .entry)) used)) ⌝ }
 {
+    let zero = numbers::zero();
     let mut last = Block {
-        number: 0,
-        parent: 0,
+        number: zero,
+        parent: zero,
         slot: 0,
     };
     let mut i: usize = 0;
@@ -90,10 +92,26 @@ pub fn last_in_view(blocks: &[u64], used: usize) -> Block
     last
 }
 
+// The block that the header of a packet names: the proposed one, in gossip block 0.
+pub fn header_block(blocks: &[u64], used: usize, proposal: bool) -> Block
+    requires { ⌜ BlocksFit used (now blocks) ⌝ }
+    ensures { λ r. ⌜ blockOf r ≡ cond proposal (lastBlock (inView (rowsOf makeBlock (now (blocks .entry)) used))) genesis ⌝ }
+{
+    if proposal {
+        return last_in_view(blocks, used);
+    }
+    let zero = numbers::zero();
+    Block {
+        number: zero,
+        parent: zero,
+        slot: 0,
+    }
+}
+
 // Whether the beat seen is phase 0 of a slot that this node proposed.
 // The rule asks nothing of the votes.
 pub fn proposed_now(settings: Settings, clock: Clock, blocks: &[u64], used: usize) -> bool
-    requires { ⌜ (4 * used ≤ length (now blocks)) × (0 < settings .nodes) ⌝ }
+    requires { ⌜ BlocksFit used (now blocks) × (0 < settings .nodes) ⌝ }
     ensures { λ r. ⌜ r ≡ proposedNow settings (record { blocks = rowsOf makeBlock (now (blocks .entry)) used; votes = []; clock = clock }) ⌝ }
 {
     if clock.seen % 3 != 0 {

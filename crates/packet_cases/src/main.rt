@@ -1,27 +1,41 @@
-// Packets written and read back, cut to each length from 0 to 40, and with each byte changed.
+// Packets of both widths written and read back, with each byte changed, cut to each length, and as each kind.
 ghost use Prim.Native.Nat.{_≤_};
 ghost use mathlib.Core.Path.{_≡_};
 ghost use lib.ListN.{length};
+ghost use Rattle.protocol.specs.Words.{value};
 ghost use Rattle.protocol.specs.Packet.{packetOf};
-ghost use Rattle.writer.specs.Sent.{nodeIn, sentOf, Readable};
+ghost use Rattle.protocol.specs.Calls.Write.{sentOf};
+ghost use Rattle.writer.specs.Sent.{nodeIn, Readable};
 use protocol::Block;
+use protocol::Number;
 use protocol::Vote;
+use protocol::Width;
+
+// ---- what is written
 
 fn word(text: &[u8], n: u64) {
     io::write_all(1, text);
     io::print_decimal(1, n);
 }
 
+// A block's number, which may have 39 digits.
+fn number(text: &[u8], n: Number) {
+    let mut digits = [0u8; 39];
+    let start = numbers::decimal(n, &mut digits);
+    io::write_all(1, text);
+    io::write_all(1, &digits[start..]);
+}
+
 fn show_block(b: Block) {
-    word(b", block ", b.number);
-    word(b" parent ", b.parent);
+    number(b", block ", b.number);
+    number(b" parent ", b.parent);
     word(b" slot ", b.slot);
 }
 
 fn show_vote(v: Vote) {
     word(b", vote of ", v.voter);
     word(b" slot ", v.slot);
-    word(b" for ", v.number);
+    number(b" for ", v.number);
 }
 
 fn show_blocks(bytes: &[u8], n: u64)
@@ -52,7 +66,7 @@ fn show(bytes: &[u8]) {
         let h = packets::header_of(bytes);
         word(b" kind ", h.kind);
         word(b" slot ", h.slot);
-        word(b" number ", h.number);
+        number(b" number ", h.number);
         show_blocks(bytes, h.blocks);
         show_votes(bytes, h.votes);
         io::write_all(1, b"\n");
@@ -77,6 +91,8 @@ fn dump(bytes: &[u8]) {
     io::write_all(1, b"\n");
 }
 
+// ---- packets; `up` is the upper half of every number but block 0's
+
 // Writes a packet if the buffer has room for it, and answers its length, or 0.
 fn put(
     blocks: &[u64],
@@ -84,15 +100,16 @@ fn put(
     votes: &[u64],
     votes_used: usize,
     proposal: bool,
+    width: Width,
     slot: u64,
-    number: u64,
+    number: Number,
     buf: &mut [u8],
 ) -> usize
     requires { ⌜ Readable (now blocks) «blocks_used» (now votes) «votes_used»
-        × (slot ≡ sentOf proposal (nodeIn (now blocks) «blocks_used» (now votes) «votes_used») .slot)
-        × (number ≡ sentOf proposal (nodeIn (now blocks) «blocks_used» (now votes) «votes_used») .number) ⌝ }
+        × (slot ≡ sentOf proposal width (nodeIn (now blocks) «blocks_used» (now votes) «votes_used») .slot)
+        × (value number ≡ sentOf proposal width (nodeIn (now blocks) «blocks_used» (now votes) «votes_used») .number) ⌝ }
 {
-    let n = writer::written_length(blocks, blocks_used, votes, votes_used, proposal);
+    let n = writer::written_length(blocks, blocks_used, votes, votes_used, proposal, width);
     if buf.len() < n {
         return 0;
     }
@@ -102,6 +119,7 @@ fn put(
         votes,
         votes_used,
         proposal,
+        width,
         slot,
         number,
         buf,
@@ -109,35 +127,77 @@ fn put(
     n
 }
 
-// Two blocks above block 0 and two votes, of which one each is in view.
-fn gossip(buf: &mut [u8]) -> usize {
-    let blocks = [0u64, 0, 0, 1, 21, 0, 2, 0, 11, 0, 3, 1];
-    let votes = [4u64, 3, 11, 1, 63, 2, 21, 0];
-    put(&blocks, 3, &votes, 2, false, 0, 0, buf)
+// Two blocks, the second a child of the first, and a vote for each. The second ones wait.
+fn gossip(width: Width, up: u64, buf: &mut [u8]) -> usize {
+    let blocks: [u64; 18] = [0, 0, 0, 0, 0, 1, 11, up, 0, 0, 2, 1, 21, up, 11, up, 3, 0];
+    let votes = [4u64, 3, 11, up, 1, 63, 3, 21, up, 0];
+    let none = Number { lower: 0, upper: 0 };
+    put(&blocks, 3, &votes, 2, false, width, 0, none, buf)
 }
 
-// The same tables, as the proposal of block 11.
-fn proposal(buf: &mut [u8]) -> usize {
-    let blocks = [0u64, 0, 0, 1, 21, 0, 2, 0, 11, 0, 3, 1];
-    let votes = [4u64, 3, 11, 1, 63, 2, 21, 0];
-    put(&blocks, 3, &votes, 2, true, 3, 11, buf)
+// Two blocks and two votes, of which one each is in view, as the proposal of that block.
+fn proposal(width: Width, up: u64, buf: &mut [u8]) -> usize {
+    let blocks: [u64; 18] = [0, 0, 0, 0, 0, 1, 21, up, 0, 0, 2, 0, 11, up, 0, 0, 3, 1];
+    let votes = [4u64, 3, 11, up, 1, 63, 2, 21, up, 0];
+    let proposed = Number {
+        lower: 11,
+        upper: up,
+    };
+    put(&blocks, 3, &votes, 2, true, width, 3, proposed, buf)
 }
 
-// The proposal of block 258, without a vote: 37 bytes.
-fn small(buf: &mut [u8]) -> usize {
-    let blocks = [0u64, 0, 0, 1, 258, 0, 7, 1];
-    let votes = [0u64, 0, 0, 0];
-    put(&blocks, 2, &votes, 0, true, 7, 258, buf)
+// The proposal of a block, without a vote: 37 bytes narrow, 61 wide.
+fn small(width: Width, up: u64, buf: &mut [u8]) -> usize {
+    let blocks = [0u64, 0, 0, 0, 0, 1, 258, up, 0, 0, 7, 1];
+    let votes = [0u64, 0, 0, 0, 0];
+    let proposed = Number {
+        lower: 258,
+        upper: up,
+    };
+    put(&blocks, 2, &votes, 0, true, width, 7, proposed, buf)
 }
 
-// The first bytes, for each length up to 40.
+// Whether narrow gossip of a block and a vote meets an upper half that is not zero, given those of the block, its parent and the vote.
+fn show_narrow(block: u64, parent: u64, vote: u64) {
+    let blocks = [0u64, 0, 0, 0, 0, 1, 7, block, 5, parent, 2, 0];
+    let votes = [4u64, 3, 7, vote, 0];
+    let none = Number { lower: 0, upper: 0 };
+    word(b"upper halves ", block);
+    word(b" ", parent);
+    word(b" ", vote);
+    if writer::too_wide(&blocks, 2, &votes, 1, false, Width::Narrow, none) {
+        io::write_all(1, b" are too wide\n");
+        return;
+    }
+    io::write_all(1, b" fit\n");
+}
+
+// ---- bytes that may be a packet
+
+// The first bytes, if they are a packet.
+fn show_cut(bytes: &[u8], n: usize) {
+    if n <= bytes.len() {
+        let front = &bytes[..n];
+        if packets::well_formed(front) {
+            word(b"first ", n as u64);
+            show(front);
+        }
+    }
+}
+
+fn no_other(n: u64) {
+    word(b"no other of 0 to ", n);
+    io::write_all(1, b"\n");
+}
+
+// The first bytes, for each length.
 fn cut(bytes: &[u8]) {
     let mut n = 0;
-    while n <= 40 {
-        word(b"first ", n as u64);
-        show_first(bytes, n);
+    while n <= bytes.len() {
+        show_cut(bytes, n);
         n += 1;
     }
+    no_other(bytes.len() as u64);
 }
 
 // One byte one higher, and then as it was.
@@ -161,28 +221,97 @@ fn change_each(bytes: &mut [u8]) {
     }
 }
 
-fn main() {
-    let mut buf = [255u8; 100];
-    let n = gossip(&mut buf);
-    io::write_all(1, b"gossip");
+fn as_kind(bytes: &mut [u8], kind: u8) {
+    if 0 < bytes.len() {
+        bytes[0] = kind;
+        word(b"bytes ", bytes.len() as u64);
+        word(b" of kind ", kind as u64);
+        io::write_all(1, b",");
+        show(bytes);
+    }
+}
+
+fn each_kind(bytes: &mut [u8]) {
+    as_kind(bytes, 0);
+    as_kind(bytes, 1);
+    as_kind(bytes, 2);
+    as_kind(bytes, 3);
+    as_kind(bytes, 4);
+    as_kind(bytes, 255);
+}
+
+// ---- the cases of each width
+
+fn narrow() {
+    let mut buf = [255u8; 90];
+    let n = gossip(Width::Narrow, 0, &mut buf);
+    io::write_all(1, b"narrow gossip");
     show_first(&buf, n);
     dump(&buf);
     let mut other = [255u8; 60];
-    let m = proposal(&mut other);
-    io::write_all(1, b"proposal");
+    let m = proposal(Width::Narrow, 0, &mut other);
+    io::write_all(1, b"narrow proposal");
     show_first(&other, m);
     dump(&other);
     let mut third = [0u8; 37];
-    small(&mut third);
+    small(Width::Narrow, 0, &mut third);
     change_each(&mut third);
     let mut longer = [0u8; 41];
-    small(&mut longer);
+    small(Width::Narrow, 0, &mut longer);
     cut(&longer);
-    let zeros = [0u8; 41];
+}
+
+fn wide() {
+    let mut buf = [255u8; 144];
+    let n = gossip(Width::Wide, 578437695752307201, &mut buf);
+    io::write_all(1, b"wide gossip");
+    show_first(&buf, n);
+    dump(&buf);
+    let mut other = [255u8; 87];
+    let m = proposal(Width::Wide, 578437695752307201, &mut other);
+    io::write_all(1, b"wide proposal");
+    show_first(&other, m);
+    dump(&other);
+    let mut third = [0u8; 61];
+    small(Width::Wide, 1, &mut third);
+    change_each(&mut third);
+    let mut longer = [0u8; 65];
+    small(Width::Wide, 1, &mut longer);
+    cut(&longer);
+}
+
+// Packets with nothing in them, and counts without entries.
+fn empty() {
+    let mut zeros = [0u8; 41];
     cut(&zeros);
+    zeros[0] = 2;
+    cut(&zeros);
+    let mut gossip = [0u8; 17];
+    change_each(&mut gossip);
+    each_kind(&mut gossip);
+    let mut wider = [0u8; 25];
+    wider[0] = 2;
+    change_each(&mut wider);
+    each_kind(&mut wider);
     let mut many = [0u8; 17];
     many[13] = 255;
     many[14] = 255;
     io::write_all(1, b"65535 blocks");
     show(&many);
+    let mut more = [0u8; 25];
+    more[0] = 2;
+    more[21] = 255;
+    more[22] = 255;
+    io::write_all(1, b"65535 blocks wide");
+    show(&more);
+}
+
+fn main() {
+    narrow();
+    wide();
+    empty();
+    show_narrow(0, 0, 0);
+    show_narrow(1, 0, 0);
+    show_narrow(0, 1, 0);
+    show_narrow(0, 0, 1);
 }

@@ -6,6 +6,7 @@ use native.Mathlib.Nat.{pow-suc, pow-succ', mul-assoc, pow-le-pow-right, lt-of-l
 use native.Mathlib.Omega.{arith}
 use lib.ListN.{getD}
 use lib.Seq.{take-nil}
+use Rattle.protocol.specs.Words.{join}
 use Rattle.protocol.specs.Packet.{numberOf, field}
 
 pub field-none : (bs : List ℕ) (at : ℕ) → field bs at 0 ≡ 0
@@ -36,6 +37,11 @@ field-parts (suc m) n at bs =
     let p : 256 ^ suc m * field bs (suc at + m) n ≡ 256 * (256 ^ m * field bs (suc at + m) n)
     = ap (λ (k : ℕ). k * field bs (suc at + m) n) (pow-succ' 256 m) ∙ mul-assoc 256 (256 ^ m) (field bs (suc at + m) n) in
     rw (size, place, field-low bs at (m + n), field-low bs at m, field-parts m n (suc at) bs) (omega (arith, p))
+
+-- the lower half of a number, and then its upper half; of 8 bytes the upper half has none
+pub field-halves : (h at : ℕ) (bs : List ℕ) → field bs at (8 + h) ≡ join (field bs at 8) (field bs (at + 8) h)
+unfolding join
+field-halves h at bs = field-parts 8 h at bs
 
 -- the bytes from i on are read, and then one more
 module _ (width i sum b : ℕ) (some : 0 < i) (most : i ≤ width) where

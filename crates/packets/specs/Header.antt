@@ -2,7 +2,8 @@
 use Prim.Native.Nat.{ℕ}
 use mathlib.Core.List.{List}
 use lib.ListN.{length}
-use Rattle.protocol.specs.declared.Vote.{Vote}
+use Rattle.protocol.specs.Entry.{Vote}
+use Rattle.protocol.specs.Words.{numberAs}
 use Rattle.protocol.specs.Packet.{packetOf}
 use Rattle.packets.specs.declared.Header.{Header}
 
@@ -11,7 +12,7 @@ headerOf bs =
     record {
       kind = packetOf bs .kind;
       slot = packetOf bs .slot;
-      number = packetOf bs .number;
+      number = numberAs (packetOf bs .number);
       blocks = length (packetOf bs .blocks);
       votes = length (packetOf bs .votes);
     }

@@ -1,14 +1,18 @@
 // Packets read: numbers at a place, the reader, the header, the entries, and whether bytes are a packet.
 // Nothing is read past the end: a byte that is not there counts as 0, as in the definitions.
 // Reading a number costs its width; no function here takes longer than a few numbers.
+ghost use mathlib.Core.Bool.{_||_};
 ghost use mathlib.Core.Path.{_≡_};
 ghost use Prim.Native.Nat.{_+_, _*_, _^_, _≤_, _<_};
+ghost use lib.Dec.{eqb};
 ghost use lib.ListN.{length, getD};
 ghost use Rattle.protocol.specs.Chain.{genesis};
-ghost use Rattle.protocol.specs.Packet.{field, sizeOf, packetOf, wellFormed};
+ghost use Rattle.protocol.specs.Words.{blockOf, voteOf};
+ghost use Rattle.protocol.specs.Packet.{field, blockWidth, voteWidth, afterBlocks, sizeOf, widthOf, widthIn, isProposal, packetOf, wellFormed};
 ghost use Rattle.packets.specs.Reader.{placeAfter, threeOf};
 ghost use Rattle.packets.specs.Header.{noVote, headerOf};
 use protocol::Block;
+use protocol::Number;
 use protocol::Vote;
 
 // The bytes and the position of the next one.
@@ -28,7 +32,7 @@ pub struct Three {
 pub struct Header {
     pub kind: u64,
     pub slot: u64,
-    pub number: u64,
+    pub number: Number,
     pub blocks: u64,
     pub votes: u64,
 }
@@ -117,12 +121,28 @@ fn onward(bytes: &[u8], at: usize, n: usize) -> usize
     at + n
 }
 
-// The bytes of the block section: a count, and so many blocks.
-fn section_bytes(blocks: u64) -> usize
-    requires { ⌜ blocks < 65536 ⌝ }
-    ensures { λ r. ⌜ r ≡ 2 + 20 * blocks ⌝ }
+// The bytes of a block: a number takes 8 bytes for its lower half and so many for its upper one.
+fn block_bytes(upper: usize) -> usize
+    requires { ⌜ upper ≤ 8 ⌝ }
+    ensures { λ r. ⌜ (r ≡ blockWidth (8 + upper)) × (r ≤ 36) ⌝ }
 {
-    (2 + 20 * blocks) as usize
+    20 + 2 * upper
+}
+
+// The bytes of a vote.
+fn vote_bytes(upper: usize) -> usize
+    requires { ⌜ upper ≤ 8 ⌝ }
+    ensures { λ r. ⌜ (r ≡ voteWidth (8 + upper)) × (r ≤ 21) ⌝ }
+{
+    13 + upper
+}
+
+// The place behind so many blocks.
+fn behind_blocks(upper: usize, blocks: usize) -> usize
+    requires { ⌜ (upper ≤ 8) × (blocks ≤ 65535) ⌝ }
+    ensures { λ r. ⌜ (r ≡ afterBlocks (8 + upper) blocks) × (r ≤ 2359283) ⌝ }
+{
+    15 + upper + block_bytes(upper) * blocks
 }
 
 // ---- the reader
@@ -177,28 +197,65 @@ fn count_at(bytes: &[u8], at: usize) -> u64
 
 // ---- packets
 
+// How many bytes the upper half of a number takes in a packet of the kind: none in kinds 0 and 1.
+pub fn upper_bytes(kind: u64) -> usize
+    ensures { λ r. ⌜ (8 + r ≡ widthOf kind) × (r ≤ 8) ⌝ }
+{
+    if kind < 2 {
+        return 0;
+    }
+    8
+}
+
+pub fn is_proposal(kind: u64) -> bool
+    ensures { λ r. ⌜ r ≡ isProposal kind ⌝ }
+{
+    kind == 1 || kind == 3
+}
+
+fn is_gossip(kind: u64) -> bool
+    ensures { λ r. ⌜ r ≡ (eqb kind 0 || eqb kind 2) ⌝ }
+{
+    kind == 0 || kind == 2
+}
+
+// The same as `upper_bytes`, of the packet's own kind.
+fn upper_in(bytes: &[u8]) -> usize
+    ensures { λ r. ⌜ (8 + r ≡ widthIn (now (bytes .entry))) × (r ≤ 8) ⌝ }
+{
+    let kind = number_at(bytes, 0, 1);
+    upper_bytes(kind)
+}
+
 pub fn header_of(bytes: &[u8]) -> Header
     ensures { λ r. ⌜ r ≡ headerOf (now (bytes .entry)) ⌝ }
 {
     let t = three_at(bytes, 0, 1, 4, 8);
-    let blocks = count_at(bytes, 13);
-    let n = section_bytes(blocks);
-    let votes = count_at(bytes, 13 + n);
+    let upper = upper_bytes(t.first);
+    let half = number_at(bytes, 13, upper);
+    let blocks = count_at(bytes, 13 + upper);
+    let at = behind_blocks(upper, blocks as usize);
+    let votes = count_at(bytes, at);
     Header {
         kind: t.first,
         slot: t.second,
-        number: t.third,
+        number: Number {
+            lower: t.third,
+            upper: half,
+        },
         blocks,
         votes,
     }
 }
 
-// The length of a packet with so many blocks and votes.
-pub fn packet_length(blocks: u64, votes: u64) -> u64
-    requires { ⌜ (blocks < 65536) × (votes < 65536) ⌝ }
-    ensures { λ r. ⌜ r ≡ sizeOf 8 blocks votes ⌝ }
+// The length of a packet with so many blocks and votes, where the upper half of a number takes so many bytes.
+pub fn packet_length(upper: usize, blocks: u64, votes: u64) -> u64
+    requires { ⌜ (upper ≤ 8) × (blocks < 65536) × (votes < 65536) ⌝ }
+    ensures { λ r. ⌜ (r ≡ sizeOf (8 + upper) blocks votes) × (r ≤ 3735520) ⌝ }
 {
-    17 + 20 * blocks + 13 * votes
+    let block = block_bytes(upper) as u64;
+    let vote = vote_bytes(upper) as u64;
+    17 + upper as u64 + block * blocks + vote * votes
 }
 
 // Whether length, kind and zero fields are right.
@@ -206,48 +263,60 @@ pub fn well_formed(bytes: &[u8]) -> bool
     ensures { λ r. ⌜ r ≡ wellFormed (now (bytes .entry)) ⌝ }
 {
     let h = header_of(bytes);
-    let length = packet_length(h.blocks, h.votes);
+    let upper = upper_bytes(h.kind);
+    let length = packet_length(upper, h.blocks, h.votes);
     if bytes.len() as u64 != length {
         return false;
     }
-    if h.kind == 1 {
+    if is_proposal(h.kind) {
         return true;
     }
-    if h.kind != 0 {
+    if !is_gossip(h.kind) {
         return false;
     }
     if h.slot != 0 {
         return false;
     }
-    if h.number != 0 {
-        return false;
-    }
-    true
+    numbers::is_zero(h.number)
 }
 
 // Block i of a packet.
 pub fn block_at(bytes: &[u8], i: usize) -> Block
     requires { ⌜ i < length (packetOf (now bytes) .blocks) ⌝ }
-    ensures { λ r. ⌜ r ≡ getD (packetOf (now (bytes .entry)) .blocks) i genesis ⌝ }
+    ensures { λ r. ⌜ blockOf r ≡ getD (packetOf (now (bytes .entry)) .blocks) i genesis ⌝ }
 {
-    let t = three_at(bytes, 15 + 20 * i, 8, 8, 4);
+    let upper = upper_in(bytes);
+    let at = behind_blocks(upper, i);
+    let t = three_at(bytes, at, 8, upper, 8);
+    let u = three_at(bytes, at + 16 + upper, upper, 4, 0);
     Block {
-        number: t.first,
-        parent: t.second,
-        slot: t.third,
+        number: Number {
+            lower: t.first,
+            upper: t.second,
+        },
+        parent: Number {
+            lower: t.third,
+            upper: u.first,
+        },
+        slot: u.second,
     }
 }
 
 // Vote i of a packet.
 pub fn vote_at(bytes: &[u8], i: usize) -> Vote
     requires { ⌜ i < length (packetOf (now bytes) .votes) ⌝ }
-    ensures { λ r. ⌜ r ≡ getD (packetOf (now (bytes .entry)) .votes) i noVote ⌝ }
+    ensures { λ r. ⌜ voteOf r ≡ getD (packetOf (now (bytes .entry)) .votes) i noVote ⌝ }
 {
-    let blocks = number_at(bytes, 13, 2) as usize;
-    let t = three_at(bytes, 17 + 20 * blocks + 13 * i, 1, 4, 8);
+    let upper = upper_in(bytes);
+    let blocks = number_at(bytes, 13 + upper, 2) as usize;
+    let at = behind_blocks(upper, blocks) + 2 + vote_bytes(upper) * i;
+    let t = three_at(bytes, at, 1, 4, 8);
     Vote {
         voter: t.first,
         slot: t.second,
-        number: t.third,
+        number: Number {
+            lower: t.third,
+            upper: number_at(bytes, at + 13, upper),
+        },
     }
 }

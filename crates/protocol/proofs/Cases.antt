@@ -3,8 +3,7 @@
 use Prim.Native.Nat.{ℕ}
 use mathlib.Core.Path.{_≡_, refl}
 use mathlib.Core.List.{List, [], _∷_, _++_}
-use Rattle.protocol.specs.declared.Block.{Block}
-use Rattle.protocol.specs.declared.Vote.{Vote}
+use Rattle.protocol.specs.Entry.{Block, Vote}
 use Rattle.protocol.specs.Lists.{filter, any, all}
 use Rattle.protocol.specs.Chain.{genesis, find, foundWith, slotIn, upGo, upStep, aboveIn, above}
 use Rattle.protocol.specs.Filters.{conflict, equivocates, counted, window, later, latest, chosen, nothing, choiceOf, kept}

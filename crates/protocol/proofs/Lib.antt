@@ -1,5 +1,6 @@
 -- The laws, in folders as the definitions are. Assumes nothing.
 pub mod Basics
+pub mod Words
 pub mod Chain
 pub mod Filters
 pub mod Walk

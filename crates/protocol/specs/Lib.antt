@@ -1,6 +1,8 @@
 -- Document 01 as definitions, in its order: limits, chains, filters and walks, the node, packets, calls, lent memory. Assumes nothing.
 pub mod Limits
 pub mod Lists
+pub mod Entry
+pub mod Words
 pub mod Chain
 pub mod Filters
 pub mod Walk

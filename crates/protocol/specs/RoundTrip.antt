@@ -1,17 +1,21 @@
--- Demand 2's round trip: a gossip packet carries the whole store. Assumes nothing.
-use Prim.Native.Nat.{ℕ, _-_, _^_, _<_, _≤_}
+-- Demand 2's round trip: a gossip packet carries the whole store;
+-- what becomes of an old stock that is written wide; and that a packet's width is not seen. Assumes nothing.
+use Prim.Native.Nat.{ℕ, _+_, _-_, _^_, _<_, _≤_}
 use mathlib.Core.Path.{_≡_}
-use mathlib.Core.Bool.{false}
+use mathlib.Core.Bool.{true, false}
 use mathlib.Core.List.{List, _∷_, List·Memᴰ}
-use lib.ListN.{length, take}
+use lib.ListN.{length, getD, take}
 use Rattle.protocol.specs.declared.Settings.{Settings}
-use Rattle.protocol.specs.declared.Block.{Block}
+use Rattle.protocol.specs.declared.Width.{Width}
+use Rattle.protocol.specs.declared.Width.the-variants.{Narrow, Wide}
+use Rattle.protocol.specs.Entry.{Block}
 use Rattle.protocol.specs.Chain.{genesis}
 use Rattle.protocol.specs.Store.{entries, visible, allWaiting, Places, Node}
+use Rattle.protocol.specs.Packet.{Packet, packetBytes, packetOf, wellFormed}
 use Rattle.protocol.specs.Refusal.{done}
 use Rattle.protocol.specs.Calls.Open.{openNode}
 use Rattle.protocol.specs.Calls.Receive.{receive}
-use Rattle.protocol.specs.Calls.Write.{write, afterGenesis}
+use Rattle.protocol.specs.Calls.Write.{write, afterGenesis, packetOut, over}
 
 -- the numbers of the store's blocks
 unfoldable pub NumbersBelow : ℕ → Node → Type 0
@@ -29,10 +33,10 @@ copyOf x =
 unfoldable pub RoundTrip : Type 0
 RoundTrip =
     (s : Settings) (p : Places) (x : Node) →
-    -- "A block has a number (64 bits)"
-    NumbersBelow (2 ^ 64) x →
-    -- "a written gossip packet": a Write was carried out and answered n
-    (buffer : List ℕ) (n : ℕ) → write s p x false buffer .reply ≡ done n →
+    -- "16-byte numbers"
+    NumbersBelow (2 ^ 128) x →
+    -- "a written gossip packet", narrow or wide: a Write was carried out and answered n
+    (width : Width) (buffer : List ℕ) (n : ℕ) → write s p x false width buffer .reply ≡ done n →
     -- "by a fresh node", whatever stood in its memory before Open
     (s' : Settings) (p' : Places) (old : Node) → openNode s' p' old .reply ≡ done tt →
     -- "with the same n"
@@ -40,7 +44,7 @@ RoundTrip =
     -- "and places enough"
     length (x .blocks) ≤ p' .blocks → length (x .votes) ≤ p' .votes →
     -- "received at the sender's beat": the first n bytes of the buffer as Write left it
-    (receive s' p' (openNode s' p' old .node) (x .clock .seen) (take n (write s p x false buffer .buffer))
+    (receive s' p' (openNode s' p' old .node) (x .clock .seen) (take n (write s p x false width buffer .buffer))
     ≡ record {
       reply = done (record { newBlocks = length (x .blocks) - 1; newVotes = length (x .votes); brought = false });
       node = copyOf x;
@@ -48,3 +52,33 @@ RoundTrip =
     -- "yields exactly the sender's stock"
     × (entries (copyOf x .blocks) ≡ entries (x .blocks))
     × (entries (copyOf x .votes) ≡ entries (x .votes))
+
+-- Request 8: an old stock comes back narrow.
+unfoldable pub OldStock : Type 0
+OldStock =
+    (s : Settings) (p : Places) (x : Node) →
+    -- "An old stock": its numbers have 64 bits
+    NumbersBelow (2 ^ 64) x →
+    -- "written wide"
+    (buffer : List ℕ) (n : ℕ) → write s p x false Wide buffer .reply ≡ done n →
+    -- "received as in the second demand"
+    (s' : Settings) (p' : Places) (old : Node) → openNode s' p' old .reply ≡ done tt →
+    s' .nodes ≡ s .nodes →
+    length (x .blocks) ≤ p' .blocks → length (x .votes) ≤ p' .votes →
+    let y = receive s' p' (openNode s' p' old .node) (x .clock .seen) (take n (write s p x false Wide buffer .buffer)) .node in
+    let bytes = packetOut false Narrow x in
+    -- "and then written narrow", to any buffer that has room, "gives the bytes of its own narrow gossip"
+    (buffer' : List ℕ) → length bytes ≤ length buffer' →
+    (write s' p' y false Narrow buffer' ≡ record { reply = done (length bytes); buffer = over bytes buffer' })
+    × (write s p x false Narrow buffer' ≡ record { reply = done (length bytes); buffer = over bytes buffer' })
+
+-- the same packet with wide numbers
+abbrev pub wider : Packet → Packet
+wider p = record { kind = p .kind + 2; slot = p .slot; number = p .number; blocks = p .blocks; votes = p .votes }
+
+-- A narrow packet and the wide one of the same header and entries are taken alike, at every beat and by every node.
+unfoldable pub WidthUnseen : Type 0
+WidthUnseen =
+    (s : Settings) (p : Places) (x : Node) (beat : ℕ) (bytes : List ℕ) →
+    ((i : ℕ) → i < length bytes → getD bytes i 0 < 256) → wellFormed bytes ≡ true → packetOf bytes .kind < 2 →
+    receive s p x beat bytes ≡ receive s p x beat (packetBytes (wider (packetOf bytes)))

@@ -17,9 +17,21 @@ pub struct Clock {
     pub proposed: u64,
 }
 
+// A block's number: lower + 2^64 * upper.
+pub struct Number {
+    pub lower: u64,
+    pub upper: u64,
+}
+
+// How many bytes a block's number takes in a packet: 8 or 16.
+pub enum Width {
+    Narrow,
+    Wide,
+}
+
 pub struct Block {
-    pub number: u64,
-    pub parent: u64,
+    pub number: Number,
+    pub parent: Number,
     pub slot: u64,
 }
 
@@ -27,5 +39,5 @@ pub struct Block {
 pub struct Vote {
     pub voter: u64,
     pub slot: u64,
-    pub number: u64,
+    pub number: Number,
 }

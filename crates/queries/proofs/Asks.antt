@@ -4,6 +4,8 @@ use mathlib.Core.Path.{_≡_, ap, sym, _∙_}
 use native.Mathlib.Omega.{arith}
 use lib.Dec.{eqb, ltb}
 use borrow.Author.Tests.{ltb-false}
+use Rattle.protocol.specs.declared.Number.{Number}
+use Rattle.protocol.specs.Words.{value}
 use Rattle.protocol.specs.declared.Settings.{Settings}
 use Rattle.protocol.specs.Filters.{Choice, chosen}
 use Rattle.protocol.specs.Walk as walk
@@ -48,17 +50,17 @@ module _ (s : Settings) (slot : ℕ) (m : Lent) {v : Verdict} (h : verdictOf v �
   pub fast-leaves : {e : Refusal} → v ≡ Refuse e → IsFast s m slot (answer.Refused e)
   fast-leaves e = sym (fast-refused s m slot _ (said (Refuse _) h e))
 
-  pub head-answers : {b : ℕ} → v ≡ Pass
-      → b ≡ walk.head (inView (rowsOf makeBlock (m .blocks) (m .blocksUsed))) (inView (rowsOf makeVote (m .votes) (m .votesUsed))) (s .nodes) (s .expiry) slot
+  pub head-answers : (b : Number) → v ≡ Pass
+      → value b ≡ walk.head (inView (rowsOf makeBlock (m .blocks) (m .blocksUsed))) (inView (rowsOf makeVote (m .votes) (m .votesUsed))) (s .nodes) (s .expiry) slot
       → IsHead s m slot (answer.Block b)
   unfolding headOf nodeOf mapReply
-  head-answers e f = ap (λ (x : ℕ). done (chosen x)) f ∙ ap (mapReply chosen) (sym (head-done s m slot (said Pass h e)))
+  head-answers b e f = ap (λ (x : ℕ). done (chosen x)) f ∙ ap (mapReply chosen) (sym (head-done s m slot (said Pass h e)))
 
-  pub deep-answers : {b : ℕ} → v ≡ Pass
-      → b ≡ confirm.deep (inView (rowsOf makeBlock (m .blocks) (m .blocksUsed))) (inView (rowsOf makeVote (m .votes) (m .votesUsed))) (s .nodes) (s .expiry) (s .depth) slot
+  pub deep-answers : (b : Number) → v ≡ Pass
+      → value b ≡ confirm.deep (inView (rowsOf makeBlock (m .blocks) (m .blocksUsed))) (inView (rowsOf makeVote (m .votes) (m .votesUsed))) (s .nodes) (s .expiry) (s .depth) slot
       → IsDeep s m slot (answer.Block b)
   unfolding deepOf nodeOf mapReply
-  deep-answers e f = ap (λ (x : ℕ). done (chosen x)) f ∙ ap (mapReply chosen) (sym (deep-done s m slot (said Pass h e)))
+  deep-answers b e f = ap (λ (x : ℕ). done (chosen x)) f ∙ ap (mapReply chosen) (sym (deep-done s m slot (said Pass h e)))
 
   -- a block, or nothing
   pub fast-answers : {c : Choice} → v ≡ Pass

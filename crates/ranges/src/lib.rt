@@ -4,12 +4,11 @@ use protocol::Clock;
 use protocol::Settings;
 ghost use mathlib.Core.Bool.{_&&_};
 ghost use mathlib.Core.Path.{_≡_};
-ghost use Prim.Native.Nat.{_*_, _≤_};
-ghost use lib.ListN.{length};
+ghost use Prim.Native.Nat.{_*_, _<_};
 ghost use lib.Dec.{leb};
 ghost use Rattle.protocol.specs.Lists.{all};
 ghost use Rattle.protocol.specs.Sound.{settingsSound, clockSound, placesSound, between};
-ghost use Rattle.protocol.specs.Lent.{placesIn, marksSound, rowsOf, makeBlock, makeVote};
+ghost use Rattle.protocol.specs.Lent.{BlocksFit, VotesFit, blockWords, voteWords, placesIn, marksSound, rowsOf, makeBlock, makeVote};
 ghost use Rattle.ranges.specs.Rows.{blockInRange, voteInRange};
 
 pub fn within(low: u64, high: u64, x: u64) -> bool
@@ -53,44 +52,46 @@ pub fn clock_sound(clock: Clock) -> bool
     clock.proposed <= slot
 }
 
-// How many rows the words can hold.
-pub fn places_in(words: &[u64]) -> usize
-    ensures { λ r. ⌜ r ≡ placesIn (now (words .entry)) ⌝ }
+// How many rows of so many words the words can hold.
+pub fn places_in(width: usize, words: &[u64]) -> usize
+    requires { ⌜ 0 < width ⌝ }
+    ensures { λ r. ⌜ r ≡ placesIn width (now (words .entry)) ⌝ }
 {
     let n = words.len();
-    if n % 4 == 0 {
-        return n / 4;
+    if n % width == 0 {
+        return n / width;
     }
     0
 }
 
 // Whether both tables have a number of places that is allowed.
 pub fn places_sound(blocks: &[u64], votes: &[u64]) -> bool
-    ensures { λ r. ⌜ r ≡ placesSound (record { blocks = placesIn (now (blocks .entry)); votes = placesIn (now (votes .entry)) }) ⌝ }
+    ensures { λ r. ⌜ r ≡ placesSound (record { blocks = placesIn blockWords (now (blocks .entry)); votes = placesIn voteWords (now (votes .entry)) }) ⌝ }
 {
-    let block_places = places_in(blocks) as u64;
+    let block_places = places_in(6, blocks) as u64;
     if !within(1, 2048, block_places) {
         return false;
     }
-    let vote_places = places_in(votes) as u64;
+    let vote_places = places_in(5, votes) as u64;
     within(1, 8192, vote_places)
 }
 
 // Whether as many rows as are used can stand in the words.
-pub fn fits(words: &[u64], used: usize) -> bool
-    ensures { λ r. ⌜ r ≡ leb used (placesIn (now (words .entry))) ⌝ }
+pub fn fits(width: usize, words: &[u64], used: usize) -> bool
+    requires { ⌜ 0 < width ⌝ }
+    ensures { λ r. ⌜ r ≡ leb used (placesIn width (now (words .entry))) ⌝ }
 {
-    used <= places_in(words)
+    used <= places_in(width, words)
 }
 
 // Whether the marks of the used rows are 0 or 1, and no slot is above `slot`. One pass over the rows.
 pub fn blocks_in_range(blocks: &[u64], used: usize, slot: u64) -> bool
-    requires { ⌜ 4 * used ≤ length (now blocks) ⌝ }
-    ensures { λ r. ⌜ r ≡ (marksSound (now (blocks .entry)) used && all (blockInRange slot) (rowsOf makeBlock (now (blocks .entry)) used)) ⌝ }
+    requires { ⌜ BlocksFit used (now blocks) ⌝ }
+    ensures { λ r. ⌜ r ≡ (marksSound makeBlock (now (blocks .entry)) used && all (blockInRange slot) (rowsOf makeBlock (now (blocks .entry)) used)) ⌝ }
 {
     let mut i: usize = 0;
     while i < used {
-        if rows::mark_at(blocks, i) > 1 {
+        if !rows::block_clean(blocks, i) {
             return false;
         }
         let row = rows::block_at(blocks, i);
@@ -104,12 +105,12 @@ pub fn blocks_in_range(blocks: &[u64], used: usize, slot: u64) -> bool
 
 // Whether the marks of the used rows are 0 or 1, every voter is below `nodes` and every slot from 1 to `slot`. One pass over the rows.
 pub fn votes_in_range(votes: &[u64], used: usize, nodes: u64, slot: u64) -> bool
-    requires { ⌜ 4 * used ≤ length (now votes) ⌝ }
-    ensures { λ r. ⌜ r ≡ (marksSound (now (votes .entry)) used && all (voteInRange nodes slot) (rowsOf makeVote (now (votes .entry)) used)) ⌝ }
+    requires { ⌜ VotesFit used (now votes) ⌝ }
+    ensures { λ r. ⌜ r ≡ (marksSound makeVote (now (votes .entry)) used && all (voteInRange nodes slot) (rowsOf makeVote (now (votes .entry)) used)) ⌝ }
 {
     let mut i: usize = 0;
     while i < used {
-        if rows::mark_at(votes, i) > 1 {
+        if !rows::vote_clean(votes, i) {
             return false;
         }
         let row = rows::vote_at(votes, i);

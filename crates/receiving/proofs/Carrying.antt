@@ -6,7 +6,7 @@ use mathlib.Core.List.{List}
 use mathlib.Core.Path.{_≡_, ap, _∙_}
 use native.Mathlib.Omega.{arith}
 use lib.ListN.{length}
-use Rattle.protocol.specs.declared.Block.{Block}
+use Rattle.protocol.specs.Entry.{Block}
 use Rattle.protocol.specs.Lists.{any}
 use Rattle.protocol.specs.Chain.{known, above}
 use Rattle.protocol.specs.Store.{Marked, entries, inView, show}
@@ -43,7 +43,7 @@ module _ (ws₀ : List ℕ) (n : ℕ) (p : Packet) (K : Carried (rowsOf makeBloc
   pub ordered-named : Ordered (rowsOf makeBlock ws₁ n)
   ordered-named = rw (rows-held block-codec (show (named p) R) ws₀ held) (ordered-show R ordered (named p))
 
-  pub marks-named : marksSound ws₁ n ≡ true
+  pub marks-named : marksSound makeBlock ws₁ n ≡ true
   marks-named = marks-held block-codec (show (named p) R) ws₀ held
 
   pub stood-shown : {ws₂ : List ℕ} → ws₂ ≡ stored blockRow (showAncestors (rowsOf makeBlock ws₁ n)) ws₁

@@ -20,8 +20,8 @@ module _ {A : Type 0} {make : Make (Marked A)} {row : Marked A → List ℕ} (co
     pub rows-held : rowsOf make ws u ≡ rs
     rows-held = ap (λ (w : List ℕ). rowsOf make w u) (h .words) ∙ rows-stored codec rs ws₀ u (sym (h .used))
 
-    pub marks-held : marksSound ws u ≡ true
-    marks-held = ap (λ (w : List ℕ). marksSound w u) (h .words) ∙ marks-stored codec rs ws₀ u (sym (h .used))
+    pub marks-held : marksSound make ws u ≡ true
+    marks-held = ap (λ (w : List ℕ). marksSound make w u) (h .words) ∙ marks-stored codec rs ws₀ u (sym (h .used))
 
     -- no fewer rows over them
     pub over-held : (xs : List (Marked A)) {ws′ : List ℕ} → length rs ≤ length xs → ws′ ≡ stored row xs ws → ws′ ≡ stored row xs ws₀

@@ -9,8 +9,7 @@ use borrow.Author.Tests.{leb-true, leb-false, eq-eqb}
 use lib.Dec.{eqb, leb}
 use lib.ListN.{length, getD, length-append, List·getD-append}
 use lib.Seq.{getD-append-add}
-use Rattle.protocol.specs.declared.Block.{Block}
-use Rattle.protocol.specs.declared.Vote.{Vote}
+use Rattle.protocol.specs.Entry.{Block, Vote}
 use Rattle.protocol.specs.Lists.{any, filter}
 use Rattle.protocol.specs.Store.{Marked, allWaiting, entries, sameVote, since}
 use Rattle.protocol.specs.Packet.{packetOf}

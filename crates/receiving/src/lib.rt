@@ -8,11 +8,10 @@ ghost use mathlib.Core.Bool.{true};
 ghost use mathlib.Core.Path.{_≡_};
 ghost use Prim.Native.Nat.{_+_, _*_, _≤_};
 ghost use lib.ListN.{length};
-ghost use Rattle.protocol.specs.declared.Block.{Block};
-ghost use Rattle.protocol.specs.declared.Vote.{Vote};
+ghost use Rattle.protocol.specs.Entry.{Block, Vote};
 ghost use Rattle.protocol.specs.Store.{Marked, entries, show};
 ghost use Rattle.protocol.specs.Packet.{packetOf};
-ghost use Rattle.protocol.specs.Lent.{rowsOf, stored, makeBlock, makeVote, blockRow, voteRow, marksSound};
+ghost use Rattle.protocol.specs.Lent.{BlocksFit, VotesFit, rowsOf, stored, makeBlock, makeVote, blockRow, voteRow, marksSound};
 ghost use Rattle.protocol.specs.Calls.Receive.{addBlocks, addSince, stoodOn, receiveInto, brings as bringsIn};
 ghost use Rattle.index.specs.Firsts.{BlocksNew, VotesNew, named, BlocksNamed, VotesNamed};
 ghost use Rattle.storing.specs.Grown.{Holds};
@@ -24,7 +23,7 @@ pub fn brings(clock: Clock, beat: u64, bytes: &[u8]) -> bool
     ensures { λ r. ⌜ r ≡ bringsIn (onlyClock clock) beat (packetOf (now (bytes .entry))) ⌝ }
 {
     let h = packets::header_of(bytes);
-    if h.kind != 1 {
+    if !packets::is_proposal(h.kind) {
         return false;
     }
     if beat % 3 != 0 {
@@ -39,7 +38,7 @@ pub fn brings(clock: Clock, beat: u64, bytes: &[u8]) -> bool
 // All blocks that the packet stands on come into view: its blocks, those that its votes are for, and their ancestors. Those that it names stand
 // at place `before` or later, or are in `firsts`. Stack: 32 KiB of links.
 fn show_stood_on(blocks: &mut [u64], before: usize, used: usize, bytes: &[u8], firsts: &[u64])
-    requires { ⌜ (4 * used ≤ length (now blocks)) × (marksSound (now blocks) used ≡ true) × Carried (rowsOf makeBlock (now blocks) used) (packetOf (now bytes))
+    requires { ⌜ BlocksFit used (now blocks) × (marksSound makeBlock (now blocks) used ≡ true) × Carried (rowsOf makeBlock (now blocks) used) (packetOf (now bytes))
         × (before ≤ used) × (before ≤ 64 * length (now firsts)) × (used ≤ 2048) × Agrees Block makeBlock (now blocks) used (namedAt before (now firsts)) (named (packetOf (now bytes))) ⌝ }
     ensures { λ r. ⌜ now (blocks .exit) ≡ stored blockRow (show (λ b. stoodOn (entries (rowsOf makeBlock (now (blocks .entry)) used)) (packetOf (now (bytes .entry))) b) (rowsOf makeBlock (now (blocks .entry)) used)) (now (blocks .entry)) ⌝ }
 {
@@ -61,7 +60,7 @@ pub fn receive_blocks(
     firsts: &[u64],
     brought: bool,
 )
-    requires { ⌜ (4 * length (addBlocks (entries (rowsOf makeBlock (now blocks) (now used))) (packetOf (now bytes) .blocks)) ≤ length (now blocks)) × (marksSound (now blocks) (now used) ≡ true) × Accepted (rowsOf makeBlock (now blocks) (now used)) (packetOf (now bytes))
+    requires { ⌜ BlocksFit (length (addBlocks (entries (rowsOf makeBlock (now blocks) (now used))) (packetOf (now bytes) .blocks))) (now blocks) × (marksSound makeBlock (now blocks) (now used) ≡ true) × Accepted (rowsOf makeBlock (now blocks) (now used)) (packetOf (now bytes))
         × (now used + length (packetOf (now bytes) .blocks) ≤ 64 * length (now firsts)) × BlocksNew (now blocks) (now used) (now bytes) (now firsts) × BlocksNamed (now blocks) (now used) (now bytes) (now firsts)
         × (length (addBlocks (entries (rowsOf makeBlock (now blocks) (now used))) (packetOf (now bytes) .blocks)) ≤ 2048) ⌝ }
     ensures { λ r. ⌜ Holds (Marked Block) blockRow (receiveInto 0 brought 0 (onlyBlocks (rowsOf makeBlock (now (blocks .entry)) (now (used .entry)))) (packetOf (now (bytes .entry))) .blocks) (now (blocks .entry)) (now (blocks .exit)) (now (used .exit)) ⌝ }
@@ -84,7 +83,7 @@ pub fn receive_votes(
     from: u64,
     brought: bool,
 )
-    requires { ⌜ (4 * length (addSince from (entries (rowsOf makeVote (now votes) (now used))) (packetOf (now bytes) .votes)) ≤ length (now votes)) × (marksSound (now votes) (now used) ≡ true)
+    requires { ⌜ VotesFit (length (addSince from (entries (rowsOf makeVote (now votes) (now used))) (packetOf (now bytes) .votes))) (now votes) × (marksSound makeVote (now votes) (now used) ≡ true)
         × (now used + length (packetOf (now bytes) .votes) ≤ 64 * length (now firsts)) × VotesNew (now votes) (now used) (now bytes) (now firsts) × VotesNamed (now votes) (now used) (now bytes) (now firsts) ⌝ }
     ensures { λ r. ⌜ Holds (Marked Vote) voteRow (receiveInto from brought 0 (onlyVotes (rowsOf makeVote (now (votes .entry)) (now (used .entry)))) (packetOf (now (bytes .entry))) .votes) (now (votes .entry)) (now (votes .exit)) (now (used .exit)) ⌝ }
 {

@@ -7,7 +7,7 @@ use mathlib.Core.Bool.{true}
 use mathlib.Core.List.{List, List·Memᴰ}
 use native.Mathlib.Nat.{le-refl}
 use native.Mathlib.Omega.{arith}
-use Rattle.protocol.specs.declared.Block.{Block}
+use Rattle.protocol.specs.Entry.{Block}
 use Rattle.protocol.specs.Chain.{genesis}
 use Rattle.protocol.specs.Store.{inView}
 use Rattle.protocol.specs.Calls.Vote.{headOf}

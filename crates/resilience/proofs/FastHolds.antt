@@ -6,8 +6,7 @@ use mathlib.Core.Bool.{Bool, true, not, false≢true}
 use mathlib.Core.List.{List}
 use native.Mathlib.Nat.{le-refl}
 use native.Mathlib.Omega.{arith}
-use Rattle.protocol.specs.declared.Block.{Block}
-use Rattle.protocol.specs.declared.Vote.{Vote}
+use Rattle.protocol.specs.Entry.{Block, Vote}
 use Rattle.protocol.specs.Filters.{Choice, chosen, nothing}
 use Rattle.protocol.specs.Walk.{count, supports}
 use Rattle.protocol.specs.Confirm.{validVote}

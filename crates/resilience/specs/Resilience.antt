@@ -5,11 +5,10 @@ use Prim.Native.Nat.{ℕ, zero, suc, _+_, _*_, _-_, _/_, _%_, _≤_, _<_}
 use mathlib.Core.Bool.{Bool, true, false, _&&_, _||_, not}
 use mathlib.Core.List.{List, [], _∷_, _++_, List·Memᴰ}
 use lib.Dec.{eqb, ltb, T}
-use Rattle.protocol.specs.declared.Block.{Block}
-use Rattle.protocol.specs.declared.Vote.{Vote}
+use Rattle.protocol.specs.Entry.{Block, Vote}
 use Rattle.protocol.specs.Lists.{Same}
 use Rattle.protocol.specs.Walk.{count}
-use Rattle.protocol.specs.Packet.{Packet, packetOf}
+use Rattle.protocol.specs.Packet.{Packet, packetOf, isProposal}
 use Rattle.protocol.specs.Refusal.{done}
 use Rattle.protocol.specs.Calls.Open.{openNode}
 use Rattle.resilience.specs.Run.{Network, World, Run, Event, woke, voted, built, sent, given, lacked, isHonest, settings}
@@ -38,14 +37,15 @@ pub data AtOrAbove (log : List Event) (b : ℕ) : ℕ → Type 0 where
 
 -- What an accepted packet holds of honest nodes they had made earlier: "a block by Propose, a vote by Vote, a proposal by sending
 -- one of the same slot, number and entries". Of the entries only the members are compared, whatever their order: we ask less.
+-- A proposal is one of kind 1 or 3: narrow and wide are not told apart.
 pub record Genuine (N : Network) (earlier : List Event) (p : Packet) : Type 0 where
   pub blocks : (b : Block) → List·Memᴰ b (p .blocks) → T (isHonest N (b .slot % N .nodes)) →
       (beat : ℕ) × (beat / 3 ≡ b .slot) × List·Memᴰ (built beat (b .slot % N .nodes) (b .number) (b .parent)) earlier
   pub votes : (a : Vote) → List·Memᴰ a (p .votes) → T (isHonest N (a .voter)) →
       (beat : ℕ) × (beat / 3 ≡ a .slot) × List·Memᴰ (voted beat (a .voter) (a .number)) earlier
-  pub proposal : p .kind ≡ 1 → T (isHonest N (p .slot % N .nodes)) →
+  pub proposal : isProposal (p .kind) ≡ true → T (isHonest N (p .slot % N .nodes)) →
       (beat : ℕ) × (bytes : List ℕ) × List·Memᴰ (sent beat (p .slot % N .nodes) bytes) earlier
-      × (packetOf bytes .kind ≡ 1) × (packetOf bytes .slot ≡ p .slot) × (packetOf bytes .number ≡ p .number)
+      × (isProposal (packetOf bytes .kind) ≡ true) × (packetOf bytes .slot ≡ p .slot) × (packetOf bytes .number ≡ p .number)
       × Same Block (packetOf bytes .blocks) (p .blocks) × Same Vote (packetOf bytes .votes) (p .votes)
 
 unfoldable pub Unforged : Network → List Event → Type 0

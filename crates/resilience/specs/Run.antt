@@ -7,6 +7,7 @@ use mathlib.Core.List.{List, [], _∷_, _++_}
 use lib.ListN.{take}
 use lib.Dec.{eqb, leb, ltb, T}
 use Rattle.protocol.specs.declared.Settings.{Settings}
+use Rattle.protocol.specs.declared.Width.the-variants.{Wide}
 use Rattle.protocol.specs.Lists.{all}
 use Rattle.protocol.specs.Store.{Places, Node}
 use Rattle.protocol.specs.Refusal.{refusalNumber, Reply, refused, done, Outcome}
@@ -114,7 +115,7 @@ abbrev pub afterProposal : Turn → Turn
 afterProposal ahead = ahead
 afterProposal (owes g p) = owes g false
 
--- "a sent packet is the bytes as Write left them, of the length it answered"
+-- "a sent packet is the bytes as Write left them, of the length it answered"; "in the run .. honest nodes write wide"
 abbrev pub sends : ℕ → ℕ → Written → List Event
 sends b i o = said b i (λ n. sent b i (take n (o .buffer)) ∷ []) (o .reply)
 
@@ -123,10 +124,10 @@ step N w Begin = record { beat = w .beat + 1; node = w .node; turn = λ i. ahead
 step N w (Due i number) = dueAt (w .beat % 3) N w i number
 step N w (Gossip i buffer) =
     after w i (w .node i) (afterGossip (w .turn i))
-    (sends (w .beat) i (write (settings N i) (N .places i) (w .node i) false buffer))
+    (sends (w .beat) i (write (settings N i) (N .places i) (w .node i) false Wide buffer))
 step N w (Proposal i buffer) =
     after w i (w .node i) (afterProposal (w .turn i))
-    (sends (w .beat) i (write (settings N i) (N .places i) (w .node i) true buffer))
+    (sends (w .beat) i (write (settings N i) (N .places i) (w .node i) true Wide buffer))
 step N w (Receive i bytes) =
     let o = receive (settings N i) (N .places i) (w .node i) (w .beat) bytes in
     after w i (o .node) (w .turn i) (said (w .beat) i (λ r. []) (o .reply) ++ (given (w .beat) i bytes (carried (o .reply)) ∷ []))
@@ -152,10 +153,10 @@ below p (suc m) = p m && below p m
 
 -- A beat begins when no honest node owes a packet. In a beat a node makes one call and then sends, its gossip and its proposal
 -- in either order. A Receive may come at any point, also before the first beat, inside a beat and at a sleeping node.
--- Block numbers have 64 bits, and bytes 8.
+-- Block numbers have 128 bits, and bytes 8.
 unfoldable pub allowed : Network → World → Step → Bool
 allowed N w Begin = below (λ i. not (N .honest i) || not (owesGossip (w .turn i) || owesProposal (w .turn i))) (N .nodes)
-allowed N w (Due i number) = isHonest N i && (leb 3 (w .beat) && (beforeCall (w .turn i) && ltb number (2 ^ 64)))
+allowed N w (Due i number) = isHonest N i && (leb 3 (w .beat) && (beforeCall (w .turn i) && ltb number (2 ^ 128)))
 allowed N w (Gossip i buffer) = isHonest N i && owesGossip (w .turn i)
 allowed N w (Proposal i buffer) = isHonest N i && owesProposal (w .turn i)
 allowed N w (Receive i bytes) = isHonest N i && all (λ b. ltb b 256) bytes

@@ -4,11 +4,11 @@ use Prim.Native.Nat.{ℕ, zero, suc, _+_, _*_, _≤_, _<_}
 use mathlib.Core.Bool.{Bool, true, false}
 use mathlib.Core.List.{List, [], _∷_, _++_}
 use mathlib.Core.Path.{_≡_, refl, ap, sym, _∙_}
-use native.Mathlib.Nat.{add-zero}
+use native.Mathlib.Nat.{mul-zero, mul-suc}
 use native.Mathlib.Numerals.{add-one}
 use native.Mathlib.Omega.{arith}
 use lib.ListN.{length, getD, take, drop, drop-of-length-le}
-use lib.Seq.{getD-drop, drop-drop, drop-cons, take-suc}
+use lib.Seq.{drop-drop, drop-cons, take-suc}
 use Rattle.protocol.specs.Lists.{any, all}
 use Rattle.protocol.specs.Lent.{Make, rowsOf}
 use Rattle.protocol.proofs.Lent.Rows.{length-rowsOf}
@@ -17,30 +17,20 @@ use Rattle.rows.specs.Rows.{rowAt}
 module _ {A : Type 0} (make : Make A) where
   -- ---- the rows
 
-  abbrev pub headRow : List ℕ → A
-  headRow ws = make (getD ws 0 0) (getD ws 1 0) (getD ws 2 0) (getD ws 3 0)
-
-  -- row i is the first row from there on
-  pub head-at : (ws : List ℕ) (i : ℕ) → headRow (drop (4 * i) ws) ≡ rowAt make ws i
-  head-at ws i =
-      rw (getD-drop (4 * i) ws 0 0, getD-drop (4 * i) ws 1 0, getD-drop (4 * i) ws 2 0, getD-drop (4 * i) ws 3 0, add-zero)
-
-  getD-head : (ws : List ℕ) (n i : ℕ) (d : A) → i < n → getD (rowsOf make ws n) i d ≡ headRow (drop (4 * i) ws)
-  unfolding rowsOf
-  getD-head ws zero i d h = absurd (omega arith)
-  getD-head ws (suc n) zero d h = refl
-  getD-head ws (suc n) (suc i) d h =
-      let e : 4 + 4 * i ≡ 4 * suc i = omega arith in
-      getD-head (drop 4 ws) n i d (omega arith) ∙ ap headRow (drop-drop (4 * i) 4 ws ∙ ap (λ (k : ℕ). drop k ws) e)
-
   pub getD-rowsOf : (ws : List ℕ) (n i : ℕ) (d : A) → i < n → getD (rowsOf make ws n) i d ≡ rowAt make ws i
-  getD-rowsOf ws n i d h = getD-head ws n i d h ∙ head-at ws i
+  unfolding rowsOf
+  getD-rowsOf ws zero i d h = absurd (omega arith)
+  getD-rowsOf ws (suc n) zero d h = ap (λ (k : ℕ). make .of (drop k ws)) (sym (mul-zero (make .words)))
+  getD-rowsOf ws (suc n) (suc i) d h =
+      let e : make .words + make .words * i ≡ make .words * suc i = omega (arith, mul-suc (make .words) i) in
+      getD-rowsOf (drop (make .words) ws) n i d (omega arith)
+      ∙ ap (make .of) (drop-drop (make .words * i) (make .words) ws ∙ ap (λ (k : ℕ). drop k ws) e)
 
   -- the rows from i on
   pub drop-rowsOf : (ws : List ℕ) (n i : ℕ) → i < n → drop i (rowsOf make ws n) ≡ rowAt make ws i ∷ drop (i + 1) (rowsOf make ws n)
   drop-rowsOf ws n i h =
       let l : i < length (rowsOf make ws n) = omega (arith, length-rowsOf make ws n) in
-      rw (add-one i) (drop-cons (rowsOf make ws n) i (headRow []) l ∙ rw (getD-rowsOf ws n i (headRow []) h))
+      rw (add-one i) (drop-cons (rowsOf make ws n) i (make .of []) l ∙ rw (getD-rowsOf ws n i (make .of []) h))
 
   -- the same where row i was read as a
   pub drop-read : (ws : List ℕ) (n i : ℕ) {a : A} → i < n → a ≡ rowAt make ws i → drop i (rowsOf make ws n) ≡ a ∷ drop (i + 1) (rowsOf make ws n)
@@ -55,14 +45,14 @@ module _ {A : Type 0} (make : Make A) where
   pub take-rowsOf : (ws : List ℕ) (n i : ℕ) → i < n → take (i + 1) (rowsOf make ws n) ≡ take i (rowsOf make ws n) ++ (rowAt make ws i ∷ [])
   take-rowsOf ws n i h =
       let l : i < length (rowsOf make ws n) = omega (arith, length-rowsOf make ws n) in
-      rw (add-one i) (take-suc (rowsOf make ws n) i (headRow []) l ∙ rw (getD-rowsOf ws n i (headRow []) h))
+      rw (add-one i) (take-suc (rowsOf make ws n) i (make .of []) l ∙ rw (getD-rowsOf ws n i (make .of []) h))
 
   -- fewer rows are a front of more
   pub rows-front : (ws : List ℕ) (n i : ℕ) → i ≤ n → take i (rowsOf make ws n) ≡ rowsOf make ws i
   unfolding rowsOf
   rows-front ws n zero h = refl
   rows-front ws zero (suc i) h = absurd (omega arith)
-  rows-front ws (suc n) (suc i) h = ap (λ (r : List A). headRow ws ∷ r) (rows-front (drop 4 ws) n i (omega arith))
+  rows-front ws (suc n) (suc i) h = ap (λ (r : List A). make .of ws ∷ r) (rows-front (drop (make .words) ws) n i (omega arith))
 
   -- one row more
   pub rows-more : (ws : List ℕ) (i : ℕ) → rowsOf make ws (i + 1) ≡ rowsOf make ws i ++ (rowAt make ws i ∷ [])

@@ -1,13 +1,14 @@
-// Tables of rows in lent words, four to a row: rows are read and written as structs.
+// Tables of rows in lent words, six to a row of blocks and five to one of votes: rows are read and written as structs.
 // A search takes as many steps as rows are used. No function keeps an array: the largest call takes less than 1 KB of stack.
 use protocol::Block;
+use protocol::Number;
 use protocol::Vote;
 ghost use mathlib.Core.Bool.{_||_};
 ghost use mathlib.Core.Path.{_≡_};
-ghost use Prim.Native.Nat.{_+_, _*_, _<_, _≤_};
-ghost use lib.ListN.{length, getD};
-ghost use Rattle.protocol.specs.Lent.{rowsOf, makeBlock, makeVote, blockRow, voteRow};
-ghost use Rattle.rows.specs.Rows.{rowAt, putRow, markedBlock, markedVote};
+ghost use Prim.Native.Nat.{_+_};
+ghost use Rattle.protocol.specs.Words.{value};
+ghost use Rattle.protocol.specs.Lent.{BlocksFit, VotesFit, blockWords, voteWords, rowsOf, makeBlock, makeVote, blockRow, voteRow};
+ghost use Rattle.rows.specs.Rows.{rowAt, cleanAt, putRow, markedBlock, markedVote};
 ghost use Rattle.rows.specs.Find.{placeOf};
 
 // A row of the table of blocks: a block, in view or waiting.
@@ -31,66 +32,86 @@ pub fn selects(whole: bool, shown: bool) -> bool
 
 // Row i of the blocks.
 pub fn block_at(blocks: &[u64], i: usize) -> BlockRow
-    requires { ⌜ 4 * i + 3 < length (now blocks) ⌝ }
+    requires { ⌜ BlocksFit (i + 1) (now blocks) ⌝ }
     ensures { λ r. ⌜ markedBlock r ≡ rowAt makeBlock (now (blocks .entry)) i ⌝ }
 {
-    let at = 4 * i;
+    let at = 6 * i;
     BlockRow {
         block: Block {
-            number: blocks[at],
-            parent: blocks[at + 1],
-            slot: blocks[at + 2],
+            number: Number {
+                lower: blocks[at],
+                upper: blocks[at + 1],
+            },
+            parent: Number {
+                lower: blocks[at + 2],
+                upper: blocks[at + 3],
+            },
+            slot: blocks[at + 4],
         },
-        shown: blocks[at + 3] == 1,
+        shown: blocks[at + 5] == 1,
     }
 }
 
 // Row i of the votes.
 pub fn vote_at(votes: &[u64], i: usize) -> VoteRow
-    requires { ⌜ 4 * i + 3 < length (now votes) ⌝ }
+    requires { ⌜ VotesFit (i + 1) (now votes) ⌝ }
     ensures { λ r. ⌜ markedVote r ≡ rowAt makeVote (now (votes .entry)) i ⌝ }
 {
-    let at = 4 * i;
+    let at = 5 * i;
     VoteRow {
         vote: Vote {
             voter: votes[at],
             slot: votes[at + 1],
-            number: votes[at + 2],
+            number: Number {
+                lower: votes[at + 2],
+                upper: votes[at + 3],
+            },
         },
-        shown: votes[at + 3] == 1,
+        shown: votes[at + 4] == 1,
     }
 }
 
-// The mark of row i, of either table.
-pub fn mark_at(words: &[u64], i: usize) -> u64
-    requires { ⌜ 4 * i + 3 < length (now words) ⌝ }
-    ensures { λ r. ⌜ r ≡ getD (now (words .entry)) (4 * i + 3) 0 ⌝ }
+// Whether the mark of row i of the blocks is 0 or 1.
+pub fn block_clean(blocks: &[u64], i: usize) -> bool
+    requires { ⌜ BlocksFit (i + 1) (now blocks) ⌝ }
+    ensures { λ r. ⌜ r ≡ cleanAt makeBlock (now (blocks .entry)) i ⌝ }
 {
-    words[4 * i + 3]
+    blocks[6 * i + 5] <= 1
+}
+
+// Whether the mark of row i of the votes is 0 or 1.
+pub fn vote_clean(votes: &[u64], i: usize) -> bool
+    requires { ⌜ VotesFit (i + 1) (now votes) ⌝ }
+    ensures { λ r. ⌜ r ≡ cleanAt makeVote (now (votes .entry)) i ⌝ }
+{
+    votes[5 * i + 4] <= 1
 }
 
 // Row i of the blocks becomes this one.
 pub fn put_block(blocks: &mut [u64], i: usize, row: BlockRow)
-    requires { ⌜ 4 * i + 3 < length (now blocks) ⌝ }
-    ensures { λ r. ⌜ now (blocks .exit) ≡ putRow (now (blocks .entry)) i (blockRow (markedBlock row)) ⌝ }
+    requires { ⌜ BlocksFit (i + 1) (now blocks) ⌝ }
+    ensures { λ r. ⌜ now (blocks .exit) ≡ putRow blockWords (now (blocks .entry)) i (blockRow (markedBlock row)) ⌝ }
 {
-    let at = 4 * i;
-    blocks[at] = row.block.number;
-    blocks[at + 1] = row.block.parent;
-    blocks[at + 2] = row.block.slot;
-    blocks[at + 3] = row.shown as u64;
+    let at = 6 * i;
+    blocks[at] = row.block.number.lower;
+    blocks[at + 1] = row.block.number.upper;
+    blocks[at + 2] = row.block.parent.lower;
+    blocks[at + 3] = row.block.parent.upper;
+    blocks[at + 4] = row.block.slot;
+    blocks[at + 5] = row.shown as u64;
 }
 
 // Row i of the votes becomes this one.
 pub fn put_vote(votes: &mut [u64], i: usize, row: VoteRow)
-    requires { ⌜ 4 * i + 3 < length (now votes) ⌝ }
-    ensures { λ r. ⌜ now (votes .exit) ≡ putRow (now (votes .entry)) i (voteRow (markedVote row)) ⌝ }
+    requires { ⌜ VotesFit (i + 1) (now votes) ⌝ }
+    ensures { λ r. ⌜ now (votes .exit) ≡ putRow voteWords (now (votes .entry)) i (voteRow (markedVote row)) ⌝ }
 {
-    let at = 4 * i;
+    let at = 5 * i;
     votes[at] = row.vote.voter;
     votes[at + 1] = row.vote.slot;
-    votes[at + 2] = row.vote.number;
-    votes[at + 3] = row.shown as u64;
+    votes[at + 2] = row.vote.number.lower;
+    votes[at + 3] = row.vote.number.upper;
+    votes[at + 4] = row.shown as u64;
 }
 
 // Where the first block with a number stands.
@@ -99,14 +120,14 @@ pub enum Place {
     Missing,
 }
 
-pub fn find_block(blocks: &[u64], used: usize, number: u64) -> Place
-    requires { ⌜ 4 * used ≤ length (now blocks) ⌝ }
-    ensures { λ r. ⌜ r ≡ placeOf (rowsOf makeBlock (now (blocks .entry)) used) number ⌝ }
+pub fn find_block(blocks: &[u64], used: usize, number: Number) -> Place
+    requires { ⌜ BlocksFit used (now blocks) ⌝ }
+    ensures { λ r. ⌜ r ≡ placeOf (rowsOf makeBlock (now (blocks .entry)) used) (value number) ⌝ }
 {
     let mut i: usize = 0;
     while i < used {
         let row = block_at(blocks, i);
-        if row.block.number == number {
+        if numbers::same(row.block.number, number) {
             return Place::At(i);
         }
         i += 1;

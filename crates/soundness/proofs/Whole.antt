@@ -9,7 +9,7 @@ use Rattle.protocol.specs.declared.Clock.{Clock}
 use Rattle.protocol.specs.Lists.{all}
 use Rattle.protocol.specs.Store.{Places}
 use Rattle.protocol.specs.Sound.{settingsSound, placesSound, clockSound, sound}
-use Rattle.protocol.specs.Lent.{Lent, rowsOf, makeBlock, makeVote, placesIn, placesOf, nodeOf, marksSound, lentSound}
+use Rattle.protocol.specs.Lent.{blockWords, voteWords, Lent, rowsOf, makeBlock, makeVote, placesIn, placesOf, nodeOf, marksSound, lentSound}
 use Rattle.protocol.proofs.Lent.Rows.{length-rowsOf}
 use Rattle.ranges.specs.Rows.{blockInRange, voteInRange}
 use Rattle.index.specs.Places.{numbersDiffer, votesDiffer}
@@ -21,27 +21,27 @@ module _ (s : Settings) (clock : Clock) (bw : List ℕ) (bu : ℕ) (vw : List �
   lent = record { blocks = bw; votes = vw; blocksUsed = bu; votesUsed = vu; clock = clock }
 
   abbrev places : Places
-  places = record { blocks = placesIn bw; votes = placesIn vw }
+  places = record { blocks = placesIn blockWords bw; votes = placesIn voteWords vw }
 
   abbrev blockRanges : Bool
-  blockRanges = marksSound bw bu && all (blockInRange (clock .seen / 3)) (rowsOf makeBlock bw bu)
+  blockRanges = marksSound makeBlock bw bu && all (blockInRange (clock .seen / 3)) (rowsOf makeBlock bw bu)
 
   abbrev voteRanges : Bool
-  voteRanges = marksSound vw vu && all (voteInRange (s .nodes) (clock .seen / 3)) (rowsOf makeVote vw vu)
+  voteRanges = marksSound makeVote vw vu && all (voteInRange (s .nodes) (clock .seen / 3)) (rowsOf makeVote vw vu)
 
   abbrev tables : Bool
   tables = tablesSound (rowsOf makeBlock bw bu) (rowsOf makeVote vw vu)
 
   whole : lentSound s lent
       ≡ (settingsSound s
-      && (placesSound places && (leb bu (placesIn bw) && (leb vu (placesIn vw) && (clockSound clock && (blockRanges && (voteRanges && tables)))))))
+      && (placesSound places && (leb bu (placesIn blockWords bw) && (leb vu (placesIn voteWords vw) && (clockSound clock && (blockRanges && (voteRanges && tables)))))))
   unfolding lentSound sound placesOf nodeOf tablesSound
   whole =
       let bs = rowsOf makeBlock bw bu in
       let vs = rowsOf makeVote vw vu in
       let slot = clock .seen / 3 in
       rw (length-rowsOf makeBlock bw bu, length-rowsOf makeVote vw vu, blocks-split slot bs, votes-split (s .nodes) slot bs vs)
-      (order (marksSound bw bu) (marksSound vw vu) (settingsSound s) (placesSound places) (leb bu (placesIn bw)) (leb vu (placesIn vw)) (clockSound clock)
+      (order (marksSound makeBlock bw bu) (marksSound makeVote vw vu) (settingsSound s) (placesSound places) (leb bu (placesIn blockWords bw)) (leb vu (placesIn voteWords vw)) (clockSound clock)
       (all (blockInRange slot) bs) (numbersDiffer bs) (chainSound bs) (all (voteInRange (s .nodes) slot) vs) (all (votedSound bs) vs && votesDiffer vs))
     where
       inner : (r d k v w : Bool) → ((r && (d && k)) && (v && w)) ≡ (r && (v && (d && (k && w))))
@@ -63,10 +63,10 @@ module _ (s : Settings) (clock : Clock) (bw : List ℕ) (bu : ℕ) (vw : List �
   pub no-places : placesSound places ≡ false → false ≡ lentSound s lent
   no-places e = sym (whole ∙ simp (e, and-false))
 
-  pub no-blocks-fit : leb bu (placesIn bw) ≡ false → false ≡ lentSound s lent
+  pub no-blocks-fit : leb bu (placesIn blockWords bw) ≡ false → false ≡ lentSound s lent
   no-blocks-fit e = sym (whole ∙ simp (e, and-false))
 
-  pub no-votes-fit : leb vu (placesIn vw) ≡ false → false ≡ lentSound s lent
+  pub no-votes-fit : leb vu (placesIn voteWords vw) ≡ false → false ≡ lentSound s lent
   no-votes-fit e = sym (whole ∙ simp (e, and-false))
 
   pub no-clock : clockSound clock ≡ false → false ≡ lentSound s lent
@@ -79,6 +79,6 @@ module _ (s : Settings) (clock : Clock) (bw : List ℕ) (bu : ℕ) (vw : List �
   no-vote-ranges e = sym (whole ∙ simp (e, and-false))
 
   -- all others pass: what looks at several rows decides
-  pub tables-left : settingsSound s ≡ true → placesSound places ≡ true → leb bu (placesIn bw) ≡ true → leb vu (placesIn vw) ≡ true
+  pub tables-left : settingsSound s ≡ true → placesSound places ≡ true → leb bu (placesIn blockWords bw) ≡ true → leb vu (placesIn voteWords vw) ≡ true
       → clockSound clock ≡ true → blockRanges ≡ true → voteRanges ≡ true → tables ≡ lentSound s lent
   tables-left a b c d e f g = sym (whole ∙ rw (a, b, c, d, e, f, g))

@@ -1,16 +1,14 @@
 -- The rules of sound tables that look at several rows, each by itself, as code tests them. Assumes nothing.
-use Prim.Native.Nat.{ℕ, _*_, _≤_}
+use Prim.Native.Nat.{ℕ}
 use mathlib.Core.Bool.{Bool, true, false, not, _&&_, _||_}
 use mathlib.Core.List.{List, [], _∷_, _++_}
 use mathlib.Core.Path.{_≡_}
 use lib.Dec.{leb, ltb}
-use lib.ListN.{length}
-use Rattle.protocol.specs.declared.Block.{Block}
-use Rattle.protocol.specs.declared.Vote.{Vote}
+use Rattle.protocol.specs.Entry.{Block, Vote}
 use Rattle.protocol.specs.Lists.{all}
 use Rattle.protocol.specs.Chain.{genesis, find, foundWith, known}
 use Rattle.protocol.specs.Store.{Marked, entries, inView, sameBlock}
-use Rattle.protocol.specs.Lent.{rowsOf, makeBlock, makeVote}
+use Rattle.protocol.specs.Lent.{BlocksFit, rowsOf, makeBlock, makeVote}
 use Rattle.index.specs.Places.{numbersDiffer, votesDiffer, BlockIndex, VoteIndex}
 
 -- the parent of m stands among the earlier blocks with a lower slot, in view if m is
@@ -39,7 +37,7 @@ tablesSound bs vs = numbersDiffer bs && (chainSound bs && (all (votedSound bs) v
 
 -- the links are an index of the first n blocks, whose numbers differ
 pub record Indexed (ws : List ℕ) (n : ℕ) (ls : List ℕ) : Type 0 where
-  pub fit : 4 * n ≤ length ws
+  pub fit : BlocksFit n ws
   pub index : BlockIndex ws n ls
   pub differ : numbersDiffer (rowsOf makeBlock ws n) ≡ true
 

@@ -7,27 +7,28 @@
 // the largest tables, and never more than in proportion to the entries.
 // Stack: 32 KiB for the links of 2,048 blocks and 80 KiB for those of 8,192 votes.
 use protocol::Clock;
+use protocol::Number;
 use protocol::Settings;
 use rows::BlockRow;
 use rows::Place;
 use rows::VoteRow;
 ghost use mathlib.Core.Bool.{true, _&&_};
 ghost use mathlib.Core.Path.{_≡_};
-ghost use Prim.Native.Nat.{_*_, _≤_};
-ghost use lib.ListN.{length};
+ghost use Prim.Native.Nat.{_≤_};
+ghost use Rattle.protocol.specs.Words.{value, blockOf};
 ghost use Rattle.protocol.specs.Lists.{all};
 ghost use Rattle.protocol.specs.Chain.{genesis, known};
 ghost use Rattle.protocol.specs.Store.{entries, sameBlock};
-ghost use Rattle.protocol.specs.Lent.{rowsOf, makeBlock, makeVote, lentSound};
+ghost use Rattle.protocol.specs.Lent.{BlocksFit, VotesFit, rowsOf, makeBlock, makeVote, lentSound};
 ghost use Rattle.rows.specs.Rows.{markedBlock, markedVote};
 ghost use Rattle.search_tree.specs.Tree.{Blank};
 ghost use Rattle.index.specs.Index.{Room};
 ghost use Rattle.soundness.specs.Parts.{parentSound, chainSound, votedSound, tablesSound, Indexed, TablesIndexed};
 
 // Whether the number is a block's. The cost is one step for each block before it.
-pub fn known_block(blocks: &[u64], used: usize, number: u64) -> bool
-    requires { ⌜ 4 * used ≤ length (now blocks) ⌝ }
-    ensures { λ r. ⌜ r ≡ known (entries (rowsOf makeBlock (now (blocks .entry)) used)) number ⌝ }
+pub fn known_block(blocks: &[u64], used: usize, number: Number) -> bool
+    requires { ⌜ BlocksFit used (now blocks) ⌝ }
+    ensures { λ r. ⌜ r ≡ known (entries (rowsOf makeBlock (now (blocks .entry)) used)) (value number) ⌝ }
 {
     let place = rows::find_block(blocks, used, number);
     match place {
@@ -38,10 +39,10 @@ pub fn known_block(blocks: &[u64], used: usize, number: u64) -> bool
 
 // Whether a row is block 0, in view.
 fn first_sound(row: BlockRow) -> bool
-    ensures { λ r. ⌜ r ≡ (sameBlock (row .block) genesis && row .shown) ⌝ }
+    ensures { λ r. ⌜ r ≡ (sameBlock (blockOf (row .block)) genesis && row .shown) ⌝ }
 {
-    if row.block.number == 0 {
-        if row.block.parent == 0 {
+    if numbers::is_zero(row.block.number) {
+        if numbers::is_zero(row.block.parent) {
             if row.block.slot == 0 {
                 return row.shown;
             }
@@ -122,7 +123,7 @@ fn all_voted_sound(
     votes: &[u64],
     votes_used: usize,
 ) -> bool
-    requires { ⌜ (4 * «votes_used» ≤ length (now votes)) × Indexed (now blocks) «blocks_used» (now links) ⌝ }
+    requires { ⌜ VotesFit «votes_used» (now votes) × Indexed (now blocks) «blocks_used» (now links) ⌝ }
     ensures { λ r. ⌜ r ≡ all (votedSound (rowsOf makeBlock (now (blocks .entry)) «blocks_used»)) (rowsOf makeVote (now (votes .entry)) «votes_used») ⌝ }
 {
     let mut i: usize = 0;
@@ -146,7 +147,7 @@ fn tables_sound(
     block_links: &mut [u16],
     vote_links: &mut [u16],
 ) -> bool
-    requires { ⌜ (4 * «blocks_used» ≤ length (now blocks)) × (4 * «votes_used» ≤ length (now votes))
+    requires { ⌜ BlocksFit «blocks_used» (now blocks) × VotesFit «votes_used» (now votes)
         × Room «blocks_used» (now «block_links») × Blank (now «block_links») × Room «votes_used» (now «vote_links») × Blank (now «vote_links») ⌝ }
     ensures { λ r. ⌜ (r ≡ tablesSound (rowsOf makeBlock (now (blocks .entry)) «blocks_used») (rowsOf makeVote (now (votes .entry)) «votes_used»))
         × (r ≡ true → TablesIndexed (now (blocks .entry)) «blocks_used» (now («block_links» .exit)) (now (votes .entry)) «votes_used» (now («vote_links» .exit))) ⌝ }
@@ -189,10 +190,10 @@ pub fn sound_indexed(
     if !ranges::places_sound(blocks, votes) {
         return false;
     }
-    if !ranges::fits(blocks, blocks_used) {
+    if !ranges::fits(6, blocks, blocks_used) {
         return false;
     }
-    if !ranges::fits(votes, votes_used) {
+    if !ranges::fits(5, votes, votes_used) {
         return false;
     }
     if !ranges::clock_sound(clock) {

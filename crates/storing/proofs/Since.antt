@@ -5,7 +5,7 @@ use mathlib.Core.Bool.{true, false, not, or-true}
 use mathlib.Core.List.{List}
 use mathlib.Core.Path.{_≡_, refl, _∙_}
 use borrow.Author.Tests.{not-true, not-false}
-use Rattle.protocol.specs.declared.Vote.{Vote}
+use Rattle.protocol.specs.Entry.{Vote}
 use Rattle.protocol.specs.Store.{since}
 use Rattle.protocol.specs.Calls.Receive.{addVotes, addSince}
 use Rattle.protocol.proofs.Store.New.{knowsVote}

@@ -4,6 +4,7 @@ use Prim.Native.Nat.{ℕ, _+_, _*_, _≤_, _<_}
 use mathlib.Core.Bool.{Bool, true, false}
 use mathlib.Core.List.{List, [], _∷_, _++_}
 use mathlib.Core.Path.{_≡_, refl, ap, sym, _∙_}
+use native.Mathlib.Nat.{mul-le-mul-left}
 use native.Mathlib.Omega.{arith}
 use lib.ListN.{length, getD, take, length-append}
 use lib.Seq.{take-all}
@@ -31,16 +32,18 @@ module _ {A : Type 0} (has : List A → A → Bool) (add : List A → List A →
   Table rs ws u = Holds (Marked A) row rs ws₀ ws u
 
   -- places for what will be there are places for what is
-  pub room-now : 4 * length (add old xs) ≤ length ws₀ → 4 * u₀ ≤ length ws₀
-  room-now h = omega (arith, h, length-grows has add is old xs, length-entries (rowsOf make ws₀ u₀) ∙ length-rowsOf make ws₀ u₀)
+  pub room-now : make .words * length (add old xs) ≤ length ws₀ → make .words * u₀ ≤ length ws₀
+  room-now h =
+      let l : u₀ ≤ length (add old xs) = omega (arith, length-grows has add is old xs, length-entries (rowsOf make ws₀ u₀) ∙ length-rowsOf make ws₀ u₀) in
+      omega (arith, h, mul-le-mul-left (make .words) l)
 
-  pub add-begin : 4 * length (add old xs) ≤ length ws₀ → marksSound ws₀ u₀ ≡ true → Table (after 0) ws₀ u₀
+  pub add-begin : make .words * length (add old xs) ≤ length ws₀ → marksSound make ws₀ u₀ ≡ true → Table (after 0) ws₀ u₀
   add-begin h k =
       rw (grown-none has add is (rowsOf make ws₀ u₀)) (record { words = sym (stored-same codec ws₀ u₀ k (room-now h)); used = sym (length-rowsOf make ws₀ u₀) })
 
   module _ (i : ℕ) {ws : List ℕ} {u : ℕ} (p : Table (after i) ws u) where
-    pub add-marks : marksSound ws u ≡ true
-    add-marks = ap (λ (w : List ℕ). marksSound w u) (p .words) ∙ marks-stored codec (after i) ws₀ u (sym (p .used))
+    pub add-marks : marksSound make ws u ≡ true
+    add-marks = ap (λ (w : List ℕ). marksSound make w u) (p .words) ∙ marks-stored codec (after i) ws₀ u (sym (p .used))
 
     pub add-end : length xs ≤ i → Table (grown add (rowsOf make ws₀ u₀) xs) ws u
     add-end h = rw (take-all i xs h) at p
@@ -65,8 +68,11 @@ module _ {A : Type 0} (has : List A → A → Bool) (add : List A → List A →
         next-used = ap length next-new ∙ length-append (after i) (waiting (getD xs i d) ∷ []) ∙ ap (λ (n : ℕ). n + 1) (sym (p .used))
 
         -- where there is room for all
-        pub turn-room : 4 * length (add old xs) ≤ length ws₀ → length ws ≡ length ws₀ → 4 * (u + 1) ≤ length ws
-        turn-room l m = omega (arith, l, m, next-used, length-grown has add is (rowsOf make ws₀ u₀) (take (i + 1) xs), length-front has add is old xs (i + 1))
+        pub turn-room : make .words * length (add old xs) ≤ length ws₀ → length ws ≡ length ws₀ → make .words * (u + 1) ≤ length ws
+        turn-room l m =
+            let n : u + 1 ≤ length (add old xs)
+            = omega (arith, next-used, length-grown has add is (rowsOf make ws₀ u₀) (take (i + 1) xs), length-front has add is old xs (i + 1)) in
+            omega (arith, l, m, mul-le-mul-left (make .words) n)
 
         pub turn-new : {a : A} {ws′ : List ℕ} {u′ : ℕ} → a ≡ getD xs i d → ws′ ≡ stored row (rowsOf make ws u ++ (waiting a ∷ [])) ws → u′ ≡ u + 1
             → Table (after (i + 1)) ws′ u′

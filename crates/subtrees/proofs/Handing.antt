@@ -9,6 +9,7 @@ use lib.Dec.{eqb, ltb}
 use lib.ListN.{length, getD, set, replicate, getD-replicate}
 use lib.Seq.{getD-set-same, getD-set-other}
 use borrow.Author.Tests.{eqb-true, eqb-false, lt-ltb, le-ltb}
+use Rattle.numbers.specs.Kept.{numberIn}
 use Rattle.masks.specs.Masks.{bitOf, maskOf, added}
 use Rattle.masks.proofs.Masks.{mask-none, mask-ext, bit-mask, or-mask, below-more}
 use Rattle.subtrees.specs.Places.{placeIn, parentPlace}
@@ -20,7 +21,7 @@ use Rattle.subtrees.proofs.Up.{up-low, up-step}
 
 -- voter v has a vote, for the block at row j
 abbrev votesAt : List ℕ → ℕ → List ℕ → List ℕ → ℕ → ℕ → Bool
-votesAt ws n slots numbers j v = voted slots v && eqb (placeIn ws n (getD numbers v 0)) j
+votesAt ws n slots numbers j v = voted slots v && eqb (placeIn ws n (numberIn numbers v)) j
 
 -- a word set at the place found
 pub set-word : (masks : List ℕ) (p q r v : ℕ) → p ≡ q → r ≡ maskOf 64 (added (bitOf (getD masks p 0)) v)
@@ -63,20 +64,20 @@ module _ (ws : List ℕ) (n : ℕ) (slots numbers : List ℕ) where
       (λ v q. sym (more j k v ∙ rw (e, and-false (eqb v k), or-false (ltb v k && votesAt ws n slots numbers j v))))
 
   pub placed-more : (k : ℕ) {masks next : List ℕ} → VotersPlaced ws n slots numbers k masks
-      → next ≡ cond (voted slots k) (set masks (placeIn ws n (getD numbers k 0)) (maskOf 64 (added (bitOf (getD masks (placeIn ws n (getD numbers k 0)) 0)) k))) masks
+      → next ≡ cond (voted slots k) (set masks (placeIn ws n (numberIn numbers k)) (maskOf 64 (added (bitOf (getD masks (placeIn ws n (numberIn numbers k)) 0)) k))) masks
       → 0 < n → n ≤ length masks → VotersPlaced ws n slots numbers (k + 1) next
-  placed-more k {masks} {next} P e z m = record { each = λ j l. ap (λ (s : List ℕ). getD s j 0) e ∙ go j l (voted slots k) refl (eqb (placeIn ws n (getD numbers k 0)) j) refl }
+  placed-more k {masks} {next} P e z m = record { each = λ j l. ap (λ (s : List ℕ). getD s j 0) e ∙ go j l (voted slots k) refl (eqb (placeIn ws n (numberIn numbers k)) j) refl }
     where
-      go : (j : ℕ) → j < n → (b : Bool) → voted slots k ≡ b → (c : Bool) → eqb (placeIn ws n (getD numbers k 0)) j ≡ c
-          → getD (cond b (set masks (placeIn ws n (getD numbers k 0)) (maskOf 64 (added (bitOf (getD masks (placeIn ws n (getD numbers k 0)) 0)) k))) masks) j 0
+      go : (j : ℕ) → j < n → (b : Bool) → voted slots k ≡ b → (c : Bool) → eqb (placeIn ws n (numberIn numbers k)) j ≡ c
+          → getD (cond b (set masks (placeIn ws n (numberIn numbers k)) (maskOf 64 (added (bitOf (getD masks (placeIn ws n (numberIn numbers k)) 0)) k))) masks) j 0
           ≡ maskOf 64 (λ v. ltb v (k + 1) && votesAt ws n slots numbers j v)
-      go j l false p c q = kept j k masks (ap (λ (b : Bool). b && eqb (placeIn ws n (getD numbers k 0)) j) p) (P .each j l)
+      go j l false p c q = kept j k masks (ap (λ (b : Bool). b && eqb (placeIn ws n (numberIn numbers k)) j) p) (P .each j l)
       go j l true p false q =
-          let ne : j ≡ placeIn ws n (getD numbers k 0) → ⊥ = λ o. eqb-false (placeIn ws n (getD numbers k 0)) j q (sym o) in
-          getD-set-other masks (placeIn ws n (getD numbers k 0)) j _ 0 ne
+          let ne : j ≡ placeIn ws n (numberIn numbers k) → ⊥ = λ o. eqb-false (placeIn ws n (numberIn numbers k)) j q (sym o) in
+          getD-set-other masks (placeIn ws n (numberIn numbers k)) j _ 0 ne
           ∙ kept j k masks (ap₂ (λ (b c : Bool). b && c) p q) (P .each j l)
       go j l true p true q =
-          let o : placeIn ws n (getD numbers k 0) ≡ j = eqb-true (placeIn ws n (getD numbers k 0)) j q in
+          let o : placeIn ws n (numberIn numbers k) ≡ j = eqb-true (placeIn ws n (numberIn numbers k)) j q in
           rw o (getD-set-same masks j (maskOf 64 (added (bitOf (getD masks j 0)) k)) 0 (omega arith)
           ∙ mask-ext 64 (added (bitOf (getD masks j 0)) k) (λ v. ltb v (k + 1) && votesAt ws n slots numbers j v)
           (λ v r. ap (λ (b : Bool). b || eqb v k) (ap (λ (x : ℕ). bitOf x v) (P .each j l) ∙ bit-mask 64 (λ u. ltb u k && votesAt ws n slots numbers j u) v r)
@@ -90,7 +91,7 @@ module _ (ws : List ℕ) (n : ℕ) (slots numbers : List ℕ) where
           P .each j l
           ∙ mask-ext 64 (λ v. ltb v k && votesAt ws n slots numbers j v) (λ v. reaches ws n slots numbers n j v)
           (λ v q. rw (lt-ltb v k (omega arith))
-          (ap (λ (b : Bool). voted slots v && b) (sym (up-low (λ y. parentPlace ws y) (parent-lt ws) n n j (placeIn ws n (getD numbers v 0)) (place-lt ws n (getD numbers v 0) (omega arith))))))
+          (ap (λ (b : Bool). voted slots v && b) (sym (up-low (λ y. parentPlace ws y) (parent-lt ws) n n j (placeIn ws n (numberIn numbers v)) (place-lt ws n (numberIn numbers v) (omega arith))))))
 
   -- ---- handed on
 
@@ -102,8 +103,8 @@ module _ (ws : List ℕ) (n : ℕ) (slots numbers : List ℕ) where
   handed : (i j v : ℕ) → 0 < i → 0 < n
       → reaches ws n slots numbers i j v ≡ (reaches ws n slots numbers (i + 1) j v || (eqb (parentPlace ws i) j && reaches ws n slots numbers (i + 1) i v))
   handed i j v p z =
-      let x = placeIn ws n (getD numbers v 0) in
-      let l : x ≤ n = omega (arith, place-lt ws n (getD numbers v 0) z) in
+      let x = placeIn ws n (numberIn numbers v) in
+      let l : x ≤ n = omega (arith, place-lt ws n (numberIn numbers v) z) in
       ap (λ (b : Bool). voted slots v && b) (up-step (λ y. parentPlace ws y) (parent-lt ws) n i j x p l)
       ∙ spread (voted slots v) (upTo (λ y. parentPlace ws y) n (i + 1) j x) (eqb (parentPlace ws i) j) (upTo (λ y. parentPlace ws y) n (i + 1) i x)
 

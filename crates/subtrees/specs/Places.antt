@@ -3,7 +3,7 @@ use Prim.Native.Nat.{ℕ, _-_}
 use mathlib.Core.Bool.{Bool, true}
 use mathlib.Core.List.{List}
 use mathlib.Core.Path.{_≡_}
-use Rattle.protocol.specs.declared.Block.{Block}
+use Rattle.protocol.specs.Entry.{Block}
 use Rattle.protocol.specs.Lent.{rowsOf, makeBlock}
 use Rattle.protocol.specs.Sound.{blocksSound}
 use Rattle.rows.specs.Rows.{rowAt}

@@ -5,6 +5,7 @@ use mathlib.Core.List.{List}
 use mathlib.Core.Path.{_≡_}
 use lib.Dec.{eqb, leb}
 use lib.ListN.{getD}
+use Rattle.numbers.specs.Kept.{numberIn}
 use Rattle.masks.specs.Masks.{maskOf}
 use Rattle.subtrees.specs.Places.{placeIn, parentPlace}
 
@@ -19,7 +20,7 @@ voted slots v = not (eqb (getD slots v 0) 0)
 
 -- voter v is at row j, once the rows from i on have handed on their voters
 abbrev pub reaches : List ℕ → ℕ → List ℕ → List ℕ → ℕ → ℕ → ℕ → Bool
-reaches ws n slots numbers i j v = voted slots v && upTo (λ y. parentPlace ws y) n i j (placeIn ws n (getD numbers v 0))
+reaches ws n slots numbers i j v = voted slots v && upTo (λ y. parentPlace ws y) n i j (placeIn ws n (numberIn numbers v))
 
 -- the words hold just these voters
 pub record Subtrees (ws : List ℕ) (n : ℕ) (slots numbers : List ℕ) (i : ℕ) (masks : List ℕ) : Type 0 where

@@ -1,9 +1,13 @@
 // The voters of each block and of all blocks above it, as words by places; and the place of each block's parent.
+use protocol::Number;
 ghost use mathlib.Core.Bool.{cond};
 ghost use mathlib.Core.Path.{_≡_};
-ghost use Prim.Native.Nat.{_*_, _<_, _≤_};
+ghost use Prim.Native.Nat.{_<_, _≤_};
 ghost use lib.Bits.{bitOr};
 ghost use lib.ListN.{length, getD, set, replicate};
+ghost use Rattle.protocol.specs.Words.{value};
+ghost use Rattle.protocol.specs.Lent.{BlocksFit};
+ghost use Rattle.numbers.specs.Kept.{NumbersFit, numberIn};
 ghost use Rattle.masks.specs.Masks.{maskOf, bitOf, added};
 ghost use Rattle.search_tree.specs.Tree.{Blank};
 ghost use Rattle.index.specs.Index.{Room};
@@ -12,9 +16,9 @@ ghost use Rattle.subtrees.specs.Places.{placeIn, Parents};
 ghost use Rattle.subtrees.specs.Subtrees.{voted, Subtrees};
 
 // The place of block x among the first n rows; place 0 if none has that number. The cost is a descent.
-fn place_in(blocks: &[u64], n: usize, links: &[u16], x: u64) -> usize
-    requires { ⌜ (4 * n ≤ length (now blocks)) × BlockIndex (now blocks) n (now links) ⌝ }
-    ensures { λ r. ⌜ r ≡ placeIn (now (blocks .entry)) n x ⌝ }
+fn place_in(blocks: &[u64], n: usize, links: &[u16], x: Number) -> usize
+    requires { ⌜ BlocksFit n (now blocks) × BlockIndex (now blocks) n (now links) ⌝ }
+    ensures { λ r. ⌜ r ≡ placeIn (now (blocks .entry)) n (value x) ⌝ }
 {
     let place = index::place(blocks, n, links, x);
     if place == 0 {
@@ -25,7 +29,7 @@ fn place_in(blocks: &[u64], n: usize, links: &[u16], x: u64) -> usize
 
 // The place of each row's parent, each looked up once among the rows before it; and the index of all rows. The cost is two descents for each row.
 fn parent_places(blocks: &[u64], used: usize, links: &mut [u16], parents: &mut [u16])
-    requires { ⌜ (4 * used ≤ length (now blocks)) × (used ≤ 2048) × Room used (now links) × Blank (now links) × (length (now parents) ≡ 2048) ⌝ }
+    requires { ⌜ BlocksFit used (now blocks) × (used ≤ 2048) × Room used (now links) × Blank (now links) × (length (now parents) ≡ 2048) ⌝ }
     ensures { λ r. ⌜ BlockIndex (now (blocks .entry)) used (now (links .exit)) × Parents (now (blocks .entry)) used (now (parents .exit)) ⌝ }
 {
     let mut i: usize = 0;
@@ -48,15 +52,16 @@ fn place_voter(
     v: usize,
     masks: &mut [u64],
 )
-    requires { ⌜ (4 * used ≤ length (now blocks)) × BlockIndex (now blocks) used (now links) × (0 < used) × (used ≤ length (now masks))
-        × (length (now slots) ≡ 64) × (length (now numbers) ≡ 64) × (v < 64) ⌝ }
+    requires { ⌜ BlocksFit used (now blocks) × BlockIndex (now blocks) used (now links) × (0 < used) × (used ≤ length (now masks))
+        × (length (now slots) ≡ 64) × NumbersFit 64 (now numbers) × (v < 64) ⌝ }
     ensures { λ r. ⌜ now (masks .exit) ≡ cond (voted (now (slots .entry)) v)
-        (set (now (masks .entry)) (placeIn (now (blocks .entry)) used (getD (now (numbers .entry)) v 0))
-        (maskOf 64 (added (bitOf (getD (now (masks .entry)) (placeIn (now (blocks .entry)) used (getD (now (numbers .entry)) v 0)) 0)) v)))
+        (set (now (masks .entry)) (placeIn (now (blocks .entry)) used (numberIn (now (numbers .entry)) v))
+        (maskOf 64 (added (bitOf (getD (now (masks .entry)) (placeIn (now (blocks .entry)) used (numberIn (now (numbers .entry)) v)) 0)) v)))
         (now (masks .entry)) ⌝ }
 {
     if slots[v] != 0 {
-        let p = place_in(blocks, used, links, numbers[v]);
+        let number = numbers::kept_at(numbers, v);
+        let p = place_in(blocks, used, links, number);
         masks[p] = masks::with(masks[p], v as u64);
     }
 }
@@ -70,8 +75,8 @@ fn place_voters(
     numbers: &[u64],
     masks: &mut [u64],
 )
-    requires { ⌜ (4 * used ≤ length (now blocks)) × BlockIndex (now blocks) used (now links) × (0 < used) × (used ≤ 2048)
-        × (length (now slots) ≡ 64) × (length (now numbers) ≡ 64) × (now masks ≡ replicate 2048 0) ⌝ }
+    requires { ⌜ BlocksFit used (now blocks) × BlockIndex (now blocks) used (now links) × (0 < used) × (used ≤ 2048)
+        × (length (now slots) ≡ 64) × NumbersFit 64 (now numbers) × (now masks ≡ replicate 2048 0) ⌝ }
     ensures { λ r. ⌜ Subtrees (now (blocks .entry)) used (now (slots .entry)) (now (numbers .entry)) used (now (masks .exit)) ⌝ }
 {
     let mut v: usize = 0;
@@ -101,7 +106,7 @@ pub fn supporters(
     parents: &mut [u16],
     masks: &mut [u64],
 )
-    requires { ⌜ (4 * used ≤ length (now blocks)) × (0 < used) × (used ≤ 2048) × (length (now slots) ≡ 64) × (length (now numbers) ≡ 64)
+    requires { ⌜ BlocksFit used (now blocks) × (0 < used) × (used ≤ 2048) × (length (now slots) ≡ 64) × NumbersFit 64 (now numbers)
         × (length (now parents) ≡ 2048) × (now masks ≡ replicate 2048 0) ⌝ }
     ensures { λ r. ⌜ Parents (now (blocks .entry)) used (now (parents .exit))
         × Subtrees (now (blocks .entry)) used (now (slots .entry)) (now (numbers .entry)) 1 (now (masks .exit)) ⌝ }

@@ -4,7 +4,9 @@ use answers::Reply;
 use answers::Taken;
 use answers::Written;
 use protocol::Clock;
+use protocol::Number;
 use protocol::Settings;
+use protocol::Width;
 ghost use Prim.Native.Nat.{_+_, _≤_};
 ghost use Rattle.io.specs.Counts.{Counts};
 
@@ -39,7 +41,7 @@ fn counted(count: usize, before: bool, here: bool) -> usize {
 }
 
 // Puts the numbers of a line into words that are zero, and answers how many there are.
-pub fn numbers(line: &[u8], words: &mut [u64]) -> usize {
+pub fn read_numbers(line: &[u8], words: &mut [u64]) -> usize {
     let mut count = 0;
     let mut before = false;
     let mut i = 0;
@@ -122,6 +124,22 @@ pub fn clock(words: &[u64]) -> Clock {
     }
 }
 
+// A block's number in a call: 1000 stands for 2^64.
+pub fn block_number(n: u64) -> Number {
+    Number {
+        lower: n % 1000,
+        upper: n / 1000,
+    }
+}
+
+// What Write is told: 1 for wide.
+pub fn width(n: u64) -> Width {
+    if n == 1 {
+        return Width::Wide;
+    }
+    Width::Narrow
+}
+
 // ---- tables
 
 pub fn copy(from: &[u64], to: &mut [u64]) {
@@ -188,53 +206,70 @@ fn put(bytes: &mut [u8], at: usize, x: u64) {
     }
 }
 
-// How many bytes number i of a line takes in its packet. Number 0 is the beat, 1 to 3 are the header, 4 is the count of blocks, which follow,
-// and `votes` is where the count of votes stands, which follow.
-fn width(i: usize, votes: usize) -> usize
-    ensures { λ r. ⌜ r ≤ 8 ⌝ }
+// A field of so many bytes. One of 8 or more is a block's number, whose upper half stands behind the lower one if it has 16.
+fn put_field(bytes: &mut [u8], at: usize, size: usize, x: u64)
+    requires { ⌜ at ≤ 1000 ⌝ }
+{
+    if size < 8 {
+        put(bytes, at, x);
+        return;
+    }
+    let n = block_number(x);
+    put(bytes, at, n.lower);
+    if size == 16 {
+        put(bytes, at + 8, n.upper);
+    }
+}
+
+// How many bytes number i of a line takes in its packet, where a block's number takes `wide`. Number 0 is the beat, 1 to 3 are the header, 4 is
+// the count of blocks, which follow, and `votes` is where the count of votes stands, which follow.
+fn bytes_of(i: usize, votes: usize, wide: usize) -> usize
+    requires { ⌜ wide ≤ 16 ⌝ }
+    ensures { λ r. ⌜ r ≤ 16 ⌝ }
 {
     if i == 4 || i == votes {
         return 2;
     }
     if 4 < i && i < votes {
-        return block_width(i % 3);
+        return block_bytes(i % 3, wide);
     }
     if i < 4 {
-        return vote_width((i + 2) % 3);
+        return vote_bytes((i + 2) % 3, wide);
     }
-    vote_width(i % 3)
+    vote_bytes(i % 3, wide)
 }
 
 // Of a block: slot, number, parent.
-fn block_width(third: usize) -> usize
-    ensures { λ r. ⌜ r ≤ 8 ⌝ }
+fn block_bytes(third: usize, wide: usize) -> usize
+    requires { ⌜ wide ≤ 16 ⌝ }
+    ensures { λ r. ⌜ r ≤ 16 ⌝ }
 {
     if third == 1 {
         return 4;
     }
-    8
+    wide
 }
 
 // Of a vote: voter, slot, number. The header's kind, slot and number take the same.
-fn vote_width(third: usize) -> usize
-    ensures { λ r. ⌜ r ≤ 8 ⌝ }
+fn vote_bytes(third: usize, wide: usize) -> usize
+    requires { ⌜ wide ≤ 16 ⌝ }
+    ensures { λ r. ⌜ r ≤ 16 ⌝ }
 {
     match third {
         0 => 1,
         1 => 4,
-        _ => 8,
+        _ => wide,
     }
 }
 
-// The place behind number i, which is left out if the line has not so many.
-fn behind(place: usize, i: usize, count: usize, votes: usize) -> usize
-    requires { ⌜ place ≤ 1000 ⌝ }
-    ensures { λ r. ⌜ r ≤ place + 8 ⌝ }
+// Of a block's number, by the packet's kind.
+fn number_bytes(kind: u64) -> usize
+    ensures { λ r. ⌜ r ≤ 16 ⌝ }
 {
-    if i < count {
-        return place + width(i, votes);
+    if kind < 2 {
+        return 8;
     }
-    place
+    16
 }
 
 // Writes a line's numbers from the kind on into bytes that are zero, and answers the length. At most three blocks.
@@ -244,21 +279,29 @@ fn packet(words: &[u64], bytes: &mut [u8]) -> usize {
         return 0;
     }
     let votes = 5 + 3 * n;
+    let wide = number_bytes(at(words, 1));
     let mut place = 0;
     let mut i = 1;
-    while i < 32 {
-        put(bytes, place, at(words, i));
-        place = behind(place, i, words.len(), votes);
+    while i < 32 && i < words.len() {
+        let count = bytes_of(i, votes, wide);
+        put_field(bytes, place, count, words[i]);
+        place += count;
         i += 1;
     }
     place
+}
+
+// Bytes that are zero but for the first, the kind.
+fn empty(words: &[u64], bytes: &mut [u8]) -> usize {
+    put(bytes, 0, at(words, 2));
+    size(words, 1)
 }
 
 // The bytes of a call, by its first letter; only Receive has any.
 pub fn length(letter: u8, words: &[u64], bytes: &mut [u8]) -> usize {
     match letter {
         b'r' => packet(words, bytes),
-        b'b' => size(words, 1),
+        b'b' => empty(words, bytes),
         _ => 0,
     }
 }
@@ -293,25 +336,67 @@ pub fn show_clock(clock: Clock) {
     named(b" ", clock.proposed);
 }
 
-// A row: its three numbers, and whether it is in view.
-fn show_row(words: &[u64], i: usize)
+// A block's number, which may have 39 digits.
+fn named_block(name: &[u8], n: Number) {
+    let mut digits = [0u8; 39];
+    let start = numbers::decimal(n, &mut digits);
+    text(name);
+    text(&digits[start..]);
+}
+
+// The number in two words of a row.
+fn number_in(words: &[u64], i: usize) -> Number
     requires { ⌜ i ≤ 1000 ⌝ }
 {
-    named(b" ", at(words, i));
-    named(b"/", at(words, i + 1));
-    named(b"/", at(words, i + 2));
-    if at(words, i + 3) == 1 {
+    Number {
+        lower: at(words, i),
+        upper: at(words, i + 1),
+    }
+}
+
+fn show_mark(mark: u64) {
+    if mark == 1 {
         text(b" seen");
         return;
     }
     text(b" waiting");
 }
 
-pub fn show_rows(words: &[u64], used: usize) {
+// A block's row: number, parent and slot, and whether it is in view.
+fn show_block(words: &[u64], i: usize)
+    requires { ⌜ i ≤ 900 ⌝ }
+{
+    named_block(b" ", number_in(words, i));
+    named_block(b"/", number_in(words, i + 2));
+    named(b"/", at(words, i + 4));
+    show_mark(at(words, i + 5));
+}
+
+// A vote's row: voter, slot and number, and whether it is in view.
+fn show_vote(words: &[u64], i: usize)
+    requires { ⌜ i ≤ 900 ⌝ }
+{
+    named(b" ", at(words, i));
+    named(b"/", at(words, i + 1));
+    named_block(b"/", number_in(words, i + 2));
+    show_mark(at(words, i + 4));
+}
+
+pub fn show_blocks(words: &[u64], used: usize) {
     let mut i = 0;
     while i < 64 {
         if i < used {
-            show_row(words, 4 * i);
+            show_block(words, 6 * i);
+        }
+        i += 1;
+    }
+}
+
+pub fn show_votes(words: &[u64], used: usize) {
+    let mut i = 0;
+    while i < 64 {
+        if i < used {
+            show_vote(words, 5 * i);
         }
         i += 1;
     }
@@ -340,13 +425,13 @@ pub fn show_reply(reply: Reply) {
         Reply::Refused(refusal) => show_refusal(refusal),
         Reply::Done => text(b"done"),
         Reply::Received(taken) => show_taken(taken),
-        Reply::Block(block) => named(b"block ", block),
+        Reply::Block(block) => named_block(b"block ", block),
     }
 }
 
 pub fn show_answer(answer: Answer) {
     match answer {
-        Answer::Block(block) => named(b"block ", block),
+        Answer::Block(block) => named_block(b"block ", block),
         Answer::Nothing => text(b"none"),
         Answer::Refused(refusal) => show_refusal(refusal),
     }
@@ -361,10 +446,10 @@ pub fn show_same(same: bool) {
 }
 
 pub fn show_zeros(blocks: &[u64], votes: &[u64]) {
-    if blocks.len() < 4 {
+    if blocks.len() < 6 {
         return;
     }
-    if all(&blocks[4..], 0) && all(votes, 0) {
+    if all(&blocks[6..], 0) && all(votes, 0) {
         text(b", zero elsewhere");
         return;
     }
@@ -372,10 +457,10 @@ pub fn show_zeros(blocks: &[u64], votes: &[u64]) {
 }
 
 // The place behind the last byte that is not 238.
-pub fn touched(buffer: &[u8; 100]) -> u64 {
+pub fn touched(buffer: &[u8; 200]) -> u64 {
     let mut end = 0;
     let mut i = 0;
-    while i < 100 {
+    while i < 200 {
         if buffer[i] != 238 {
             end = i + 1;
         }

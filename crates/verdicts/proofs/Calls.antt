@@ -5,6 +5,7 @@ use mathlib.Core.Bool.{Bool}
 use mathlib.Core.List.{List}
 use lib.ListN.{length}
 use Rattle.protocol.specs.declared.Settings.{Settings}
+use Rattle.protocol.specs.declared.Width.{Width}
 use Rattle.protocol.specs.Store.{keptFrom}
 use Rattle.protocol.specs.Packet.{packetOf}
 use Rattle.protocol.specs.Refusal.{Refusal, pass, refuse, refused, done}
@@ -89,14 +90,14 @@ module _ (s : Settings) (m : Lent) where
     unfolding fastQuery
     fast-done = ask-done s (λ p x. queryTests s p x slot) m (λ p x. fastOf s x slot) e
 
-  module _ (proposal : Bool) (buffer : List ℕ) where
-    pub write-refused : (k : Refusal) → lentVerdict s (λ p x. writeTests s p x proposal buffer) m ≡ refuse k
-        → writeLent s (λ p x. write s p x proposal buffer) m buffer ≡ record { reply = refused k; buffer = buffer }
+  module _ (proposal : Bool) (width : Width) (buffer : List ℕ) where
+    pub write-refused : (k : Refusal) → lentVerdict s (λ p x. writeTests s p x proposal width buffer) m ≡ refuse k
+        → writeLent s (λ p x. write s p x proposal width buffer) m buffer ≡ record { reply = refused k; buffer = buffer }
     unfolding write
-    write-refused = written-refused s (λ p x. writeTests s p x proposal buffer) m (λ p x. packetOut proposal x) buffer
+    write-refused = written-refused s (λ p x. writeTests s p x proposal width buffer) m (λ p x. packetOut proposal width x) buffer
 
-    pub write-done : lentVerdict s (λ p x. writeTests s p x proposal buffer) m ≡ pass
-        → writeLent s (λ p x. write s p x proposal buffer) m buffer
-        ≡ record { reply = done (length (packetOut proposal (nodeOf m))); buffer = over (packetOut proposal (nodeOf m)) buffer }
+    pub write-done : lentVerdict s (λ p x. writeTests s p x proposal width buffer) m ≡ pass
+        → writeLent s (λ p x. write s p x proposal width buffer) m buffer
+        ≡ record { reply = done (length (packetOut proposal width (nodeOf m))); buffer = over (packetOut proposal width (nodeOf m)) buffer }
     unfolding write
-    write-done = written-done s (λ p x. writeTests s p x proposal buffer) m (λ p x. packetOut proposal x) buffer
+    write-done = written-done s (λ p x. writeTests s p x proposal width buffer) m (λ p x. packetOut proposal width x) buffer

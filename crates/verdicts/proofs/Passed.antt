@@ -4,15 +4,12 @@ use mathlib.Core.Path.{_≡_, refl}
 use mathlib.Core.Bool.{Bool, true, false, cond, false≢true}
 use mathlib.Core.List.{List}
 use native.Mathlib.Omega.{arith}
-use lib.ListN.{getD}
-use lib.Dec.{eqb}
-use borrow.Author.Tests.{eqb-true}
 use Rattle.protocol.specs.declared.Settings.{Settings}
 use Rattle.protocol.specs.Chain.{genesis}
 use Rattle.protocol.specs.Store.{sameBlock, Places, Node}
 use Rattle.protocol.specs.Sound.{blocksSound, sound}
 use Rattle.protocol.specs.Refusal.{Refusal, by, Test, pass, refuse, first}
-use Rattle.protocol.specs.Lent.{Lent, rowsOf, makeBlock, placesIn, placesOf, nodeOf, lentSound}
+use Rattle.protocol.specs.Lent.{blockWords, voteWords, Lent, rowsOf, makeBlock, placesIn, placesOf, nodeOf, lentSound}
 use Rattle.protocol.proofs.Basics.Tests.{facts, and-left, and-right}
 use Rattle.protocol.proofs.Store.Sound.{ClockSound, Ranges, ranges, places-few}
 use Rattle.protocol.proofs.Lent.Memory.{lent-true, lent-used}
@@ -26,18 +23,18 @@ pub record Ready (s : Settings) (m : Lent) : Type 0 where
   pub memory : SoundMemory s m
   pub settings : Ranges s
   pub clock : ClockSound (m .clock)
-  pub fit-blocks : m .blocksUsed ≤ placesIn (m .blocks)
-  pub fit-votes : m .votesUsed ≤ placesIn (m .votes)
+  pub fit-blocks : m .blocksUsed ≤ placesIn blockWords (m .blocks)
+  pub fit-votes : m .votesUsed ≤ placesIn voteWords (m .votes)
   pub few-blocks : m .blocksUsed ≤ 2048
   pub few-votes : m .votesUsed ≤ 8192
   -- block 0 is there, in view
   pub some-blocks : 1 ≤ m .blocksUsed
-  pub first-mark : getD (m .blocks) 3 0 ≡ 1
+  pub first-mark : makeBlock .of (m .blocks) .shown ≡ true
 
-first-row : (slot : ℕ) (ws : List ℕ) (n : ℕ) → blocksSound slot (rowsOf makeBlock ws n) ≡ true → (1 ≤ n) × (getD ws 3 0 ≡ 1)
+first-row : (slot : ℕ) (ws : List ℕ) (n : ℕ) → blocksSound slot (rowsOf makeBlock ws n) ≡ true → (1 ≤ n) × (makeBlock .of ws .shown ≡ true)
 unfolding blocksSound rowsOf
 first-row slot ws zero e = absurd (false≢true e)
-first-row slot ws (suc n) e = (omega arith, eqb-true (getD ws 3 0) 1 (and-left (eqb (getD ws 3 0) 1) _ (and-right (sameBlock _ genesis) _ e)))
+first-row slot ws (suc n) e = (omega arith, and-left (makeBlock .of ws .shown) _ (and-right (sameBlock _ genesis) _ e))
 
 sound-blocks : (s : Settings) (p : Places) (x : Node) → sound s p x ≡ true → blocksSound (x .clock .seen / 3) (x .blocks) ≡ true
 unfolding sound

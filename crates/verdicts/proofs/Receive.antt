@@ -8,13 +8,13 @@ use lib.Dec.{ltb}
 use lib.ListN.{length}
 use borrow.Author.Tests.{lt-ltb, le-ltb}
 use Rattle.protocol.specs.declared.Settings.{Settings}
-use Rattle.protocol.specs.declared.Block.{Block}
+use Rattle.protocol.specs.Entry.{Block}
 use Rattle.protocol.specs.Store.{entries, keptFrom}
 use Rattle.protocol.specs.Packet.{packetOf, wellFormed}
 use Rattle.protocol.specs.Refusal as rules
 use Rattle.protocol.specs.Refusal.{by, byEntry, test, testSection, pass, refuse, first}
 use Rattle.protocol.specs.Calls.Receive.{addBlocks, addSince, headerAllowed, firstBadBlock, firstBadVote, blocksAfter, votesAfter, receiveTests}
-use Rattle.protocol.specs.Lent.{Lent, rowsOf, makeBlock, makeVote, placesIn, placesOf, nodeOf}
+use Rattle.protocol.specs.Lent.{blockWords, voteWords, Lent, rowsOf, makeBlock, makeVote, placesIn, placesOf, nodeOf}
 use Rattle.verdicts.specs.declared.Verdict.{Verdict}
 use Rattle.verdicts.specs.declared.Verdict.the-variants.{Pass}
 use Rattle.verdicts.specs.Verdict.{verdictOf}
@@ -48,7 +48,7 @@ module _ (s : Settings) (m : Lent) (beat : ℕ) (bytes : List ℕ) where
 
   -- the tests of the header, which was found u, and of the places are left
   abbrev pub Left : Bool → Type 0
-  Left u = decided ≡ first (test 21 (not u) ∷ test 10 (ltb (placesIn (m .blocks)) blockCount || ltb (placesIn (m .votes)) voteCount) ∷ [])
+  Left u = decided ≡ first (test 21 (not u) ∷ test 10 (ltb (placesIn blockWords (m .blocks)) blockCount || ltb (placesIn voteWords (m .votes)) voteCount) ∷ [])
 
   -- what code knows: the tests of every call with a beat passed; then its answers t, i, j
   module _ {v : Verdict} (told : verdictOf v ≡ lentVerdict s (beatTests s beat) m) (is : v ≡ Pass) where
@@ -58,7 +58,7 @@ module _ (s : Settings) (m : Lent) (beat : ℕ) (bytes : List ℕ) where
         ∷ testSection 9 badBlock (packetOf bytes .blocks)
         ∷ testSection 20 badVote (packetOf bytes .votes)
         ∷ test 21 (not (headerAllowed (packetOf bytes)))
-        ∷ test 10 (ltb (placesIn (m .blocks)) blockCount || ltb (placesIn (m .votes)) voteCount)
+        ∷ test 10 (ltb (placesIn blockWords (m .blocks)) blockCount || ltb (placesIn voteWords (m .votes)) voteCount)
         ∷ []
         )
     unfolding receiveTests blocksAfter votesAfter nodeOf placesOf
@@ -84,7 +84,7 @@ module _ (s : Settings) (m : Lent) (beat : ℕ) (bytes : List ℕ) where
     pub header-refused : u ≡ false → refuse (by 21) ≡ decided
     header-refused e = sym (left ∙ unfold first in (rw e))
 
-    module _ (allowed : u ≡ true) {p : ℕ} (places : p ≡ placesIn (m .blocks)) {n : ℕ} (new : m .blocksUsed + n ≡ blockCount) where
+    module _ (allowed : u ≡ true) {p : ℕ} (places : p ≡ placesIn blockWords (m .blocks)) {n : ℕ} (new : m .blocksUsed + n ≡ blockCount) where
       pub blocks-full : p - m .blocksUsed < n → refuse (by 10) ≡ decided
       blocks-full h = sym (left ∙ unfold first in (rw (allowed, sym new, sym places, lt-ltb p (m .blocksUsed + n) (omega arith))))
 
@@ -92,7 +92,7 @@ module _ (s : Settings) (m : Lent) (beat : ℕ) (bytes : List ℕ) where
         blocks-fit : ltb p (m .blocksUsed + n) ≡ false
         blocks-fit = le-ltb p (m .blocksUsed + n) (omega (arith, R .fit-blocks))
 
-        module _ {q : ℕ} (vote-places : q ≡ placesIn (m .votes)) {from : ℕ} (kept : from ≡ keptFrom s (m .clock .merged)) {k : ℕ} (new-votes : m .votesUsed + k ≡ votesSince from) where
+        module _ {q : ℕ} (vote-places : q ≡ placesIn voteWords (m .votes)) {from : ℕ} (kept : from ≡ keptFrom s (m .clock .merged)) {k : ℕ} (new-votes : m .votesUsed + k ≡ votesSince from) where
           pub votes-full : q - m .votesUsed < k → refuse (by 10) ≡ decided
           votes-full h =
               sym (left ∙ unfold first in (rw (allowed, sym new, sym places, blocks-fit, sym (new-votes ∙ ap votesSince kept), sym vote-places, lt-ltb q (m .votesUsed + k) (omega arith))))

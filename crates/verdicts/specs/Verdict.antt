@@ -24,6 +24,7 @@ use Rattle.verdicts.specs.declared.Refusal.the-variants.{
   Slot,
   Buffer,
   Proposal,
+  Wide,
 }
 use Rattle.verdicts.specs.declared.Verdict.{Verdict}
 use Rattle.verdicts.specs.declared.Verdict.the-variants.{Pass, Refuse}
@@ -50,6 +51,7 @@ refusalOf Voted = rules.by 16
 refusalOf Slot = rules.by 17
 refusalOf Buffer = rules.by 18
 refusalOf Proposal = rules.by 19
+refusalOf Wide = rules.by 23
 
 abbrev pub numberOf : Refusal → ℕ
 numberOf r = rules.refusalNumber (refusalOf r)

@@ -2,11 +2,14 @@
 // The first test, whether the memory is sound, takes two descents in an index for each entry; Receive takes two more for each entry of the packet.
 // The other tests look through one table at most.
 use protocol::Clock;
+use protocol::Number;
 use protocol::Settings;
+use protocol::Width;
 ghost use mathlib.Core.Path.{_≡_};
 ghost use lib.ListN.{replicate};
+ghost use Rattle.protocol.specs.Words.{value};
 ghost use Rattle.protocol.specs.Refusal.{first};
-ghost use Rattle.protocol.specs.Lent.{placesIn};
+ghost use Rattle.protocol.specs.Lent.{blockWords, voteWords, placesIn};
 ghost use Rattle.protocol.specs.Calls.Open.{openTests};
 ghost use Rattle.protocol.specs.Calls.Receive.{receiveTests};
 ghost use Rattle.protocol.specs.Calls.Propose.{proposeTests};
@@ -60,6 +63,8 @@ pub enum Refusal {
     Buffer,
     // nothing was proposed at the beat seen
     Proposal,
+    // narrow writing meets a number of more than 64 bits
+    Wide,
 }
 
 pub enum Verdict {
@@ -93,6 +98,7 @@ pub fn number(refusal: Refusal) -> u64
         Refusal::Slot => 17,
         Refusal::Buffer => 18,
         Refusal::Proposal => 19,
+        Refusal::Wide => 23,
     }
 }
 
@@ -122,12 +128,13 @@ pub fn index(refusal: Refusal) -> usize
         Refusal::Slot => 0,
         Refusal::Buffer => 0,
         Refusal::Proposal => 0,
+        Refusal::Wide => 0,
     }
 }
 
 // Open looks at the settings and the lengths of the tables alone.
 pub fn open_verdict(settings: Settings, blocks: &[u64], votes: &[u64]) -> Verdict
-    ensures { λ r. ⌜ verdictOf r ≡ first (openTests settings (record { blocks = placesIn (now (blocks .entry)); votes = placesIn (now (votes .entry)) })) ⌝ }
+    ensures { λ r. ⌜ verdictOf r ≡ first (openTests settings (record { blocks = placesIn blockWords (now (blocks .entry)); votes = placesIn voteWords (now (votes .entry)) })) ⌝ }
 {
     if !ranges::within(1, 64, settings.nodes) {
         return Verdict::Refuse(Refusal::Nodes);
@@ -322,7 +329,7 @@ pub fn receive_verdict(
     if !admission::header_allowed(bytes) {
         return Verdict::Refuse(Refusal::Header);
     }
-    if ranges::places_in(blocks) - blocks_used < admitted.new {
+    if ranges::places_in(6, blocks) - blocks_used < admitted.new {
         return Verdict::Refuse(Refusal::Places);
     }
     let from = own::kept_from(settings, clock.merged);
@@ -336,7 +343,7 @@ pub fn receive_verdict(
         &mut vote_links,
         vote_firsts,
     );
-    if ranges::places_in(votes) - votes_used < new_votes {
+    if ranges::places_in(5, votes) - votes_used < new_votes {
         return Verdict::Refuse(Refusal::Places);
     }
     Verdict::Pass
@@ -350,9 +357,9 @@ pub fn propose_verdict(
     votes: &[u64],
     votes_used: usize,
     beat: u64,
-    number: u64,
+    number: Number,
 ) -> Verdict
-    ensures { λ r. ⌜ verdictOf r ≡ lentVerdict settings (λ p x. proposeTests settings p x beat number) (lent (now (blocks .entry)) (now (votes .entry)) «blocks_used» «votes_used» clock) ⌝ }
+    ensures { λ r. ⌜ verdictOf r ≡ lentVerdict settings (λ p x. proposeTests settings p x beat (value number)) (lent (now (blocks .entry)) (now (votes .entry)) «blocks_used» «votes_used» clock) ⌝ }
 {
     let due = due_verdict(
         settings,
@@ -378,7 +385,7 @@ pub fn propose_verdict(
     if soundness::known_block(blocks, blocks_used, number) {
         return Verdict::Refuse(Refusal::Number);
     }
-    if ranges::places_in(blocks) <= blocks_used {
+    if ranges::places_in(6, blocks) <= blocks_used {
         return Verdict::Refuse(Refusal::Places);
     }
     Verdict::Pass
@@ -414,7 +421,7 @@ pub fn vote_verdict(
     if own::has_voted(votes, votes_used, settings.own, beat / 3) {
         return Verdict::Refuse(Refusal::Voted);
     }
-    if ranges::places_in(votes) <= votes_used {
+    if ranges::places_in(5, votes) <= votes_used {
         return Verdict::Refuse(Refusal::Places);
     }
     Verdict::Pass
@@ -479,9 +486,10 @@ pub fn write_verdict(
     votes: &[u64],
     votes_used: usize,
     proposal: bool,
+    width: Width,
     buffer: &[u8],
 ) -> Verdict
-    ensures { λ r. ⌜ verdictOf r ≡ lentVerdict settings (λ p x. writeTests settings p x proposal (now (buffer .entry))) (lent (now (blocks .entry)) (now (votes .entry)) «blocks_used» «votes_used» clock) ⌝ }
+    ensures { λ r. ⌜ verdictOf r ≡ lentVerdict settings (λ p x. writeTests settings p x proposal width (now (buffer .entry))) (lent (now (blocks .entry)) (now (votes .entry)) «blocks_used» «votes_used» clock) ⌝ }
 {
     if !soundness::lent_sound(settings, clock, blocks, blocks_used, votes, votes_used) {
         return Verdict::Refuse(Refusal::Unsound);
@@ -491,7 +499,20 @@ pub fn write_verdict(
             return Verdict::Refuse(Refusal::Proposal);
         }
     }
-    if buffer.len() < writer::written_length(blocks, blocks_used, votes, votes_used, proposal) {
+    let named = own::header_block(blocks, blocks_used, proposal);
+    if writer::too_wide(
+        blocks,
+        blocks_used,
+        votes,
+        votes_used,
+        proposal,
+        width,
+        named.number,
+    ) {
+        return Verdict::Refuse(Refusal::Wide);
+    }
+    let length = writer::written_length(blocks, blocks_used, votes, votes_used, proposal, width);
+    if buffer.len() < length {
         return Verdict::Refuse(Refusal::Buffer);
     }
     Verdict::Pass

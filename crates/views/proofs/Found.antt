@@ -1,14 +1,13 @@
 -- The block with a number comes into view at the place that was found. Assumes nothing.
-use Prim.Native.Nat.{ℕ, _-_, _*_, _≤_, _<_}
+use Prim.Native.Nat.{ℕ, _-_, _<_}
 use mathlib.Core.Bool.{true}
 use mathlib.Core.List.{List}
 use mathlib.Core.Path.{_≡_, sym, _∙_}
 use borrow.Author.Tests.{eqb-true, eq-eqb}
 use lib.Dec.{eqb}
-use lib.ListN.{length}
-use Rattle.protocol.specs.declared.Block.{Block}
+use Rattle.protocol.specs.Entry.{Block}
 use Rattle.protocol.specs.Store.{Marked, visible, show}
-use Rattle.protocol.specs.Lent.{rowsOf, stored, makeBlock, blockRow, marksSound}
+use Rattle.protocol.specs.Lent.{BlocksFit, blockWords, rowsOf, stored, makeBlock, blockRow, marksSound}
 use Rattle.protocol.proofs.Lent.Rows.{block-codec}
 use Rattle.rows.specs.Rows.{rowAt, putRow}
 use Rattle.index.specs.Places.{numbersDiffer, placeOfNumber}
@@ -21,13 +20,13 @@ module _ (ws : List ℕ) (n x : ℕ) {place : ℕ} (e : place ≡ placeOfNumber 
   unfolding placeOfNumber
   block-below = one-below (numbered x) block-codec ws n e
 
-  module _ (h : 4 * n ≤ length ws) (s : marksSound ws n ≡ true) where
+  module _ (h : BlocksFit n ws) (s : marksSound makeBlock ws n ≡ true) where
     pub block-none : place ≡ 0 → ws ≡ stored blockRow (show (numbered x) (rowsOf makeBlock ws n)) ws
     unfolding placeOfNumber
     block-none = one-none (numbered x) block-codec ws n e h s
 
     pub block-at : {m : Marked Block} {ws′ : List ℕ} → Ordered (rowsOf makeBlock ws n) → (place ≡ 0 → ⊥) → m ≡ rowAt makeBlock ws (place - 1)
-        → ws′ ≡ putRow ws (place - 1) (blockRow (visible (m .entry))) → ws′ ≡ stored blockRow (show (numbered x) (rowsOf makeBlock ws n)) ws
+        → ws′ ≡ putRow blockWords ws (place - 1) (blockRow (visible (m .entry))) → ws′ ≡ stored blockRow (show (numbered x) (rowsOf makeBlock ws n)) ws
     unfolding placeOfNumber numbersDiffer
     block-at O =
         one-at (numbered x) block-codec ws n e h s (λ a b. eqb (a .entry .number) (b .entry .number))

@@ -31,11 +31,11 @@ module _ {A : Type 0} {make : Make (Marked A)} {row : Marked A → List ℕ} (co
         let l : length (show p (take i R)) ≤ i = omega (arith, length-show p (take i R), length-take-le i R (omega (arith, length-rowsOf make ws₀ n))) in
         ap (λ (m : Marked A). p (m .entry)) (r ∙ ap (λ (w : List ℕ). rowAt make w i) (e p f) ∙ row-after codec (show p (take i R)) ws₀ i l) ∙ sym (f i h)
 
-    pub named-turn : {a : Marked A} {ws′ : List ℕ} → places i ≡ true → a ≡ rowAt make ws i → ws′ ≡ putRow ws i (row (visible (a .entry))) → NamedTo (i + 1) ws′
+    pub named-turn : {a : Marked A} {ws′ : List ℕ} → places i ≡ true → a ≡ rowAt make ws i → ws′ ≡ putRow (make .words) ws i (row (visible (a .entry))) → NamedTo (i + 1) ws′
     named-turn {a} t r q p f =
         show-turn codec p ws₀ n i h (e p f) r (sym (ap (λ (b : Bool). a .shown || b) (passes p f r ∙ t) ∙ or-true (a .shown))) q
 
-    pub named-skip : places i ≡ false → 4 * n ≤ length ws₀ → marksSound ws₀ n ≡ true → NamedTo (i + 1) ws
+    pub named-skip : places i ≡ false → make .words * n ≤ length ws₀ → marksSound make ws₀ n ≡ true → NamedTo (i + 1) ws
     named-skip t l m p f =
         let a = rowAt make ws i in
         show-skip codec p ws₀ n i h (e p f) refl (sym (ap (λ (b : Bool). a .shown || b) (passes p f refl ∙ t) ∙ or-false (a .shown))) l m refl

@@ -65,19 +65,19 @@ module _ {A : Type 0} (p : A → Bool) where
     pub one-below : (place ≡ 0 → ⊥) → place - 1 < n
     one-below some = omega (arith, e, place-within passes (rowsOf make ws n) 0, length-rowsOf make ws n)
 
-    module _ (h : 4 * n ≤ length ws) (s : marksSound ws n ≡ true) where
+    module _ (h : make .words * n ≤ length ws) (s : marksSound make ws n ≡ true) where
       pub one-none : place ≡ 0 → ws ≡ stored row (show p (rowsOf make ws n)) ws
       one-none z = sym (ap (λ (o : List (Marked A)). stored row o ws) (none-show 0 (rowsOf make ws n) (sym e ∙ z)) ∙ stored-same codec ws n s h)
 
       -- the row at the place was read as m
       pub one-at : (same : Marked A → Marked A → Bool) → ((a b : Marked A) → p (a .entry) ≡ true → p (b .entry) ≡ true → same a b ≡ true)
           → {m : Marked A} {ws′ : List ℕ} → distinct same (rowsOf make ws n) ≡ true → (place ≡ 0 → ⊥) → m ≡ rowAt make ws (place - 1)
-          → ws′ ≡ putRow ws (place - 1) (row (visible (m .entry))) → ws′ ≡ stored row (show p (rowsOf make ws n)) ws
+          → ws′ ≡ putRow (make .words) ws (place - 1) (row (visible (m .entry))) → ws′ ≡ stored row (show p (rowsOf make ws n)) ws
       one-at same alike {m} {ws′} d some r q =
           let R = rowsOf make ws n in
           let k = place - 1 in
           let l : place - 1 < n = one-below some in
           let z : placeOf passes R ≡ suc (0 + k) = sym e ∙ omega arith in
-          q ∙ ap (λ (w : List ℕ). putRow w k (row (visible (m .entry)))) (sym (stored-same codec ws n s h))
+          q ∙ ap (λ (w : List ℕ). putRow (make .words) w k (row (visible (m .entry)))) (sym (stored-same codec ws n s h))
           ∙ put-set codec R ws k (visible (m .entry)) (omega (arith, length-rowsOf make ws n))
           ∙ ap (λ (o : List (Marked A)). stored row o ws) (set-show same alike 0 R k m d z (r ∙ sym (getD-rowsOf make ws n k m l)))

@@ -1,13 +1,13 @@
 -- The words of the table along the pass from the last row to the first. Assumes nothing.
-use Prim.Native.Nat.{ℕ, zero, suc, _+_, _*_, _≤_, _<_}
+use Prim.Native.Nat.{ℕ, zero, suc, _+_, _≤_, _<_}
 use mathlib.Core.Bool.{true, false}
 use mathlib.Core.List.{List}
 use mathlib.Core.Path.{_≡_, refl, ap, sym, _∙_}
 use native.Mathlib.Omega.{arith}
 use lib.ListN.{length}
-use Rattle.protocol.specs.declared.Block.{Block}
+use Rattle.protocol.specs.Entry.{Block}
 use Rattle.protocol.specs.Store.{Marked, entries, inView, show}
-use Rattle.protocol.specs.Lent.{rowsOf, stored, makeBlock, blockRow, marksSound}
+use Rattle.protocol.specs.Lent.{BlocksFit, rowsOf, stored, makeBlock, blockRow, marksSound}
 use Rattle.protocol.proofs.Store.Tables.{Closed}
 use Rattle.protocol.proofs.Store.Views.{length-show, entries-show}
 use Rattle.protocol.proofs.Lent.Rows.{block-codec, rows-stored, marks-stored, stored-same, length-rowsOf}
@@ -21,14 +21,14 @@ use Rattle.views.proofs.Ancestors.{ClosedFrom, closed-end, closed-waits
 -- the words before row i is looked at, from words ws₀
 pub record Pass (ws₀ : List ℕ) (n : ℕ) (ws : List ℕ) (i : ℕ) : Type 0 where
   pub holds : ws ≡ stored blockRow (rowsOf makeBlock ws n) ws₀
-  pub marks : marksSound ws n ≡ true
+  pub marks : marksSound makeBlock ws n ≡ true
   pub entered : entries (rowsOf makeBlock ws₀ n) ≡ entries (rowsOf makeBlock ws n)
   pub ordered : Ordered (rowsOf makeBlock ws n)
   pub same : showAncestors (rowsOf makeBlock ws n) ≡ showAncestors (rowsOf makeBlock ws₀ n)
   pub closed : ClosedFrom i (rowsOf makeBlock ws n)
 
 module _ (ws₀ : List ℕ) (n : ℕ) where
-  pub pass-begin : 4 * n ≤ length ws₀ → marksSound ws₀ n ≡ true → Ordered (rowsOf makeBlock ws₀ n) → Pass ws₀ n ws₀ n
+  pub pass-begin : BlocksFit n ws₀ → marksSound makeBlock ws₀ n ≡ true → Ordered (rowsOf makeBlock ws₀ n) → Pass ws₀ n ws₀ n
   pass-begin h k O = record {
     holds = sym (stored-same block-codec ws₀ n k h);
     marks = k;

@@ -2,6 +2,7 @@
 // Which rows are the packet's own was found when it was tested: they are in a set of places, or stand behind those that were there before it.
 // A parent is looked up in an index of the blocks, in links that the caller lends; a descent meets at most 27 blocks, whatever numbers are looked
 // up. A mark is in no key, so the index serves until a row is added. No function keeps an array: the largest call takes less than 1 KB of stack.
+use protocol::Number;
 use rows::BlockRow;
 use rows::VoteRow;
 ghost use mathlib.Core.Bool.{true};
@@ -9,10 +10,10 @@ ghost use mathlib.Core.Path.{_≡_};
 ghost use Prim.Native.Nat.{_*_, _≤_};
 ghost use lib.Dec.{eqb};
 ghost use lib.ListN.{length};
-ghost use Rattle.protocol.specs.declared.Block.{Block};
-ghost use Rattle.protocol.specs.declared.Vote.{Vote};
+ghost use Rattle.protocol.specs.Words.{value};
+ghost use Rattle.protocol.specs.Entry.{Block, Vote};
 ghost use Rattle.protocol.specs.Store.{show};
-ghost use Rattle.protocol.specs.Lent.{rowsOf, stored, makeBlock, makeVote, blockRow, voteRow, marksSound};
+ghost use Rattle.protocol.specs.Lent.{BlocksFit, VotesFit, rowsOf, stored, makeBlock, makeVote, blockRow, voteRow, marksSound};
 ghost use Rattle.index.specs.Places.{BlockIndex};
 ghost use Rattle.views.specs.Ancestors.{Ordered, showAncestors};
 ghost use Rattle.views.specs.Named.{namedAt, ShownAt};
@@ -33,7 +34,7 @@ fn is_named(before: usize, firsts: &[u64], j: usize) -> bool
 // The blocks that the packet names come into view: those at place `before` and later, and those whose place is in `firsts`.
 // The cost is one step for each row.
 pub fn show_named_blocks(blocks: &mut [u64], before: usize, used: usize, firsts: &[u64])
-    requires { ⌜ (4 * used ≤ length (now blocks)) × (marksSound (now blocks) used ≡ true) × (before ≤ used) × (before ≤ 64 * length (now firsts)) ⌝ }
+    requires { ⌜ BlocksFit used (now blocks) × (marksSound makeBlock (now blocks) used ≡ true) × (before ≤ used) × (before ≤ 64 * length (now firsts)) ⌝ }
     ensures { λ r. ⌜ ShownAt Block makeBlock blockRow (now (blocks .entry)) used (namedAt before (now (firsts .entry))) (now (blocks .exit)) ⌝ }
 {
     for j in 0..used {
@@ -54,7 +55,7 @@ pub fn show_named_blocks(blocks: &mut [u64], before: usize, used: usize, firsts:
 
 // The same of the votes.
 pub fn show_named_votes(votes: &mut [u64], before: usize, used: usize, firsts: &[u64])
-    requires { ⌜ (4 * used ≤ length (now votes)) × (marksSound (now votes) used ≡ true) × (before ≤ used) × (before ≤ 64 * length (now firsts)) ⌝ }
+    requires { ⌜ VotesFit used (now votes) × (marksSound makeVote (now votes) used ≡ true) × (before ≤ used) × (before ≤ 64 * length (now firsts)) ⌝ }
     ensures { λ r. ⌜ ShownAt Vote makeVote voteRow (now (votes .entry)) used (namedAt before (now (firsts .entry))) (now (votes .exit)) ⌝ }
 {
     for j in 0..used {
@@ -76,10 +77,10 @@ pub fn show_named_votes(votes: &mut [u64], before: usize, used: usize, firsts: &
 // ---- what its blocks stand on
 
 // The block with this number comes into view. The cost is a descent.
-fn show_block(blocks: &mut [u64], used: usize, links: &[u16], number: u64)
-    requires { ⌜ (4 * used ≤ length (now blocks)) × (marksSound (now blocks) used ≡ true) × Ordered (rowsOf makeBlock (now blocks) used)
+fn show_block(blocks: &mut [u64], used: usize, links: &[u16], number: Number)
+    requires { ⌜ BlocksFit used (now blocks) × (marksSound makeBlock (now blocks) used ≡ true) × Ordered (rowsOf makeBlock (now blocks) used)
         × BlockIndex (now blocks) used (now links) ⌝ }
-    ensures { λ r. ⌜ now (blocks .exit) ≡ stored blockRow (show (λ b. eqb (b .number) number) (rowsOf makeBlock (now (blocks .entry)) used)) (now (blocks .entry)) ⌝ }
+    ensures { λ r. ⌜ now (blocks .exit) ≡ stored blockRow (show (λ b. eqb (b .number) (value number)) (rowsOf makeBlock (now (blocks .entry)) used)) (now (blocks .entry)) ⌝ }
 {
     let place = index::place(blocks, used, links, number);
     if place != 0 {
@@ -100,7 +101,7 @@ fn show_block(blocks: &mut [u64], used: usize, links: &[u16], number: u64)
 // to the first is enough. The links are those that `index::build_blocks` wrote; marks may have changed since. The cost is a descent for each
 // row in view.
 pub fn show_ancestors(blocks: &mut [u64], used: usize, links: &[u16])
-    requires { ⌜ (4 * used ≤ length (now blocks)) × (marksSound (now blocks) used ≡ true) × Ordered (rowsOf makeBlock (now blocks) used)
+    requires { ⌜ BlocksFit used (now blocks) × (marksSound makeBlock (now blocks) used ≡ true) × Ordered (rowsOf makeBlock (now blocks) used)
         × BlockIndex (now blocks) used (now links) ⌝ }
     ensures { λ r. ⌜ now (blocks .exit) ≡ stored blockRow (showAncestors (rowsOf makeBlock (now (blocks .entry)) used)) (now (blocks .entry)) ⌝ }
 {

@@ -2,4 +2,5 @@
 pub mod Places
 pub mod Rows
 pub mod Sent
+pub mod Wide
 pub mod Readable

@@ -35,14 +35,22 @@ sets-behind ys at n (x ∷ xs) zs e =
     let sum : at + n ≡ suc at + length xs = omega arith in
     rw sum (sets-behind (set ys at x) (suc at) (length xs) xs zs refl)
 
-pub three-behind : (w : Widths) (r : Row) (ys us vs zs : List ℕ) (at : ℕ) → us ≡ sets ys at (bytesOf (w .first) (r .first)) → vs ≡ sets us (at + w .first) (bytesOf (w .second) (r .second))
-    → zs ≡ sets vs (at + w .first + w .second) (bytesOf (w .third) (r .third)) → zs ≡ sets ys at (rowBytes w r)
+pub five-behind : (w : Widths) (r : Row) (ys us vs xs ts zs : List ℕ) (at : ℕ) → us ≡ sets ys at (bytesOf (w .first) (r .first))
+    → vs ≡ sets us (at + w .first) (bytesOf (w .second) (r .second))
+    → xs ≡ sets vs (at + w .first + w .second) (bytesOf (w .third) (r .third))
+    → ts ≡ sets xs (at + w .first + w .second + w .third) (bytesOf (w .fourth) (r .fourth))
+    → zs ≡ sets ts (at + w .first + w .second + w .third + w .fourth) (bytesOf (w .fifth) (r .fifth)) → zs ≡ sets ys at (rowBytes w r)
 unfolding rowBytes
-three-behind w r ys us vs zs at e f g =
+five-behind w r ys us vs xs ts zs at e f g h k =
     let a = bytesOf (w .first) (r .first) in
     let b = bytesOf (w .second) (r .second) in
     let c = bytesOf (w .third) (r .third) in
-    g ∙ rw (f, sets-behind us (at + w .first) (w .second) b c (le-length (w .second) (r .second)), e) (sets-behind ys at (w .first) a (b ++ c) (le-length (w .first) (r .first)))
+    let d = bytesOf (w .fourth) (r .fourth) in
+    let l = bytesOf (w .fifth) (r .fifth) in
+    let four = sets-behind xs (at + w .first + w .second + w .third) (w .fourth) d l (le-length (w .fourth) (r .fourth)) in
+    let three = sets-behind vs (at + w .first + w .second) (w .third) c (d ++ l) (le-length (w .third) (r .third)) in
+    let two = sets-behind us (at + w .first) (w .second) b (c ++ (d ++ l)) (le-length (w .second) (r .second)) in
+    k ∙ rw (h, four, g, three, f, two, e) (sets-behind ys at (w .first) a (b ++ (c ++ (d ++ l))) (le-length (w .first) (r .first)))
 
 -- bytes from the start, and then the old rest
 pub sets-over : (ys bs : List ℕ) → length bs ≤ length ys → sets ys 0 bs ≡ over bs ys

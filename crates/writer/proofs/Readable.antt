@@ -4,37 +4,38 @@ use mathlib.Core.Path.{_≡_, refl}
 use mathlib.Core.Bool.{Bool, true, false, false≢true}
 use mathlib.Core.List.{List}
 use native.Mathlib.Omega.{arith}
-use lib.ListN.{getD}
 use Rattle.protocol.specs.declared.Settings.{Settings}
+use Rattle.protocol.specs.declared.Width.{Width}
 use Rattle.protocol.specs.Sound.{between, placesSound, blocksSound, sound}
-use Rattle.protocol.specs.Calls.Write.{gossipOf, proposalOf, packetOut}
-use Rattle.protocol.specs.Lent.{Lent, rowsOf, makeBlock, placesIn, placesOf, nodeOf, lentSound}
+use Rattle.protocol.specs.Calls.Write.{gossipOf, proposalOf, sentOf, packetOut}
+use Rattle.protocol.specs.Lent.{blockWords, voteWords, Lent, rowsOf, makeBlock, placesIn, placesOf, nodeOf, lentSound}
 use Rattle.protocol.proofs.Basics.Tests.{facts, and-left, and-right}
 use Rattle.protocol.proofs.Lent.Memory.{lent-used}
-use Rattle.protocol.proofs.Lent.Rows.{places-fit}
+use Rattle.protocol.proofs.Lent.Rows.{blocks-fit, votes-fit}
 use Rattle.writer.specs.Sent.{nodeIn, Readable}
 
-first-shown : (slot : ℕ) (ws : List ℕ) (used : ℕ) → blocksSound slot (rowsOf makeBlock ws used) ≡ true → getD ws 3 0 ≡ 1
+first-shown : (slot : ℕ) (ws : List ℕ) (used : ℕ) → blocksSound slot (rowsOf makeBlock ws used) ≡ true → makeBlock .of ws .shown ≡ true
 unfolding blocksSound rowsOf
 first-shown slot ws zero e = absurd (false≢true e)
-first-shown slot ws (suc n) e = search facts
+first-shown slot ws (suc n) e = search (and-left, and-right)
 
 pub sound-readable : (s : Settings) (m : Lent) → lentSound s m ≡ true → Readable (m .blocks) (m .blocksUsed) (m .votes) (m .votesUsed)
 unfolding lentSound sound placesSound between placesOf nodeOf
 sound-readable s m e =
     let u = lent-used s m e in
-    let most : placesIn (m .blocks) ≤ 2048 = search facts depth 14 in
-    let most′ : placesIn (m .votes) ≤ 8192 = search facts depth 14 in
+    let most : placesIn blockWords (m .blocks) ≤ 2048 = search facts depth 14 in
+    let most′ : placesIn voteWords (m .votes) ≤ 8192 = search facts depth 14 in
     record {
-      blockRows = places-fit (m .blocks) (m .blocksUsed) (u .0);
-      voteRows = places-fit (m .votes) (m .votesUsed) (u .1);
+      blockRows = blocks-fit (m .blocks) (m .blocksUsed) (u .0);
+      voteRows = votes-fit (m .votes) (m .votesUsed) (u .1);
       blockCount = omega (arith, u .0, most);
       voteCount = omega (arith, u .1, most′);
       first = first-shown (m .clock .seen / 3) (m .blocks) (m .blocksUsed) (search (and-left, and-right) depth 14);
     }
 
 -- a packet says nothing of the clock
-pub sent-held : (proposal : Bool) (m : Lent) → packetOut proposal (nodeIn (m .blocks) (m .blocksUsed) (m .votes) (m .votesUsed)) ≡ packetOut proposal (nodeOf m)
-unfolding packetOut proposalOf gossipOf nodeIn nodeOf
-sent-held true m = refl
-sent-held false m = refl
+pub sent-held : (proposal : Bool) (width : Width) (m : Lent)
+    → packetOut proposal width (nodeIn (m .blocks) (m .blocksUsed) (m .votes) (m .votesUsed)) ≡ packetOut proposal width (nodeOf m)
+unfolding packetOut sentOf proposalOf gossipOf nodeIn nodeOf
+sent-held true width m = refl
+sent-held false width m = refl

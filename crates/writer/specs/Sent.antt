@@ -1,26 +1,29 @@
--- The packet that two tables give. Assumes nothing.
-use Prim.Native.Nat.{ℕ, _*_, _≤_}
+-- The node of two tables, which a packet is written from, and which of their numbers are too wide. Assumes nothing.
+use Prim.Native.Nat.{ℕ, _≤_}
 use mathlib.Core.Path.{_≡_}
-use mathlib.Core.Bool.{Bool, cond}
+use mathlib.Core.Bool.{Bool, true, not, _&&_, _||_}
 use mathlib.Core.List.{List}
-use lib.ListN.{length, getD}
-use Rattle.protocol.specs.Store.{Node, freshClock}
-use Rattle.protocol.specs.Packet.{Packet}
-use Rattle.protocol.specs.Calls.Write.{gossipOf, proposalOf}
-use Rattle.protocol.specs.Lent.{rowsOf, makeBlock, makeVote}
+use Rattle.protocol.specs.Entry.{Block, Vote}
+use Rattle.protocol.specs.Words.{isWide}
+use Rattle.protocol.specs.Store.{Marked, Node, freshClock}
+use Rattle.protocol.specs.Lent.{BlocksFit, VotesFit, rowsOf, makeBlock, makeVote}
 
 -- the node that the words of its tables hold; a packet says nothing of its clock
 unfoldable pub nodeIn : List ℕ → ℕ → List ℕ → ℕ → Node
 nodeIn blocks blocksUsed votes votesUsed =
     record { blocks = rowsOf makeBlock blocks blocksUsed; votes = rowsOf makeVote votes votesUsed; clock = freshClock }
 
-unfoldable pub sentOf : Bool → Node → Packet
-sentOf proposal x = cond proposal (proposalOf x) (gossipOf x)
+-- the row is sent, and a number of its entry has more than 64 bits
+abbrev pub wideBlock : Bool → Marked Block → Bool
+wideBlock proposal m = (not proposal || m .shown) && (isWide (m .entry .number) || isWide (m .entry .parent))
+
+abbrev pub wideVote : Bool → Marked Vote → Bool
+wideVote proposal m = (not proposal || m .shown) && isWide (m .entry .number)
 
 -- what the writer asks of the tables, and sound memory has: the rows are there, their counts fit two bytes, and the first block is marked in view
 pub record Readable (blocks : List ℕ) (blocksUsed : ℕ) (votes : List ℕ) (votesUsed : ℕ) : Type 0 where
-  pub blockRows : 4 * blocksUsed ≤ length blocks
-  pub voteRows : 4 * votesUsed ≤ length votes
+  pub blockRows : BlocksFit blocksUsed blocks
+  pub voteRows : VotesFit votesUsed votes
   pub blockCount : blocksUsed ≤ 65535
   pub voteCount : votesUsed ≤ 65535
-  pub first : getD blocks 3 0 ≡ 1
+  pub first : makeBlock .of blocks .shown ≡ true

@@ -27,7 +27,7 @@ fn twice_in(slot: u64) -> Node {
 }
 
 /// The slot of the double vote, and what is answered for slot 7: with E = 3 it looks back on slots 4, 5 and 6.
-const FOR_7: [(u64, u64); 5] = [(2, 21), (3, 21), (4, 11), (6, 11), (7, 21)];
+const FOR_7: [(u64, u128); 5] = [(2, 21), (3, 21), (4, 11), (6, 11), (7, 21)];
 
 /// Joined for slot 7, which is its own, with nothing done in it.
 fn at_slot_7(mut node: Node) -> Node {
@@ -77,7 +77,7 @@ fn dropped_for_as_many_slots_as_expiry_says() {
         for slot in [1, 2, 4, 5, 6, 7, 8] {
             add_vote(&mut node, vote(0, slot, 21));
         }
-        let heads: Vec<u64> = (1..=9).map(|slot| node.head(slot).unwrap()).collect();
+        let heads: Vec<u128> = (1..=9).map(|slot| node.head(slot).unwrap()).collect();
         assert_eq!(heads, expected, "E = {expiry}");
     }
 }
@@ -89,7 +89,7 @@ fn lower_end_of_the_window() {
     for slot in 1..=6 {
         add_vote(&mut node, vote(0, slot, 21));
     }
-    let heads = |node: &Node| (1..=7).map(|slot| node.head(slot).unwrap()).collect::<Vec<u64>>();
+    let heads = |node: &Node| (1..=7).map(|slot| node.head(slot).unwrap()).collect::<Vec<u128>>();
     assert_eq!(heads(&node), [11, 21, 21, 21, 21, 21, 21]);
     // Its second vote of slot 1 drops it for these, and not longer.
     add_vote(&mut node, vote(0, 1, 31));
@@ -182,7 +182,7 @@ fn fast_blocks_of_other_slots() {
         }
     }
     add_vote(&mut node, vote(0, 2, 31));
-    let fast: Vec<Option<u64>> = (1..=4).map(|slot| node.fast(slot).unwrap()).collect();
+    let fast: Vec<Option<u128>> = (1..=4).map(|slot| node.fast(slot).unwrap()).collect();
     assert_eq!(fast, [Some(21), None, Some(21), None]);
 }
 

@@ -12,9 +12,14 @@ impl Draw {
             small
         }
     }
+
+    /// A number, at times with an upper half.
+    fn number(&mut self) -> u128 {
+        u128::from(self.value()) | u128::from(self.of(&[0, 0, 0, 1, u64::MAX])) << 64
+    }
 }
 
-fn try_calls(node: &Node, beat: u64, slot: u64, bytes: &[u8]) -> [Option<u32>; 10] {
+fn try_calls(node: &Node, beat: u64, slot: u64, number: u128, bytes: &[u8]) -> [Option<u32>; 12] {
     let sound = node.head(1) != Err(6);
     let changed = |call: &dyn Fn(&mut Node) -> Option<u32>| {
         let mut after = node.clone();
@@ -29,14 +34,16 @@ fn try_calls(node: &Node, beat: u64, slot: u64, bytes: &[u8]) -> [Option<u32>; 1
     };
     [
         changed(&|n| n.receive(beat, bytes).err().map(|refused| refused.number)),
-        changed(&|n| n.propose(beat, slot).err()),
+        changed(&|n| n.propose(beat, number).err()),
         changed(&|n| n.vote(beat).err()),
         changed(&|n| n.merge(beat).err()),
         changed(&|n| n.head(slot).err()),
         changed(&|n| n.deep(slot).err()),
         changed(&|n| n.fast(slot).err()),
-        changed(&|n| n.write(true, &mut [0; 30]).err()),
-        changed(&|n| n.write(false, &mut [0; 30]).err()),
+        changed(&|n| n.write(true, false, &mut [0; 40]).err()),
+        changed(&|n| n.write(true, true, &mut [0; 40]).err()),
+        changed(&|n| n.write(false, false, &mut [0; 40]).err()),
+        changed(&|n| n.write(false, true, &mut [0; 40]).err()),
         {
             let mut after = node.clone();
             let refusal = after.open().err();
@@ -49,7 +56,7 @@ fn try_calls(node: &Node, beat: u64, slot: u64, bytes: &[u8]) -> [Option<u32>; 1
 #[test]
 fn nonsense() {
     let mut draw = Draw(1);
-    let mut refusals = [0; 22];
+    let mut refusals = [0; 24];
     for round in 0..12_000 {
         let mut node = fresh(3, 0, 2, 1);
         node.settings = Settings { nodes: 3, own: draw.next() % 3, expiry: 2, depth: 1 };
@@ -63,13 +70,15 @@ fn nonsense() {
         }
         node.blocks.truncate(1 + draw.next() as usize % 5);
         node.votes.truncate(1 + draw.next() as usize % 5);
+        // Each block has this number or one above it.
+        let first = draw.of(&[1, 1, UP, UP + 1, u128::MAX - 9]);
         for place in 1..node.blocks.len() {
-            node.blocks[place] =
-                Block { number: place as u64, parent: draw.next() % 2, slot: draw.value(), in_view: draw.yes() };
+            let (number, parent) = (first + place as u128 - 1, draw.of(&[0, first]));
+            node.blocks[place] = Block { number, parent, slot: draw.value(), in_view: draw.yes() };
         }
         for place in 0..node.votes.len() {
-            node.votes[place] =
-                Vote { voter: draw.value(), slot: draw.value(), number: draw.next() % 2, in_view: draw.yes() };
+            let number = draw.of(&[0, first]);
+            node.votes[place] = Vote { voter: draw.value(), slot: draw.value(), number, in_view: draw.yes() };
         }
         node.blocks_used = 1 + draw.next() as usize % 3;
         node.votes_used = draw.next() as usize % 3;
@@ -77,21 +86,22 @@ fn nonsense() {
             node.blocks_used = draw.of(&[0, 6, usize::MAX]);
         }
         let beat = if draw.yes() { node.clock.seen.saturating_add(draw.next() % 3) } else { draw.value() };
-        let blocks = [(draw.value(), draw.value(), draw.value() as u32)];
-        let votes = [(draw.value() as u8, draw.value() as u32, draw.value())];
-        let kind = draw.of(&[0, 0, 1, 2]);
-        let slot = if kind == 0 { 0 } else { blocks[0].2 };
-        let number = if kind == 0 { 0 } else { blocks[0].0 ^ (draw.next() % 2) };
+        let blocks = [(draw.number(), draw.number(), draw.value() as u32)];
+        let votes = [(draw.value() as u8, draw.value() as u32, draw.number())];
+        let kind = draw.of(&[0, 0, 1, 2, 2, 3, 4]);
+        let slot = if kind % 2 == 0 { 0 } else { blocks[0].2 };
+        let number = if kind % 2 == 0 { 0 } else { blocks[0].0 ^ draw.of(&[0, 1, UP]) };
         let count = draw.next() as usize % 2;
         let bytes = packet(kind, slot, number, &blocks, &votes[..count]);
         let question = draw.value();
-        for refusal in try_calls(&node, beat, question, &bytes) {
+        let proposed = draw.number();
+        for refusal in try_calls(&node, beat, question, proposed, &bytes) {
             refusals[refusal.unwrap_or(0) as usize] += 1;
         }
     }
-    // Calls were carried out, and every refusal was met but 5.
-    let met: Vec<usize> = (0..22).filter(|&number| refusals[number] > 0).collect();
-    assert_eq!(met, [0, 1, 2, 3, 4, 6, 7, 8, 9, 10, 11, 12, 13, 14, 15, 16, 17, 18, 19, 20, 21]);
+    // Calls were carried out, and every refusal was met but 5. There is no 22.
+    let met: Vec<usize> = (0..24).filter(|&number| refusals[number] > 0).collect();
+    assert_eq!(met, [0, 1, 2, 3, 4, 6, 7, 8, 9, 10, 11, 12, 13, 14, 15, 16, 17, 18, 19, 20, 21, 23]);
 }
 
 #[test]
@@ -99,24 +109,24 @@ fn huge_values_alone() {
     let huge = Node {
         settings: Settings { nodes: u64::MAX, own: u64::MAX, expiry: u64::MAX, depth: u64::MAX },
         clock: Clock { seen: u64::MAX, done: u64::MAX, merged: u64::MAX, proposed: u64::MAX },
-        blocks: vec![block(u64::MAX, u64::MAX, u64::MAX); 3],
+        blocks: vec![block(u128::MAX, u128::MAX, u64::MAX); 3],
         blocks_used: usize::MAX,
-        votes: vec![vote(u64::MAX, u64::MAX, u64::MAX); 3],
+        votes: vec![vote(u64::MAX, u64::MAX, u128::MAX); 3],
         votes_used: usize::MAX,
     };
     let six = Some(6);
-    let refusals = [six, six, six, six, six, six, six, six, six, Some(1)];
-    assert_eq!(try_calls(&huge, u64::MAX, u64::MAX, &[255; 17]), refusals);
+    let refusals = [six, six, six, six, six, six, six, six, six, six, six, Some(1)];
+    assert_eq!(try_calls(&huge, u64::MAX, u64::MAX, u128::MAX, &[255; 17]), refusals);
     let mut node = fresh(64, 0, 4096, 4096);
-    let seven = Some(7);
-    let refusals = [seven, seven, seven, seven, Some(17), Some(17), Some(17), Some(19), None, None];
-    assert_eq!(try_calls(&node, u64::MAX, u64::MAX, &[255; 17]), refusals);
+    let (seven, no_slot, no_proposal) = (Some(7), Some(17), Some(19));
+    let refusals = [seven, seven, seven, seven, no_slot, no_slot, no_slot, no_proposal, no_proposal, None, None, None];
+    assert_eq!(try_calls(&node, u64::MAX, u64::MAX, u128::MAX, &[255; 17]), refusals);
     // The last slot is used like any other.
     node.clock = Clock { seen: 3_000_000_000, done: 2_999_999_999, merged: 999_999_999, proposed: 0 };
-    assert_eq!(node.propose(3_000_000_000, u64::MAX), Ok(0));
-    assert_eq!(node.vote(3_000_000_001), Ok(u64::MAX));
+    assert_eq!(node.propose(3_000_000_000, u128::MAX), Ok(0));
+    assert_eq!(node.vote(3_000_000_001), Ok(u128::MAX));
     assert_eq!(node.merge(3_000_000_002), Ok(()));
     assert_eq!(node.deep(1_000_000_000), Ok(0));
-    assert_eq!(node.head(1_000_000_000), Ok(u64::MAX));
+    assert_eq!(node.head(1_000_000_000), Ok(u128::MAX));
     assert_eq!(node.merge(3_000_000_005), Err(7));
 }

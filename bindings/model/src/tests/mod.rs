@@ -13,11 +13,14 @@ mod run;
 mod shed;
 mod shortcuts;
 mod soundness;
+mod wide;
 
 use crate::{Block, Clock, Node, Packet, PacketBlock, PacketVote, Received, Refused, Settings, Vote};
 
 pub const NO_BLOCK: Block = Block { number: 0, parent: 0, slot: 0, in_view: false };
 pub const NO_VOTE: Vote = Vote { voter: 0, slot: 0, number: 0, in_view: false };
+/// The smallest number whose upper half is not zero.
+pub const UP: u128 = 1 << 64;
 
 /// A fresh node with 16 places in each table.
 pub fn fresh(nodes: u64, own: u64, expiry: u64, depth: u64) -> Node {
@@ -39,12 +42,12 @@ pub fn places(nodes: u64, own: u64, expiry: u64, depth: u64, blocks: usize, vote
 }
 
 /// A block in view.
-pub fn block(number: u64, parent: u64, slot: u64) -> Block {
+pub fn block(number: u128, parent: u128, slot: u64) -> Block {
     Block { number, parent, slot, in_view: true }
 }
 
 /// A vote in view.
-pub fn vote(voter: u64, slot: u64, number: u64) -> Vote {
+pub fn vote(voter: u64, slot: u64, number: u128) -> Vote {
     Vote { voter, slot, number, in_view: true }
 }
 
@@ -93,15 +96,27 @@ impl Draw {
 }
 
 /// The bytes of a packet.
-pub fn packet(kind: u8, slot: u32, number: u64, blocks: &[(u64, u64, u32)], votes: &[(u8, u32, u64)]) -> Vec<u8> {
+pub fn packet(kind: u8, slot: u32, number: u128, blocks: &[(u128, u128, u32)], votes: &[(u8, u32, u128)]) -> Vec<u8> {
     let blocks = blocks.iter().map(|&(number, parent, slot)| PacketBlock { number, parent, slot }).collect();
     let votes = votes.iter().map(|&(voter, slot, number)| PacketVote { voter, slot, number }).collect();
     Packet { kind, slot, number, blocks, votes }.encode()
 }
 
-/// The bytes of a gossip packet.
-pub fn gossip(blocks: &[(u64, u64, u32)], votes: &[(u8, u32, u64)]) -> Vec<u8> {
+/// The bytes of a narrow gossip packet.
+pub fn gossip(blocks: &[(u128, u128, u32)], votes: &[(u8, u32, u128)]) -> Vec<u8> {
     packet(0, 0, 0, blocks, votes)
+}
+
+/// The bytes of a wide gossip packet.
+pub fn wide_gossip(blocks: &[(u128, u128, u32)], votes: &[(u8, u32, u128)]) -> Vec<u8> {
+    packet(2, 0, 0, blocks, votes)
+}
+
+/// The same packet with wide numbers. The given one must be narrow and rightly formed.
+pub fn widened(bytes: &[u8]) -> Vec<u8> {
+    let mut packet = Packet::decode(bytes).unwrap();
+    packet.kind += 2;
+    packet.encode()
 }
 
 /// A refusal of Receive that is not about one entry.
@@ -114,21 +129,30 @@ pub fn entry(number: u32, index: u64) -> Result<Received, Refused> {
     Err(Refused { number, index: Some(index) })
 }
 
-/// What a node writes.
+/// What a node writes with narrow numbers.
 pub fn written(node: &Node, proposal: bool) -> Vec<u8> {
-    let mut buffer = vec![0; 4096];
-    let length = node.write(proposal, &mut buffer).unwrap();
+    written_as(node, proposal, false)
+}
+
+/// What a node writes with wide numbers.
+pub fn written_wide(node: &Node, proposal: bool) -> Vec<u8> {
+    written_as(node, proposal, true)
+}
+
+fn written_as(node: &Node, proposal: bool, wide: bool) -> Vec<u8> {
+    let mut buffer = vec![0; 65_536];
+    let length = node.write(proposal, wide, &mut buffer).unwrap();
     buffer.truncate(length);
     buffer
 }
 
 /// The numbers of the blocks in view, in table order.
-pub fn blocks_in_view(node: &Node) -> Vec<u64> {
+pub fn blocks_in_view(node: &Node) -> Vec<u128> {
     node.blocks[..node.blocks_used].iter().filter(|block| block.in_view).map(|block| block.number).collect()
 }
 
 /// Voter, slot and number of the votes in view, in table order.
-pub fn votes_in_view(node: &Node) -> Vec<(u64, u64, u64)> {
+pub fn votes_in_view(node: &Node) -> Vec<(u64, u64, u128)> {
     let votes = node.votes[..node.votes_used].iter().filter(|vote| vote.in_view);
     votes.map(|vote| (vote.voter, vote.slot, vote.number)).collect()
 }

@@ -14,7 +14,7 @@ fn at_slot_6() -> Node {
 }
 
 /// The vote, waiting.
-fn waiting(voter: u64, slot: u64, number: u64) -> Vote {
+fn waiting(voter: u64, slot: u64, number: u128) -> Vote {
     Vote { in_view: false, ..vote(voter, slot, number) }
 }
 
@@ -98,7 +98,7 @@ fn the_last_slot_that_stays() {
 #[test]
 fn merge_over_many_slots() {
     // With E = 2 and all seven votes stored before the first Merge, that one counts alone.
-    let votes: Vec<(u8, u32, u64)> = (1..=7).map(|slot| (0, slot, 0)).collect();
+    let votes: Vec<(u8, u32, u128)> = (1..=7).map(|slot| (0, slot, 0)).collect();
     let mut node = fresh(5, 1, 2, 1);
     assert_eq!(node.receive(21, &gossip(&[], &votes)), answer(0, 7, false));
     node.merge(23).unwrap();

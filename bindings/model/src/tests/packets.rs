@@ -1,4 +1,4 @@
-//! Packets byte for byte, Write, and what Receive refuses as 8.
+//! Packets byte for byte, Write, and what Receive refuses as 8; with narrow numbers, the wide ones are in `wide`.
 
 use super::*;
 
@@ -24,7 +24,7 @@ fn bytes_and_fields() {
         slot: 258,
         number: 0x0807_0605_0403_0201,
         blocks: vec![PacketBlock { number: 0x0807_0605_0403_0201, parent: 0x1000_0000_0000_0009, slot: 258 }],
-        votes: vec![PacketVote { voter: 63, slot: 0x8000_0103, number: u64::MAX }],
+        votes: vec![PacketVote { voter: 63, slot: 0x8000_0103, number: u128::from(u64::MAX) }],
     };
     assert_eq!(said.encode(), BYTES);
     assert_eq!(Packet::decode(&BYTES), Some(said));
@@ -44,8 +44,8 @@ fn wrong_packets() {
     // Every shorter length, and one byte more.
     wrong.extend((0..BYTES.len()).map(|length| BYTES[..length].to_vec()));
     wrong.push([&BYTES[..], &[0][..]].concat());
-    // Kinds but 0 and 1.
-    for kind in [2, 3, 128, 255] {
+    // Kinds that are none, and wide kinds over narrow numbers.
+    for kind in [2, 3, 4, 5, 128, 255] {
         wrong.push([&[kind][..], &BYTES[1..]].concat());
     }
     // Gossip with a slot, a number, or both.
@@ -105,14 +105,14 @@ fn bytes_beyond_the_packet_stay() {
     let node = shed();
     // 17 bytes, three blocks of 20 and five votes of 13.
     let mut buffer = vec![7; 150];
-    assert_eq!(node.write(false, &mut buffer), Ok(142));
+    assert_eq!(node.write(false, false, &mut buffer), Ok(142));
     assert_eq!(buffer[142..], [7; 8]);
     assert_eq!(buffer[..1], [0]);
     let mut exact = vec![7; 142];
-    assert_eq!(node.write(false, &mut exact), Ok(142));
+    assert_eq!(node.write(false, false, &mut exact), Ok(142));
     assert_eq!(exact, buffer[..142]);
     let mut short = vec![7; 141];
-    assert_eq!(node.write(false, &mut short), Err(18));
+    assert_eq!(node.write(false, false, &mut short), Err(18));
     assert_eq!(short, [7; 141]);
 }
 

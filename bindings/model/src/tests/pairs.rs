@@ -12,6 +12,8 @@ struct Counts {
     removed: u64,
     old: u64,
     lacked_places: u64,
+    narrow: u64,
+    not_narrow: u64,
 }
 
 /// A node, and the same node had it never removed a vote.
@@ -19,7 +21,7 @@ struct Pair {
     node: Node,
     all: Node,
     /// Every vote that was accepted or made, in the order in which it came first.
-    arrived: Vec<(u64, u64, u64)>,
+    arrived: Vec<(u64, u64, u128)>,
 }
 
 /// A call of the node that never removes a vote: with this E no slot of these runs is old. E plays no other part in
@@ -71,7 +73,7 @@ impl Pair {
     }
 
     /// The call that is due in the beat's phase. False if this node met 10.
-    fn due(&mut self, beat: u64, number: u64, counts: &mut Counts) -> bool {
+    fn due(&mut self, beat: u64, number: u128, counts: &mut Counts) -> bool {
         let call = |node: &mut Node| match beat % 3 {
             0 => node.propose(beat, number),
             1 => node.vote(beat),
@@ -98,7 +100,7 @@ impl Pair {
         let (node, all) = (&self.node, &self.all);
         assert_eq!((node.clock, &node.blocks, node.blocks_used), (all.clock, &all.blocks, all.blocks_used));
         let stored: Vec<Vote> = all.votes[..all.votes_used].to_vec();
-        let fields: Vec<(u64, u64, u64)> = stored.iter().map(|vote| (vote.voter, vote.slot, vote.number)).collect();
+        let fields: Vec<(u64, u64, u128)> = stored.iter().map(|vote| (vote.voter, vote.slot, vote.number)).collect();
         assert_eq!(fields, self.arrived);
         let kept: Vec<Vote> = stored.into_iter().filter(|vote| !self.is_old(vote.slot)).collect();
         assert_eq!(node.votes[..node.votes_used], kept);
@@ -116,24 +118,39 @@ impl Pair {
         }
     }
 
-    /// The second demand: a fresh node that gets the gossip has exactly the stock.
-    fn compare_gossip(&self) {
+    /// The second demand: a fresh node that gets the gossip has exactly the stock. Request 8: in both widths, where
+    /// narrow writing is not refused as 23.
+    fn compare_gossip(&self, counts: &mut Counts) {
         let mut buffer = vec![0; 65_536];
-        let length = self.node.write(false, &mut buffer).unwrap();
-        let mut other = places(self.node.settings.nodes, 0, 1, 1, 256, 2048);
-        other.receive(self.node.clock.seen, &buffer[..length]).unwrap();
         let blocks =
             |node: &Node| node.blocks[..node.blocks_used].iter().map(|b| (b.number, b.parent, b.slot)).collect();
         let votes = |node: &Node| node.votes[..node.votes_used].iter().map(|v| (v.voter, v.slot, v.number)).collect();
-        let stock = |node: &Node| -> (Vec<(u64, u64, u64)>, Vec<(u64, u64, u64)>) { (blocks(node), votes(node)) };
-        assert_eq!(stock(&other), stock(&self.node));
+        let stock = |node: &Node| -> (Vec<(u128, u128, u64)>, Vec<(u64, u64, u128)>) { (blocks(node), votes(node)) };
+        let old = stock(&self.node).0.iter().all(|block| block.0 < UP);
+        for wide in [false, true] {
+            let length = self.node.write(false, wide, &mut buffer);
+            let Ok(length) = length else {
+                assert_eq!((length, wide, old), (Err(23), false, false));
+                counts.not_narrow += 1;
+                continue;
+            };
+            let mut other = places(self.node.settings.nodes, 0, 1, 1, 256, 2048);
+            other.receive(self.node.clock.seen, &buffer[..length]).unwrap();
+            assert_eq!(stock(&other), stock(&self.node));
+            assert!(wide || old);
+            // "An old stock written wide, received as in the second demand and then written narrow"
+            if wide && old {
+                assert_eq!(written(&other, false), written(&self.node, false));
+                counts.narrow += 1;
+            }
+        }
     }
 
     /// A packet of a dishonest node: late blocks, late and double votes, at times a proposal, at times a wrong entry.
-    fn dishonest(&self, beat: u64, number: u64, draw: &mut Draw) -> Vec<u8> {
+    fn dishonest(&self, beat: u64, number: u128, draw: &mut Draw) -> Vec<u8> {
         let slot = beat / 3;
         let clock = self.node.clock;
-        let mut known: Vec<(u64, u64)> =
+        let mut known: Vec<(u128, u64)> =
             self.node.blocks[..self.node.blocks_used].iter().map(|block| (block.number, block.slot)).collect();
         let proposal = draw.next() % 3 == 0;
         let mut blocks = Vec::new();
@@ -153,7 +170,7 @@ impl Pair {
             let near = (clock.merged + draw.next() % 4).saturating_sub(self.node.settings.expiry + 2);
             let vote_slot = if draw.yes() { near } else { 1 + draw.next() % slot };
             // Mostly a block that the vote may be for, the last ones rather.
-            let allowed: Vec<(u64, u64)> =
+            let allowed: Vec<(u128, u64)> =
                 known.iter().copied().filter(|block| block.1 <= vote_slot || draw.next() % 256 == 0).collect();
             if let Some(&last) = allowed.last() {
                 let (block, _) = if draw.yes() { last } else { draw.of(&allowed) };
@@ -162,16 +179,21 @@ impl Pair {
                 }
             }
         }
+        // At times narrow, mostly where the numbers allow it.
+        let old = blocks.iter().all(|block| block.0 < UP && block.1 < UP) && votes.iter().all(|vote| vote.2 < UP);
+        let wide = if old { draw.yes() } else { draw.next() % 64 != 0 };
+        let (gossip, proposed) = if wide { (2, 3) } else { (0, 1) };
         if proposal {
-            packet(1, slot as u32, number, &blocks, &votes)
+            packet(proposed, slot as u32, number, &blocks, &votes)
         } else {
-            gossip(&blocks, &votes)
+            packet(gossip, 0, 0, &blocks, &votes)
         }
     }
 }
 
-/// Some nodes that wake, sleep, send and hear, among dishonest packets. It ends early if a node meets 10.
-fn run(draw: &mut Draw, few_places: bool, counts: &mut Counts) {
+/// Some nodes that wake, sleep, send and hear, among dishonest packets. It ends early if a node meets 10. Request 8:
+/// honest nodes write wide.
+fn run(draw: &mut Draw, few_places: bool, upper_halves: &[u128], counts: &mut Counts) {
     let (nodes, expiry, depth) = (1 + draw.next() % 4, 1 + draw.next() % 3, 1 + draw.next() % 3);
     let vote_places = if few_places { (nodes * (expiry + 3) + 40) as usize } else { 2048 };
     let mut pairs: Vec<Pair> = (0..nodes).map(|own| Pair::new(nodes, own, expiry, depth, vote_places)).collect();
@@ -179,7 +201,7 @@ fn run(draw: &mut Draw, few_places: bool, counts: &mut Counts) {
     // Numbers differ, and later blocks have smaller numbers as often as greater ones.
     let mut number = |draw: &mut Draw| {
         made += 1;
-        draw.next() % 50 * 10_000 + made
+        u128::from(draw.next() % 50 * 10_000 + made) + UP * draw.of(upper_halves)
     };
     let mut slot = 0;
     for _ in 0..18 {
@@ -198,7 +220,7 @@ fn run(draw: &mut Draw, few_places: bool, counts: &mut Counts) {
                     }
                     pairs[at].compare(counts);
                     if beat % 3 == 2 {
-                        pairs[at].compare_gossip();
+                        pairs[at].compare_gossip(counts);
                     }
                 }
             }
@@ -206,7 +228,7 @@ fn run(draw: &mut Draw, few_places: bool, counts: &mut Counts) {
                 let at = draw.next() as usize % pairs.len();
                 let from = draw.next() as usize % pairs.len();
                 let mut buffer = [0; 65_536];
-                let bytes = match pairs[from].node.write(draw.next() % 3 == 0, &mut buffer) {
+                let bytes = match pairs[from].node.write(draw.next() % 3 == 0, true, &mut buffer) {
                     Ok(length) if draw.yes() => buffer[..length].to_vec(),
                     _ => pairs[at].dishonest(beat, number(draw), draw),
                 };
@@ -225,10 +247,13 @@ fn removing_changes_no_answer() {
     let mut draw = Draw(4);
     let mut counts = Counts::default();
     for round in 0..16 {
-        run(&mut draw, round % 2 == 0, &mut counts);
+        // Request 8: half of the runs have numbers of both widths.
+        let upper_halves: &[u128] = if round % 4 < 2 { &[0] } else { &[0, 1, 1 << 63] };
+        run(&mut draw, round % 2 == 0, upper_halves, &mut counts);
     }
-    let Counts { calls, refused, answers, removed, old, lacked_places } = counts;
+    let Counts { calls, refused, answers, removed, old, lacked_places, narrow, not_narrow } = counts;
     assert!(calls > 4000 && refused < calls / 3 && answers > 10_000);
     assert!(removed > 1000 && old > 1000);
     assert!(lacked_places > 0 && lacked_places < 8);
+    assert!(narrow > 100 && not_narrow > 100);
 }

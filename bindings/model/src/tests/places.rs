@@ -75,10 +75,10 @@ fn one_place_each() {
 #[test]
 fn the_largest_tables() {
     // A chain of 2,047 blocks, block i in slot i; 64 voters in each of slots 1920 to 2047, for the slot's block.
-    let blocks: Vec<(u64, u64, u32)> = (1..=2047).map(|i| (i, i - 1, i as u32)).collect();
+    let blocks: Vec<(u128, u128, u32)> = (1..=2047).map(|i| (i, i - 1, i as u32)).collect();
     let slots = 1920..2048;
-    let votes: Vec<(u8, u32, u64)> =
-        slots.flat_map(|slot| (0..64).map(move |voter| (voter, slot, u64::from(slot)))).collect();
+    let votes: Vec<(u8, u32, u128)> =
+        slots.flat_map(|slot| (0..64).map(move |voter| (voter, slot, u128::from(slot)))).collect();
     assert_eq!((blocks.len(), votes.len()), (2047, 8192));
     let mut node = places(64, 0, 4096, 100, 2048, 8192);
     let bytes = gossip(&blocks, &votes);
@@ -91,8 +91,12 @@ fn the_largest_tables() {
     assert_eq!((node.head(2047), node.deep(2047)), (Ok(2047), Ok(1947)));
     assert_eq!((node.fast(2046), node.fast(2047), node.fast(2048)), (Err(17), Ok(Some(2047)), Err(17)));
     let mut buffer = vec![0; 147_453];
-    assert_eq!(node.write(false, &mut buffer), Ok(147_453));
+    assert_eq!(node.write(false, false, &mut buffer), Ok(147_453));
     assert_eq!(buffer, bytes);
+    // 25 + 2,047 × 36 + 8,192 × 21
+    let mut buffer = vec![0; 245_749];
+    assert_eq!(node.write(false, true, &mut buffer), Ok(245_749));
+    assert_eq!(buffer, widened(&bytes));
     assert_eq!(node.receive(3 * 2047 + 2, &gossip(&[(9999, 0, 1)], &[])), whole(10));
     assert_eq!(node.receive(3 * 2047 + 2, &gossip(&[], &[(0, 1, 0)])), whole(10));
     // So far no slot is below a merged slot less E. At the merge of slot 6,080 those below 1984 are, half of the votes.

@@ -25,7 +25,8 @@ fn the_first_case() {
 #[test]
 fn a_fast_block_and_a_waiting_proposal() {
     // Received in phase 2, the proposal waits and is merged.
-    let bytes = packet(1, 1, u64::MAX, &[(u64::MAX, 0, 1)], &[(0, 1, u64::MAX)]);
+    let number = u128::from(u64::MAX);
+    let bytes = packet(1, 1, number, &[(number, 0, 1)], &[(0, 1, number)]);
     let text = "head 18446744073709551615\ndeep 0\nfast 18446744073709551615\n";
     assert_eq!(chainask(&input(1, 1, 1, 1, &bytes)), text);
 }
@@ -66,7 +67,7 @@ fn refusals() {
 
 #[test]
 fn its_places() {
-    let blocks = |count: u64| (1..=count).map(|number| (number, 0, 1)).collect::<Vec<_>>();
+    let blocks = |count: u128| (1..=count).map(|number| (number, 0, 1)).collect::<Vec<_>>();
     let votes = |count: u32| (1..=count).map(|slot| (0, slot, 0)).collect::<Vec<_>>();
     let text = "head 1\ndeep 1\nfast none\n";
     assert_eq!(chainask(&input(5, 2, 3, 2000, &gossip(&blocks(511), &votes(1024)))), text);

@@ -2,9 +2,14 @@
 
 use super::*;
 
-/// What the shed answers to a packet at beat 14, of slot 4.
+/// What the shed answers to a narrow packet at beat 14, of slot 4. Request 8: "Every rule of a section holds over the
+/// entry's width"; the same packet with wide numbers does the same.
 fn at_14(bytes: &[u8]) -> Result<Received, Refused> {
-    shed().receive(14, bytes)
+    let (mut narrow, mut wide) = (shed(), shed());
+    let answer = narrow.receive(14, bytes);
+    assert_eq!(wide.receive(14, &widened(bytes)), answer);
+    assert_eq!(wide, narrow);
+    answer
 }
 
 fn waits(new_blocks: u64, new_votes: u64) -> Result<Received, Refused> {
@@ -18,7 +23,7 @@ fn brings(new_blocks: u64, new_votes: u64) -> Result<Received, Refused> {
 #[test]
 fn block_rules() {
     // The blocks, and the index of the one that is refused.
-    let wrong: [(&[(u64, u64, u32)], u64); 20] = [
+    let wrong: [(&[(u128, u128, u32)], u64); 20] = [
         // Slot 0 or above the beat's slot.
         (&[(41, 0, 0)], 0),
         (&[(0, 0, 0)], 0),
@@ -51,13 +56,13 @@ fn block_rules() {
     }
     assert_eq!(at_14(&gossip(&[(41, 31, 4)], &[])), waits(1, 0));
     assert_eq!(at_14(&gossip(&[(41, 0, 3), (42, 41, 4)], &[])), waits(2, 0));
-    assert_eq!(at_14(&gossip(&[(41, 0, 1), (42, 0, 1), (u64::MAX, 21, 4)], &[])), waits(3, 0));
+    assert_eq!(at_14(&gossip(&[(41, 0, 1), (42, 0, 1), (u64::MAX.into(), 21, 4)], &[])), waits(3, 0));
 }
 
 #[test]
 fn vote_rules() {
     // The votes, and the index of the one that is refused.
-    let wrong: [(&[(u8, u32, u64)], u64); 11] = [
+    let wrong: [(&[(u8, u32, u128)], u64); 11] = [
         // Voter not below n.
         (&[(5, 4, 31)], 0),
         (&[(255, 4, 31)], 0),

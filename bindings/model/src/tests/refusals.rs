@@ -192,17 +192,33 @@ fn head_deep_fast() {
 fn write() {
     let mut node = shed();
     node.blocks[0].in_view = false;
-    refused(&node, |n| n.write(true, &mut []), 6);
-    refused(&node, |n| n.write(false, &mut []), 6);
+    add_block(&mut node, block(UP + 41, 31, 4));
+    for wide in [false, true] {
+        refused(&node, |n| n.write(true, wide, &mut []), 6);
+        refused(&node, |n| n.write(false, wide, &mut []), 6);
+    }
     node.blocks[0].in_view = true;
-    refused(&node, |n| n.write(true, &mut []), 19);
-    refused(&node, |n| n.write(false, &mut []), 18);
+    for wide in [false, true] {
+        refused(&node, |n| n.write(true, wide, &mut []), 19);
+        refused(&node, |n| n.write(true, wide, &mut [0; 400]), 19);
+    }
+    // Request 8: 23 "after 19 and before 18"; wide writing does not meet it.
+    refused(&node, |n| n.write(false, false, &mut []), 23);
+    refused(&node, |n| n.write(false, false, &mut [0; 400]), 23);
+    refused(&node, |n| n.write(false, true, &mut []), 18);
     node.clock.seen = 15;
-    refused(&node, |n| n.write(true, &mut [0; 200]), 19);
+    refused(&node, |n| n.write(true, false, &mut [0; 400]), 19);
     node.propose(15, 99).unwrap();
-    // 17 bytes, four blocks, five votes.
-    refused(&node, |n| n.write(true, &mut [0; 161]), 18);
-    assert_eq!(node.write(true, &mut [0; 162]), Ok(162));
+    refused(&node, |n| n.write(true, false, &mut []), 23);
+    refused(&node, |n| n.write(true, false, &mut [0; 400]), 23);
+    // 25 bytes, five blocks of 36, five votes of 21.
+    refused(&node, |n| n.write(true, true, &mut [0; 309]), 18);
+    assert_eq!(node.write(true, true, &mut [0; 310]), Ok(310));
+    // Without the upper half 17 bytes, five blocks of 20, five votes of 13. The proposed block stands on this one.
+    assert_eq!(node.blocks[5].parent, UP + 41);
+    (node.blocks[4].number, node.blocks[5].parent) = (41, 41);
+    refused(&node, |n| n.write(true, false, &mut [0; 181]), 18);
+    assert_eq!(node.write(true, false, &mut [0; 182]), Ok(182));
 }
 
 #[test]
@@ -212,8 +228,10 @@ fn write_of_a_proposal() {
     let wrong = |change: fn(&mut Node)| {
         let mut node = node.clone();
         change(&mut node);
-        assert_eq!(node.write(true, &mut []), Err(19));
-        assert!(node.write(false, &mut [0; 300]).is_ok());
+        for wide in [false, true] {
+            assert_eq!(node.write(true, wide, &mut []), Err(19));
+            assert!(node.write(false, wide, &mut [0; 400]).is_ok());
+        }
     };
     wrong(|n| n.clock.seen = 16);
     wrong(|n| n.clock.seen = 17);
@@ -228,4 +246,5 @@ fn write_of_a_proposal() {
     assert_eq!(Packet::decode(&written(&waiting, true)).unwrap().number, 99);
     waiting.blocks[5].in_view = true;
     assert_eq!(Packet::decode(&written(&waiting, true)).unwrap().number, 77);
+    assert_eq!(Packet::decode(&written_wide(&waiting, true)).unwrap().number, 77);
 }

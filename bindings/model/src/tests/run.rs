@@ -1,4 +1,4 @@
-//! A short run of three nodes whose packets go round.
+//! A short run of three nodes whose packets go round. Request 8: "in the run" they "write wide".
 
 use super::*;
 
@@ -15,8 +15,8 @@ impl Run {
     /// Packets of the senders reach the receivers.
     fn send(&mut self, beat: u64, proposer: Option<usize>, awake: &[usize]) {
         let mut packets = Vec::new();
-        packets.extend(proposer.map(|sender| written(&self.nodes[sender], true)));
-        packets.extend(awake.iter().map(|&sender| written(&self.nodes[sender], false)));
+        packets.extend(proposer.map(|sender| written_wide(&self.nodes[sender], true)));
+        packets.extend(awake.iter().map(|&sender| written_wide(&self.nodes[sender], false)));
         for &receiver in awake {
             for packet in &packets {
                 self.nodes[receiver].receive(beat, packet).unwrap();
@@ -25,13 +25,13 @@ impl Run {
     }
 
     /// A slot with the base and the heads that are expected.
-    fn slot(&mut self, slot: u64, awake: &[usize], proposal: Option<(u64, u64)>, heads: &[Result<u64, u32>]) {
+    fn slot(&mut self, slot: u64, awake: &[usize], proposal: Option<(u128, u128)>, heads: &[Result<u128, u32>]) {
         let proposer = (slot % 3) as usize;
         if let Some((number, base)) = proposal {
             assert_eq!(self.nodes[proposer].propose(3 * slot, number), Ok(base), "base of slot {slot}");
         }
         self.send(3 * slot, proposal.map(|_| proposer), awake);
-        let votes: Vec<Result<u64, u32>> = awake.iter().map(|&node| self.nodes[node].vote(3 * slot + 1)).collect();
+        let votes: Vec<Result<u128, u32>> = awake.iter().map(|&node| self.nodes[node].vote(3 * slot + 1)).collect();
         assert_eq!(votes, heads, "votes of slot {slot}");
         self.send(3 * slot + 1, None, awake);
         for &node in awake {
@@ -63,11 +63,13 @@ fn three_nodes() {
         assert_eq!((node.head(4), node.deep(4), node.fast(4)), (Ok(104), Ok(102), Ok(None)));
         assert_eq!(node.clock, Clock { seen: 14, done: 14, merged: 4, proposed: 4 });
     }
-    run.slot(5, &all, Some((105, 104)), &[Ok(105); 3]);
-    run.slot(6, &all, Some((106, 105)), &[Ok(106); 3]);
+    // The number maker now issues numbers that have an upper half.
+    let (five, six) = (UP + 102, u128::MAX);
+    run.slot(5, &all, Some((five, 104)), &[Ok(five); 3]);
+    run.slot(6, &all, Some((six, five)), &[Ok(six); 3]);
     for node in &run.nodes {
-        assert_eq!((node.head(6), node.deep(6), node.fast(6)), (Ok(106), Ok(105), Ok(Some(106))));
-        assert_eq!(blocks_in_view(node), [0, 101, 102, 104, 105, 106]);
+        assert_eq!((node.head(6), node.deep(6), node.fast(6)), (Ok(six), Ok(five), Ok(Some(six))));
+        assert_eq!(blocks_in_view(node), [0, 101, 102, 104, five, six]);
         // Slots 4, 5 and 6 of three votes, without node 0 in slot 4.
         assert_eq!(node.votes_used, 8);
     }

@@ -3,7 +3,7 @@
 use super::*;
 
 /// Base is not a call of its own: Propose answers it. Node 3 proposes slot 3 on the shed's stock.
-fn base_for_3(mut node: Node) -> u64 {
+fn base_for_3(mut node: Node) -> u128 {
     node.settings.own = 3;
     node.clock = Clock { seen: 9, done: 8, merged: 2, proposed: 0 };
     node.propose(9, 99).unwrap()
@@ -119,7 +119,7 @@ fn window_of_the_head() {
     add_block(&mut node, block(5, 0, 1));
     add_block(&mut node, block(6, 0, 1));
     add_vote(&mut node, vote(0, 3, 6));
-    let heads: Vec<u64> = (1..=7).map(|slot| node.head(slot).unwrap()).collect();
+    let heads: Vec<u128> = (1..=7).map(|slot| node.head(slot).unwrap()).collect();
     assert_eq!(heads, [5, 5, 5, 6, 6, 5, 5]);
 }
 

@@ -24,8 +24,10 @@ fn unsound(change: impl Fn(&mut Node)) {
     assert_eq!(node.deep(4), Err(6));
     assert_eq!(node.fast(4), Err(6));
     let mut buffer = [7; 300];
-    assert_eq!(node.write(false, &mut buffer), Err(6));
-    assert_eq!(node.write(true, &mut buffer), Err(6));
+    for wide in [false, true] {
+        assert_eq!(node.write(false, wide, &mut buffer), Err(6));
+        assert_eq!(node.write(true, wide, &mut buffer), Err(6));
+    }
     assert_eq!(buffer, [7; 300]);
     assert_eq!(node, before);
 }
@@ -33,7 +35,7 @@ fn unsound(change: impl Fn(&mut Node)) {
 fn still_sound(change: impl Fn(&mut Node)) {
     let mut node = sound();
     change(&mut node);
-    assert!(node.write(false, &mut [0; 300]).is_ok());
+    assert!(node.write(false, true, &mut [0; 400]).is_ok());
 }
 
 #[test]
@@ -83,7 +85,9 @@ fn block_0_stands_first() {
         n.votes_used = 0;
     });
     unsound(|n| n.blocks[0].number = 1);
+    unsound(|n| n.blocks[0].number = UP);
     unsound(|n| n.blocks[0].parent = 1);
+    unsound(|n| n.blocks[0].parent = UP);
     unsound(|n| n.blocks[0].slot = 1);
     unsound(|n| {
         // Nothing else is in view, so that this is the only flaw.
@@ -100,9 +104,17 @@ fn blocks() {
     unsound(|n| add_block(n, block(41, 31, 4)));
     unsound(|n| add_block(n, block(21, 0, 3)));
     unsound(|n| add_block(n, block(0, 0, 1)));
+    still_sound(|n| add_block(n, block(UP, 0, 1)));
+    still_sound(|n| add_block(n, block(UP + 41, 21, 4)));
+    unsound(|n| {
+        add_block(n, block(UP + 41, 21, 4));
+        add_block(n, block(UP + 41, 21, 4));
+    });
     // "every other block's parent stands earlier with a lower slot"
     unsound(|n| add_block(n, block(42, 99, 4)));
     unsound(|n| add_block(n, block(42, 42, 4)));
+    unsound(|n| add_block(n, block(42, UP + 21, 4)));
+    unsound(|n| add_block(n, block(42, UP, 4)));
     unsound(|n| n.blocks.swap(3, 4));
     unsound(|n| add_block(n, block(42, 21, 2)));
     unsound(|n| add_block(n, block(42, 0, 0)));
@@ -127,6 +139,8 @@ fn votes() {
     still_sound(|n| add_vote(n, vote(0, 1, 0)));
     // "a known block whose slot is not above the vote's"
     unsound(|n| add_vote(n, vote(0, 4, 99)));
+    unsound(|n| add_vote(n, vote(0, 4, UP + 11)));
+    unsound(|n| add_vote(n, vote(0, 4, UP)));
     unsound(|n| add_vote(n, vote(0, 1, 21)));
     still_sound(|n| add_vote(n, vote(0, 2, 21)));
     // "no entry's slot is above" the slot seen
@@ -137,6 +151,10 @@ fn votes() {
     unsound(|n| add_vote(n, vote(1, 2, 21)));
     unsound(|n| add_vote(n, Vote { in_view: false, ..vote(1, 2, 21) }));
     still_sound(|n| add_vote(n, vote(1, 2, 11)));
+    still_sound(|n| {
+        add_block(n, block(UP + 21, 0, 2));
+        add_vote(n, vote(1, 2, UP + 21));
+    });
     // "a vote in view its block"
     unsound(|n| n.votes[3].in_view = true);
     still_sound(|n| n.votes[0].in_view = false);

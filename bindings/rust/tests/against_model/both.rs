@@ -1,9 +1,9 @@
 //! One node twice: the proved library and the model. Every call is made on both, and all that it leaves is compared.
 //!
-//! The model has tables of blocks and votes. How tables are lent, four words to a row, is said here: the model does not know it.
+//! The model has tables of blocks and votes. How tables are lent, which words a row has, is said here: the model does not know it.
 
 use crate::old_votes::Removed;
-use likvost::{Clock, Memory, Node, Settings};
+use likvost::{Clock, Memory, Node, Settings, Width, BLOCK_WORDS, VOTE_WORDS};
 use likvost_model as model;
 use std::fmt::Debug;
 
@@ -12,13 +12,13 @@ use std::fmt::Debug;
 pub enum Call {
     Open,
     Receive { beat: u64, packet: Vec<u8> },
-    Propose { beat: u64, number: u64 },
+    Propose { beat: u64, number: u128 },
     Vote { beat: u64 },
     Merge { beat: u64 },
     Head { slot: u64 },
     Deep { slot: u64 },
     Fast { slot: u64 },
-    Write { proposal: bool },
+    Write { proposal: bool, wide: bool },
 }
 
 impl Call {
@@ -45,7 +45,7 @@ impl Call {
 pub enum Answer {
     Done,
     Received { new_blocks: u64, new_votes: u64, brought: bool },
-    Block(u64),
+    Block(u128),
     Nothing,
     Length(usize),
 }
@@ -59,8 +59,8 @@ pub type Reply = Result<Answer, Refused>;
 /// Memory of zeros with so many places. It is not sound before Open.
 pub fn zeroed(block_places: usize, vote_places: usize) -> Memory {
     Memory {
-        blocks: vec![0; 4 * block_places],
-        votes: vec![0; 4 * vote_places],
+        blocks: vec![0; BLOCK_WORDS * block_places],
+        votes: vec![0; VOTE_WORDS * vote_places],
         blocks_used: 0,
         votes_used: 0,
         clock: Clock::default(),
@@ -84,7 +84,8 @@ impl Both {
     pub fn new(settings: Settings, memory: Memory) -> Both {
         Both {
             model: modelled(settings, &memory),
-            readable: marks(&memory.blocks, memory.blocks_used) && marks(&memory.votes, memory.votes_used),
+            readable: marks::<BLOCK_WORDS>(&memory.blocks, memory.blocks_used)
+                && marks::<VOTE_WORDS>(&memory.votes, memory.votes_used),
             lent: memory.clone(),
             proved: Node::from_memory(settings, memory),
             removed: Removed::default(),
@@ -98,6 +99,11 @@ impl Both {
     /// The memory, which is the same on both sides.
     pub fn memory(&self) -> &Memory {
         &self.lent
+    }
+
+    /// Whether every mark of the used rows is 0 or 1.
+    pub fn is_readable(&self) -> bool {
+        self.readable
     }
 
     /// Makes the call on both. The buffer is Write's. Says what differs.
@@ -136,7 +142,10 @@ impl Both {
             Call::Head { slot } => node.head(*slot).map(Answer::Block),
             Call::Deep { slot } => node.deep(*slot).map(Answer::Block),
             Call::Fast { slot } => node.fast(*slot).map(|found| found.map_or(Answer::Nothing, Answer::Block)),
-            Call::Write { proposal } => node.write(*proposal, buffer).map(Answer::Length),
+            Call::Write { proposal, wide } => {
+                let width = if *wide { Width::Wide } else { Width::Narrow };
+                node.write(*proposal, width, buffer).map(Answer::Length)
+            }
         };
         reply.map_err(|refusal| (u64::from(refusal.number()), refusal.index()))
     }
@@ -157,7 +166,7 @@ impl Both {
             Call::Head { slot } => node.head(*slot).map(Answer::Block).map_err(whole),
             Call::Deep { slot } => node.deep(*slot).map(Answer::Block).map_err(whole),
             Call::Fast { slot } => node.fast(*slot).map(|found| found.map_or(Answer::Nothing, Answer::Block)).map_err(whole),
-            Call::Write { proposal } => node.write(*proposal, buffer).map(Answer::Length).map_err(whole),
+            Call::Write { proposal, wide } => node.write(*proposal, *wide, buffer).map(Answer::Length).map_err(whole),
         };
         if reply.is_ok() {
             if let Call::Open = call {
@@ -174,12 +183,14 @@ impl Both {
     fn store(&mut self) {
         let (node, lent) = (&self.model, &mut self.lent);
         let blocks = node.blocks.iter().take(node.blocks_used.max(lent.blocks_used));
-        for (row, b) in lent.blocks.chunks_exact_mut(4).zip(blocks) {
-            row.copy_from_slice(&[b.number, b.parent, b.slot, u64::from(b.in_view)]);
+        for (row, b) in lent.blocks.chunks_exact_mut(BLOCK_WORDS).zip(blocks) {
+            let ([number, number_upper], [parent, parent_upper]) = (halves(b.number), halves(b.parent));
+            row.copy_from_slice(&[number, number_upper, parent, parent_upper, b.slot, u64::from(b.in_view)]);
         }
         let votes = node.votes.iter().take(node.votes_used.max(lent.votes_used));
-        for (row, v) in lent.votes.chunks_exact_mut(4).zip(votes) {
-            row.copy_from_slice(&[v.voter, v.slot, v.number, u64::from(v.in_view)]);
+        for (row, v) in lent.votes.chunks_exact_mut(VOTE_WORDS).zip(votes) {
+            let [number, number_upper] = halves(v.number);
+            row.copy_from_slice(&[v.voter, v.slot, number, number_upper, u64::from(v.in_view)]);
         }
         lent.blocks_used = node.blocks_used;
         lent.votes_used = node.votes_used;
@@ -195,26 +206,50 @@ pub fn modelled(settings: Settings, memory: &Memory) -> model::Node {
     model::Node {
         settings: model::Settings { nodes, own, expiry, depth },
         clock: model::Clock { seen, done, merged, proposed },
-        blocks: places(&memory.blocks, memory.blocks_used)
-            .map(|[number, parent, slot, mark]| model::Block { number, parent, slot, in_view: mark == 1 })
-            .collect(),
+        blocks: places(&memory.blocks, memory.blocks_used).map(block).collect(),
         blocks_used: memory.blocks_used,
-        votes: places(&memory.votes, memory.votes_used)
-            .map(|[voter, slot, number, mark]| model::Vote { voter, slot, number, in_view: mark == 1 })
-            .collect(),
+        votes: places(&memory.votes, memory.votes_used).map(vote).collect(),
         votes_used: memory.votes_used,
     }
 }
 
-/// The rows of a table, zero in unused places. A length that is no multiple of four is no table's, and has no places.
-fn places(words: &[u64], used: usize) -> impl Iterator<Item = [u64; 4]> + '_ {
-    let words = if words.len() % 4 == 0 { words } else { &[] };
-    words.chunks_exact(4).enumerate().map(move |(i, row)| if i < used { [row[0], row[1], row[2], row[3]] } else { [0; 4] })
+/// The rows of a table, zero in unused places. A length that is no multiple of a row's is no table's, and has no places.
+fn places<const WORDS: usize>(words: &[u64], used: usize) -> impl Iterator<Item = [u64; WORDS]> + '_ {
+    let words = if words.len() % WORDS == 0 { words } else { &[] };
+    words.chunks_exact(WORDS).enumerate().map(move |(i, row)| if i < used { row.try_into().unwrap() } else { [0; WORDS] })
 }
 
 /// Whether the marks of the used rows are 0 or 1.
-fn marks(words: &[u64], used: usize) -> bool {
-    places(words, used).all(|row| row[3] <= 1)
+fn marks<const WORDS: usize>(words: &[u64], used: usize) -> bool {
+    places::<WORDS>(words, used).all(|row| row[WORDS - 1] <= 1)
+}
+
+fn block([number, number_upper, parent, parent_upper, slot, mark]: [u64; BLOCK_WORDS]) -> model::Block {
+    model::Block { number: number_of(number, number_upper), parent: number_of(parent, parent_upper), slot, in_view: mark == 1 }
+}
+
+fn vote([voter, slot, number, number_upper, mark]: [u64; VOTE_WORDS]) -> model::Vote {
+    model::Vote { voter, slot, number: number_of(number, number_upper), in_view: mark == 1 }
+}
+
+/// The used rows of the block table.
+pub fn blocks(memory: &Memory) -> impl Iterator<Item = model::Block> + '_ {
+    places(&memory.blocks, memory.blocks_used).take(memory.blocks_used).map(block)
+}
+
+/// The used rows of the vote table.
+pub fn votes(memory: &Memory) -> impl Iterator<Item = model::Vote> + '_ {
+    places(&memory.votes, memory.votes_used).take(memory.votes_used).map(vote)
+}
+
+/// The number with these halves.
+pub fn number_of(lower: u64, upper: u64) -> u128 {
+    u128::from(lower) | u128::from(upper) << 64
+}
+
+/// The lower and the upper half of a number.
+pub fn halves(number: u128) -> [u64; 2] {
+    [number as u64, (number >> 64) as u64]
 }
 
 fn same<T: PartialEq + Debug>(what: &str, proved: &T, model: &T) -> Result<(), String> {

@@ -4,8 +4,13 @@ use crate::both::{zeroed, Answer, Both, Call};
 use crate::packets::gossip;
 use crate::random::Random;
 use crate::world::Run;
-use likvost::Settings;
-use likvost_model::{PacketBlock, PacketVote};
+use likvost::{Settings, LARGEST_PACKET};
+use likvost_model::{Packet, PacketBlock, PacketVote};
+
+/// The number of block i. Sixteen blocks in a row have one upper half, and every sixteenth block has the same lower half.
+fn number(i: u64) -> u128 {
+    u128::from(i) << 60
+}
 
 /// So many blocks, four to a slot, each on a random one of the slot before.
 fn blocks(random: &mut Random, count: u64) -> Vec<PacketBlock> {
@@ -13,7 +18,7 @@ fn blocks(random: &mut Random, count: u64) -> Vec<PacketBlock> {
         .map(|i| {
             let slot = 1 + i / 4;
             let parent = if slot == 1 { 0 } else { 1 + 4 * (slot - 2) + random.below(4) };
-            PacketBlock { number: 1 + i, parent, slot: slot as u32 }
+            PacketBlock { number: number(1 + i), parent: number(parent), slot: slot as u32 }
         })
         .collect()
 }
@@ -23,9 +28,20 @@ fn votes(random: &mut Random, voters: u64, count: u64, from: u64) -> Vec<PacketV
     (0..count)
         .map(|i| {
             let slot = from + i / voters;
-            PacketVote { voter: (i % voters) as u8, slot: slot as u32, number: random.between(1, 2047.min(4 * slot)) }
+            let block = random.between(1, 2047.min(4 * slot));
+            PacketVote { voter: (i % voters) as u8, slot: slot as u32, number: number(block) }
         })
         .collect()
+}
+
+/// The narrow packet of the same entries, where block i has the number i.
+fn narrow(mut packet: Packet) -> Packet {
+    packet.kind -= 2;
+    for block in &mut packet.blocks {
+        (block.number, block.parent) = (block.number >> 60, block.parent >> 60);
+    }
+    packet.votes.iter_mut().for_each(|vote| vote.number >>= 60);
+    packet
 }
 
 #[test]
@@ -33,11 +49,22 @@ fn largest_tables() {
     let random = &mut Random::new(5);
     let mut run = Run::new(5);
     // 2,047 blocks reach to slot 512; 64 voters in the 128 slots up to it cast 8,192 votes.
-    let packet = gossip(blocks(random, 2047), votes(random, 64, 8192, 385)).encode();
+    let packet = gossip(blocks(random, 2047), votes(random, 64, 8192, 385));
+    let (largest, largest_narrow) = (packet.encode(), narrow(packet).encode());
+    assert_eq!((largest.len(), largest_narrow.len()), (LARGEST_PACKET, 147_453));
     let slot = 512;
     let beat = 3 * slot + 1;
-    // one place too few for the blocks, then for the votes, then enough
-    for (block_places, vote_places, refusal) in [(2047, 8192, Some(10)), (2048, 8191, Some(10)), (2048, 8192, None)] {
+    // one place too few for the blocks, then for the votes, then enough; and so for the narrow packet
+    let cases = [
+        (2047, 8192, true, Some(10)),
+        (2048, 8191, true, Some(10)),
+        (2048, 8192, true, None),
+        (2047, 8192, false, Some(10)),
+        (2048, 8191, false, Some(10)),
+        (2048, 8192, false, None),
+    ];
+    for (block_places, vote_places, wide, refusal) in cases {
+        let packet = if wide { &largest } else { &largest_narrow };
         let settings = Settings { nodes: 64, own: 3, expiry: 200, depth: 40 };
         let mut node = Both::new(settings, zeroed(block_places, vote_places));
         let mut make = |call: Call, buffer: &mut [u8]| run.make(&mut node, &call, buffer);
@@ -50,9 +77,13 @@ fn largest_tables() {
         assert_eq!(received, Ok(Answer::Received { new_blocks: 2047, new_votes: 8192, brought: false }));
         assert_eq!(make(Call::Merge { beat: beat + 1 }, &mut []), Ok(Answer::Done));
         let mut buffer = vec![0; packet.len() + 3];
-        assert_eq!(make(Call::Write { proposal: false }, &mut buffer), Ok(Answer::Length(packet.len())));
-        assert_eq!(buffer[..packet.len()], packet);
-        assert_eq!(make(Call::Write { proposal: false }, &mut vec![0; packet.len() - 1]), Err((18, None)));
+        let write = |wide| Call::Write { proposal: false, wide };
+        assert_eq!(make(write(wide), &mut buffer), Ok(Answer::Length(packet.len())));
+        assert_eq!(buffer[..packet.len()], packet[..]);
+        assert_eq!(make(write(wide), &mut vec![0; packet.len() - 1]), Err((18, None)));
+        // in the other width
+        let other = if wide { Err((23, None)) } else { Ok(Answer::Length(LARGEST_PACKET)) };
+        assert_eq!(make(write(!wide), &mut vec![0; LARGEST_PACKET]), other);
         for question in [|slot| Call::Head { slot }, |slot| Call::Deep { slot }, |slot| Call::Fast { slot }] {
             assert!(matches!(make(question(slot), &mut []), Ok(Answer::Block(_))));
             assert_eq!(make(question(slot - 1), &mut []), Err((17, None)));
@@ -113,12 +144,12 @@ fn longer_than_honest() {
     let known = (blocks(random, 1250), votes(random, 64, 4000, 250));
     let answer = receive(known.0.clone(), known.1.clone());
     assert_eq!(answer, Ok(Answer::Received { new_blocks: 1250, new_votes: 4000, brought: false }));
-    // more blocks than there are places, and one that is bad far behind
+    // more blocks than there are places, with the lower halves of known ones, and one that is bad far behind
     let many = blocks(random, 5000);
     let mut other = known.0.clone();
-    other.extend(many[1250..].iter().map(|block| PacketBlock { number: block.number + 10_000, parent: 0, ..*block }));
+    other.extend(many[1250..].iter().map(|block| PacketBlock { number: block.number + (10_000 << 64), parent: 0, ..*block }));
     assert_eq!(receive(other.clone(), Vec::new()), Err((10, None)));
-    other[4990].parent = 99_999;
+    other[4990].parent = known.0[0].number + (99_999 << 64);
     assert_eq!(receive(other.clone(), Vec::new()), Err((9, Some(4990))));
     // a block that stands twice, with another slot the second time, far behind
     other[4990] = PacketBlock { slot: other[4980].slot + 1, ..other[4980] };
@@ -128,11 +159,12 @@ fn longer_than_honest() {
     let blocks: Vec<PacketBlock> = known.0.iter().cycle().take(6000).copied().collect();
     let answer = receive(blocks.clone(), all.clone());
     assert_eq!(answer, Ok(Answer::Received { new_blocks: 0, new_votes: 0, brought: false }));
-    all.push(PacketVote { voter: 63, slot: 1300, number: 1000 });
-    all.push(PacketVote { voter: 63, slot: 1300, number: 1000 });
+    let vote = PacketVote { voter: 63, slot: 1300, number: number(1000) };
+    all.push(vote);
+    all.push(vote);
     let answer = receive(blocks.clone(), all.clone());
     assert_eq!(answer, Ok(Answer::Received { new_blocks: 0, new_votes: 1, brought: false }));
-    // a bad vote behind all these
-    all.push(PacketVote { voter: 64, slot: 1300, number: 1000 });
+    // a bad vote behind all these: its block is known by its lower half alone
+    all.push(PacketVote { number: vote.number + (99_999 << 64), ..vote });
     assert_eq!(receive(blocks, all), Err((20, Some(20_002))));
 }

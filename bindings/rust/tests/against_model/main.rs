@@ -12,6 +12,7 @@ mod full;
 mod old_votes;
 mod packets;
 mod random;
+mod wide;
 mod world;
 
 use both::Call;
@@ -35,7 +36,7 @@ const REPLIES: [&[usize]; 9] = [
     &[0, 6, 17],
     &[0, 6, 17],
     &[0, 6, 17],
-    &[0, 6, 19, 18],
+    &[0, 6, 19, 23, 18],
 ];
 
 #[test]
@@ -50,12 +51,13 @@ fn random_calls() {
         World::new(&mut run, random).go(calls);
     }
     for (name, replies) in Call::NAMES.iter().zip(&run.replies) {
-        let refused: Vec<String> = (1..22).filter(|&k| replies[k] > 0).map(|k| format!("{k}: {}", replies[k])).collect();
+        let refused: Vec<String> = (1..24).filter(|&k| replies[k] > 0).map(|k| format!("{k}: {}", replies[k])).collect();
         println!("{name}: {} carried out; refused by {}", replies[0], refused.join(", "));
     }
     println!("{} proposals came into view on arrival, {} fast blocks", run.brought, run.fast);
     println!("the largest index of a refused block {}, of a refused vote {}", run.deepest[0], run.deepest[1]);
-    for (what, times) in run.old_votes.list() {
+    let met = [&run.old_votes.list()[..], &run.wide.list()].concat();
+    for (what, times) in &met {
         println!("{what}: {times}");
     }
     if calls >= 100_000 {
@@ -66,7 +68,7 @@ fn random_calls() {
         }
         assert!(run.brought > 0 && run.fast > 0);
         assert!(run.deepest.iter().all(|&index| index >= 2), "refused entries stand deep in their sections too");
-        for (what, times) in run.old_votes.list() {
+        for (what, times) in met {
             assert!(times >= calls / 1_000, "{what}: {times} in {calls} calls");
         }
     }

@@ -1,7 +1,7 @@
 //! How often the calls of a test meet what request 4 says of old votes. A comparison that seldom meets a rule shows little of it.
 
-use crate::both::{modelled, Answer, Both, Call, Reply};
-use likvost::{Memory, Settings};
+use crate::both::{blocks, modelled, votes, Answer, Both, Call, Reply};
+use likvost::{Memory, Settings, VOTE_WORDS};
 use likvost_model::{Packet, PacketVote};
 use std::collections::HashSet;
 
@@ -106,7 +106,7 @@ impl OldVotes {
             if after.votes_used > before.votes_used {
                 let freed = after.votes_used.min(node.removed.places).saturating_sub(before.votes_used);
                 self.in_freed_places += freed as u64;
-                self.room_by_removal += u64::from(after.votes_used + node.removed.votes > after.votes.len() / 4);
+                self.room_by_removal += u64::from(after.votes_used + node.removed.votes > after.votes.len() / VOTE_WORDS);
             }
         }
     }
@@ -128,7 +128,7 @@ impl OldVotes {
     }
 
     fn count_accepted(&mut self, before: &Memory, old: Old, packet: &Packet, new_votes: usize) {
-        let blocks: HashSet<u64> = before.blocks.chunks_exact(4).take(before.blocks_used).map(|row| row[0]).collect();
+        let blocks: HashSet<u128> = blocks(before).map(|block| block.number).collect();
         let stock: HashSet<_> = votes(before).map(|vote| (vote.voter, vote.slot, vote.number)).collect();
         let mut unknown = HashSet::new();
         let mut late_block = false;
@@ -146,13 +146,13 @@ impl OldVotes {
             }
         }
         self.block_without_vote += u64::from(late_block);
-        let free = before.votes.len() / 4 - before.votes_used;
+        let free = before.votes.len() / VOTE_WORDS - before.votes_used;
         self.room_by_not_counting += u64::from(new_votes + unknown.len() > free);
     }
 
     fn count_brought(&mut self, node: &Both, before: &Memory, old: Old, beat: u64, mut packet: Packet) {
         self.brought += 1;
-        let in_view = |memory: &Memory| memory.blocks.chunks_exact(4).take(memory.blocks_used).filter(|row| row[3] == 1).count();
+        let in_view = |memory: &Memory| blocks(memory).filter(|block| block.in_view).count();
         packet.votes.retain(|vote| !old.is(vote.slot.into()));
         let mut without = modelled(node.settings(), before);
         without.receive(beat, &packet.encode()).expect("it is accepted with more votes");
@@ -178,17 +178,4 @@ impl Old {
     fn is(self, slot: u64) -> bool {
         slot < self.end
     }
-}
-
-struct Row {
-    voter: u64,
-    slot: u64,
-    number: u64,
-    in_view: bool,
-}
-
-/// The used rows of the vote table.
-fn votes(memory: &Memory) -> impl Iterator<Item = Row> + '_ {
-    let rows = memory.votes.chunks_exact(4).take(memory.votes_used);
-    rows.map(|row| Row { voter: row[0], slot: row[1], number: row[2], in_view: row[3] == 1 })
 }

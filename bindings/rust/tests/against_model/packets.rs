@@ -1,26 +1,65 @@
 //! Packets for a node: made to fit what it knows, or nearly, and damaged ones.
 
+use crate::both::{blocks, halves, number_of, votes};
 use crate::random::Random;
 use likvost::{Memory, Settings};
-use likvost_model::{Packet, PacketBlock, PacketVote};
+use likvost_model::{Block, Packet, PacketBlock, PacketVote, Vote};
+
+/// Which numbers the blocks of a network have.
+#[derive(Clone, Copy, PartialEq)]
+pub enum Numbers {
+    /// Old ones: no upper half.
+    Old,
+    /// Any, and many that have one half in common.
+    Any,
+}
+
+impl Numbers {
+    /// A number, mostly a new one. Its lower half is from `low` to `high`, 0, or that of a known block.
+    pub fn draw(self, random: &mut Random, low: u64, high: u64, known: &[Block]) -> u128 {
+        let lower = random.between(low, high);
+        if self == Numbers::Old {
+            return number_of(lower, 0);
+        }
+        let upper = match random.below(8) {
+            0..=2 => 0,
+            3..=5 => random.between(1, 3),
+            6 => random.between(1, 400),
+            _ => random.word(),
+        };
+        match random.below(5) {
+            0 => number_of(0, upper.max(random.between(1, 400))),
+            1 | 2 => {
+                let known = random.pick(known).number;
+                twin(random, known)
+            }
+            _ => number_of(lower, upper),
+        }
+    }
+}
+
+/// The number with the same lower half and another upper half.
+fn twin(random: &mut Random, of: u128) -> u128 {
+    of ^ number_of(0, random.between(1, 3))
+}
 
 /// Blocks and votes on what the node knows, most of them allowed at this beat.
-pub fn made(random: &mut Random, settings: Settings, memory: &Memory, beat: u64) -> Packet {
+pub fn made(random: &mut Random, numbers: Numbers, settings: Settings, memory: &Memory, beat: u64) -> Vec<u8> {
     let now = slot_of(beat);
     let first = first_kept(settings, memory);
-    let mut known = rows(&memory.blocks, memory.blocks_used);
+    let mut known = known_blocks(memory);
     let mut blocks = Vec::new();
     for _ in 0..random.pick(&[0, 0, 1, 1, 2, 3, 5]) {
         if random.once_in(5) {
             // one that is known already, as it stands or with another slot
-            let [number, parent, slot] = known[random.below(known.len() as u64) as usize];
+            let Block { number, parent, slot, .. } = random.pick(&known);
             let slot = if random.once_in(12) { slot.wrapping_add(1) } else { slot };
             if slot > 0 {
                 blocks.push(PacketBlock { number, parent, slot: slot as u32 });
             }
             continue;
         }
-        let [parent, _, above] = known[known.len() - 1 - random.below(known.len().min(6) as u64) as usize];
+        let Block { number: parent, slot: above, .. } = known[known.len() - 1 - random.below(known.len().min(6) as u64) as usize];
         let slot = match random.below(40) {
             0 => 0,
             1 => above,
@@ -29,17 +68,22 @@ pub fn made(random: &mut Random, settings: Settings, memory: &Memory, beat: u64)
             _ => random.between(above.saturating_add(1).min(now), now),
         };
         let number = match random.below(20) {
-            0 => random.word(),
-            1 => known[random.below(known.len() as u64) as usize][0],
-            _ => random.between(1, 400),
+            0 => random.word().into(),
+            1 => random.pick(&known).number,
+            _ => numbers.draw(random, 1, 400, &known),
         };
-        let parent = if random.once_in(60) { random.between(1, 400) } else { parent };
+        let parent = match random.below(60) {
+            0 => random.between(1, 400).into(),
+            1 | 2 => twin(random, parent),
+            _ => parent,
+        };
         blocks.push(PacketBlock { number, parent, slot: slot as u32 });
-        known.push([number, parent, slot]);
+        known.push(Block { number, parent, slot, in_view: false });
     }
+    let held: Vec<_> = votes(memory).collect();
     let mut votes = Vec::new();
     for _ in 0..random.pick(&[0, 0, 1, 2, 3, 6]) {
-        let [number, _, from] = known[random.below(known.len() as u64) as usize];
+        let Block { number, slot: from, .. } = random.pick(&known);
         let slot = match random.below(40) {
             0 => 0,
             1 => now + 1,
@@ -51,8 +95,23 @@ pub fn made(random: &mut Random, settings: Settings, memory: &Memory, beat: u64)
             _ => random.between(from.min(now), now),
         };
         let voter = if random.once_in(60) { settings.nodes } else { random.below(settings.nodes) };
-        let number = if random.once_in(60) { random.word() } else { number };
-        let vote = PacketVote { voter: voter as u8, slot: slot as u32, number };
+        let voted = match random.below(60) {
+            0 => random.word().into(),
+            1 | 2 => twin(random, number),
+            _ => number,
+        };
+        let mut vote = PacketVote { voter: voter as u8, slot: slot as u32, number: voted };
+        if !held.is_empty() && random.once_in(5) {
+            // one that is known already
+            vote = packet_vote(random.pick(&held));
+        }
+        let twins = |block: &&Block| block.number != vote.number && block.number as u64 == vote.number as u64;
+        match known.iter().find(twins) {
+            // and one for a block with the same lower half, or this one alone
+            Some(block) if random.once_in(2) => votes.push(PacketVote { number: block.number, ..vote }),
+            Some(block) if random.once_in(2) => vote.number = block.number,
+            _ => {}
+        }
         votes.push(vote);
         if random.once_in(15) {
             votes.push(vote);
@@ -60,46 +119,77 @@ pub fn made(random: &mut Random, settings: Settings, memory: &Memory, beat: u64)
     }
     if random.once_in(10) {
         // all vote for one block
-        let [number, _, from] = known[known.len() - 1];
+        let Block { number, slot: from, .. } = known[known.len() - 1];
         let slot = from.max(now);
         votes.extend((0..settings.nodes).map(|voter| PacketVote { voter: voter as u8, slot: slot as u32, number }));
     }
-    match blocks.last().copied() {
+    let packet = match blocks.last().copied() {
         Some(last) if random.once_in(2) => {
-            let named = if random.once_in(4) { blocks[random.below(blocks.len() as u64) as usize] } else { last };
-            let number = if random.once_in(20) { random.between(0, 400) } else { named.number };
+            let named = if random.once_in(4) { random.pick(&blocks) } else { last };
+            let number = match random.below(20) {
+                0 => random.between(0, 400).into(),
+                1..=4 => twin(random, named.number),
+                _ => named.number,
+            };
             let slot = if random.once_in(20) { named.slot.wrapping_add(1) } else { named.slot };
-            Packet { kind: 1, slot, number, blocks, votes }
+            Packet { kind: 3, slot, number, blocks, votes }
+        }
+        _ if random.once_in(25) => {
+            // what is zero in gossip is not
+            let (slot, number) = random.pick(&[(1, 0), (1 << 31, 0), (0, 1), (0, 1 << 63), (0, 1 << 64), (0, 1 << 127)]);
+            Packet { slot, number, ..gossip(blocks, votes) }
         }
         _ => gossip(blocks, votes),
-    }
+    };
+    encoded(random, packet)
 }
 
 /// Gossip with a late block, of a slot whose votes are old, and then the proposal of the beat's slot with an old vote for that block. The
 /// proposal also carries the old votes that the table holds. None if no slot is old.
-pub fn with_old_votes(random: &mut Random, settings: Settings, memory: &Memory, beat: u64) -> Option<[Packet; 2]> {
+pub fn with_old_votes(
+    random: &mut Random,
+    numbers: Numbers,
+    settings: Settings,
+    memory: &Memory,
+    beat: u64,
+) -> Option<[Vec<u8>; 2]> {
     let (first, now) = (first_kept(settings, memory), slot_of(beat));
     if first < 2 || first > now {
         return None;
     }
+    let known = known_blocks(memory);
     let slot = random.between(1, first - 1);
-    let late = PacketBlock { number: random.between(401, 800), parent: 0, slot: slot as u32 };
+    let late = PacketBlock { number: numbers.draw(random, 401, 800, &known), parent: 0, slot: slot as u32 };
     let vote = PacketVote {
         voter: random.below(settings.nodes) as u8,
         slot: random.between(slot, first - 1) as u32,
         number: late.number,
     };
-    let [parent, _, _] = random.pick(&rows(&memory.blocks, memory.blocks_used));
-    let proposed = PacketBlock { number: random.between(801, 1_200), parent, slot: now as u32 };
-    let held = rows(&memory.votes, memory.votes_used).into_iter().filter(|&[_, slot, _]| slot > 0 && slot < first);
+    let parent = random.pick(&known).number;
+    let proposed = PacketBlock { number: numbers.draw(random, 801, 1_200, &known), parent, slot: now as u32 };
+    let held = votes(memory).filter(|vote| vote.slot > 0 && vote.slot < first);
     let mut votes = vec![vote];
-    votes.extend(held.map(|[voter, slot, number]| PacketVote { voter: voter as u8, slot: slot as u32, number }));
+    votes.extend(held.map(packet_vote));
     if random.once_in(8) {
         votes.push(PacketVote { voter: settings.nodes as u8, ..vote });
     }
-    let proposal = Packet { kind: 1, slot: proposed.slot, number: proposed.number, blocks: vec![proposed], votes };
+    let proposal = Packet { kind: 3, slot: proposed.slot, number: proposed.number, blocks: vec![proposed], votes };
     let with_late = if random.once_in(2) { vec![vote] } else { Vec::new() };
-    Some([gossip(vec![late], with_late), proposal])
+    Some([encoded(random, gossip(vec![late], with_late)), encoded(random, proposal)])
+}
+
+/// Gossip with two blocks that have the lower half in common and a vote for the first, and then the proposal of the beat's slot with the same
+/// voter's vote for the second. So the first and its vote wait when the second comes into view.
+pub fn with_twins(random: &mut Random, settings: Settings, memory: &Memory, beat: u64) -> [Vec<u8>; 2] {
+    let now = slot_of(beat);
+    let number = number_of(random.pick(&[0, 1, 400, 1 << 63]), random.between(401, 800));
+    let twins = [number, twin(random, number)].map(|number| PacketBlock { number, parent: 0, slot: now as u32 });
+    let voter = random.below(settings.nodes) as u8;
+    let [first, second] = twins.map(|block| PacketVote { voter, slot: block.slot, number: block.number });
+    let parent = random.pick(&known_blocks(memory)).number;
+    let proposed = PacketBlock { number: number_of(random.between(801, 1_200), random.below(2)), parent, slot: now as u32 };
+    let proposal = Packet { kind: 3, slot: proposed.slot, number: proposed.number, blocks: vec![proposed], votes: vec![second] };
+    [gossip(twins.to_vec(), vec![first]), proposal].map(|packet| packet.encode())
 }
 
 fn slot_of(beat: u64) -> u64 {
@@ -111,18 +201,52 @@ fn first_kept(settings: Settings, memory: &Memory) -> u64 {
     memory.clock.merged.saturating_sub(settings.expiry)
 }
 
-/// A gossip packet.
+/// A wide gossip packet.
 pub fn gossip(blocks: Vec<PacketBlock>, votes: Vec<PacketVote>) -> Packet {
-    Packet { kind: 0, slot: 0, number: 0, blocks, votes }
+    Packet { kind: 2, slot: 0, number: 0, blocks, votes }
 }
 
-/// The used rows without their marks; a row of zeros, as that of block 0, where the memory has none.
-fn rows(words: &[u64], used: usize) -> Vec<[u64; 3]> {
-    let mut rows: Vec<_> = words.chunks_exact(4).take(used).map(|row| [row[0], row[1], row[2]]).collect();
-    if rows.is_empty() {
-        rows.push([0; 3]);
+/// A vote of the table as a packet's.
+fn packet_vote(vote: Vote) -> PacketVote {
+    PacketVote { voter: vote.voter as u8, slot: vote.slot as u32, number: vote.number }
+}
+
+/// The blocks of the table; block 0 where the memory has none.
+fn known_blocks(memory: &Memory) -> Vec<Block> {
+    let mut known: Vec<_> = blocks(memory).collect();
+    if known.is_empty() {
+        known.push(Block { number: 0, parent: 0, slot: 0, in_view: true });
     }
-    rows
+    known
+}
+
+/// The bytes of a wide packet, or of the narrow one with the same entries. Where that does not hold them it is seldom chosen, and has their
+/// lower halves.
+fn encoded(random: &mut Random, mut packet: Packet) -> Vec<u8> {
+    let narrow = if needs_wide(&packet) { random.once_in(12) } else { !random.once_in(4) };
+    if narrow {
+        packet.kind -= 2;
+    }
+    let mut bytes = packet.encode();
+    if random.once_in(40) {
+        bytes[0] = random.pick(&[4, 5, 6, 7, 128, 130, 255]);
+    }
+    bytes
+}
+
+/// Whether a number of the packet has an upper half.
+pub fn needs_wide(packet: &Packet) -> bool {
+    let blocks = packet.blocks.iter().flat_map(|block| [block.number, block.parent]);
+    let votes = packet.votes.iter().map(|vote| vote.number);
+    blocks.chain(votes).chain([packet.number]).any(|number| halves(number)[1] != 0)
+}
+
+/// The packet with the same entries in the other width, or with their lower halves. Bytes that are no packet stay as they are.
+pub fn in_other_width(packet: &[u8]) -> Vec<u8> {
+    match Packet::decode(packet) {
+        Some(packet) => Packet { kind: packet.kind ^ 2, ..packet }.encode(),
+        None => packet.to_vec(),
+    }
 }
 
 /// A packet with bytes changed, cut off, put in or added.
@@ -130,14 +254,16 @@ pub fn damaged(random: &mut Random, packet: &[u8]) -> Vec<u8> {
     let mut bytes = packet.to_vec();
     for _ in 0..random.between(1, 2) {
         let at = random.below(bytes.len() as u64 + 1) as usize;
-        match random.below(8) {
+        // the header and the count of blocks
+        let front = if bytes.first().is_some_and(|kind| *kind < 2) { 15 } else { 23 };
+        match random.below(9) {
             0 => bytes.truncate(at),
             1 => bytes.extend(std::iter::repeat_n(0, random.between(1, 40) as usize)),
             2 => bytes.insert(at, random.word() as u8),
             3 => bytes.truncate(bytes.len().saturating_sub(1)),
-            // the header and the counts
-            4 if bytes.len() >= 17 => bytes[random.below(15) as usize] ^= 1 << random.below(8),
-            5 if bytes.len() >= 17 => bytes[random.below(15) as usize] = random.word() as u8,
+            4 if bytes.len() > front => bytes[random.below(front as u64) as usize] ^= 1 << random.below(8),
+            5 if bytes.len() > front => bytes[random.below(front as u64) as usize] = random.word() as u8,
+            6 if !bytes.is_empty() => bytes[0] = random.below(6) as u8,
             _ if at < bytes.len() => bytes[at] ^= 1 << random.below(8),
             _ => bytes.push(random.word() as u8),
         }

@@ -1,10 +1,12 @@
 //! A few nodes of one network that make calls, exchange packets and are lent damaged memory.
 
-use crate::both::{zeroed, Answer, Both, Call, Reply};
+use crate::both::{blocks, number_of, zeroed, Answer, Both, Call, Reply};
 use crate::old_votes::OldVotes;
-use crate::packets;
+use crate::packets::{self, Numbers};
 use crate::random::Random;
-use likvost::{Clock, Memory, Settings};
+use crate::wide::Wide;
+use likvost::{Clock, Memory, Settings, BLOCK_WORDS, VOTE_WORDS};
+use likvost_model::{Block, PacketBlock};
 
 /// The last beat of the last slot.
 const LAST_BEAT: u64 = 3 * 1_000_000_000 + 2;
@@ -14,18 +16,28 @@ pub struct Run {
     seed: u64,
     pub calls: u64,
     /// By call and refusal; 0 stands for a call that was carried out.
-    pub replies: [[u64; 22]; 9],
+    pub replies: [[u64; 24]; 9],
     /// The largest index of a refused block and vote.
     pub deepest: [u64; 2],
     /// Proposals that came into view on arrival, and Fast blocks.
     pub brought: u64,
     pub fast: u64,
     pub old_votes: OldVotes,
+    pub wide: Wide,
 }
 
 impl Run {
     pub fn new(seed: u64) -> Run {
-        Run { seed, calls: 0, replies: [[0; 22]; 9], deepest: [0; 2], brought: 0, fast: 0, old_votes: OldVotes::default() }
+        Run {
+            seed,
+            calls: 0,
+            replies: [[0; 24]; 9],
+            deepest: [0; 2],
+            brought: 0,
+            fast: 0,
+            old_votes: OldVotes::default(),
+            wide: Wide::default(),
+        }
     }
 
     /// Makes a call on both sides; ends the test if they differ.
@@ -36,6 +48,7 @@ impl Run {
             panic!("LIKVOST_SEED={}, call {}: {call:?} of {:?}: {difference}", self.seed, self.calls, node.settings())
         });
         self.old_votes.count(node, &before, call, &reply);
+        self.wide.count(node, &before, call, &reply, buffer.len());
         self.replies[call.index()][reply.err().map_or(0, |(number, _)| number) as usize] += 1;
         match reply {
             Err((9, Some(index))) => self.deepest[0] = self.deepest[0].max(index),
@@ -53,6 +66,7 @@ pub struct World<'a> {
     random: Random,
     nodes: Vec<Both>,
     beat: u64,
+    numbers: Numbers,
     packets: Vec<Vec<u8>>,
 }
 
@@ -82,7 +96,8 @@ impl<'a> World<'a> {
             }
             nodes.push(node);
         }
-        let mut world = World { run, random, nodes, beat: 2, packets: Vec::new() };
+        let numbers = random.pick(&[Numbers::Old, Numbers::Any]);
+        let mut world = World { run, random, nodes, beat: 2, numbers, packets: Vec::new() };
         if world.random.once_in(5) {
             world.beat = LAST_BEAT - 3 * world.random.between(0, 8);
             for node in 0..world.nodes.len() {
@@ -99,13 +114,16 @@ impl<'a> World<'a> {
         while self.run.calls < calls.min(end) && self.beat <= LAST_BEAT + 2 {
             match self.random.below(100) {
                 0..=19 => self.tick(),
-                20..=42 => self.deliver(),
-                43..=53 => self.receive_made(),
-                54..=59 => self.receive_old_votes(),
-                60..=75 => self.ask(),
-                76..=80 => self.late(),
-                81..=84 => self.write_odd(),
-                85..=98 => self.trial(),
+                20..=41 => self.deliver(),
+                42..=52 => self.receive_made(),
+                53..=58 => self.receive_old_votes(),
+                59..=72 => self.ask(),
+                73..=76 => self.late(),
+                77..=81 => self.write_odd(),
+                82..=94 => self.trial(),
+                95 => self.bring_twin(),
+                96 => self.wide_beside_proposal(),
+                97..=98 => self.carry_old_stock(),
                 _ => self.reopen(),
             }
         }
@@ -154,23 +172,22 @@ impl<'a> World<'a> {
     }
 
     /// A block number, mostly new.
-    fn number(&mut self, node: usize) -> u64 {
-        let memory = self.nodes[node].memory();
-        let rows = memory.blocks_used.min(memory.blocks.len() / 4) as u64;
-        match self.random.below(12) {
-            0 => self.random.word(),
-            1 if rows > 0 => memory.blocks[4 * self.random.below(rows) as usize],
-            2 => self.random.between(1, 400),
-            _ => 1_000 + self.random.below(1_000_000),
+    fn number(&mut self, node: usize) -> u128 {
+        let known: Vec<Block> = blocks(self.nodes[node].memory()).collect();
+        let random = &mut self.random;
+        match random.below(12) {
+            0 => random.word().into(),
+            1 => random.pick(&known).number,
+            2 => self.numbers.draw(random, 1, 400, &known),
+            _ => self.numbers.draw(random, 1_000, 1_000_999, &known),
         }
     }
 
-    /// Write, and the packet stays for others to receive.
+    /// Write, mostly wide, and the packet stays for others to receive.
     fn send(&mut self, node: usize, proposal: bool) {
-        let memory = self.nodes[node].memory();
-        let room = 17 + 20 * memory.blocks_used.min(100) + 13 * memory.votes_used.min(300);
-        let mut buffer = vec![0xa5; room];
-        if let Ok(Answer::Length(length)) = self.run.make(&mut self.nodes[node], &Call::Write { proposal }, &mut buffer) {
+        let wide = !self.random.once_in(3);
+        let mut buffer = vec![0xa5; room(self.nodes[node].memory())];
+        if let Ok(Answer::Length(length)) = self.run.make(&mut self.nodes[node], &Call::Write { proposal, wide }, &mut buffer) {
             buffer.truncate(length);
             if self.packets.len() == 24 {
                 let at = self.random.below(24) as usize;
@@ -180,7 +197,7 @@ impl<'a> World<'a> {
         }
     }
 
-    /// A sent packet reaches a node, sometimes damaged.
+    /// A sent packet reaches a node, sometimes in the other width or damaged.
     fn deliver(&mut self) {
         if self.packets.is_empty() {
             return self.tick();
@@ -188,6 +205,9 @@ impl<'a> World<'a> {
         let last = self.packets.len() as u64 - 1;
         let at = if self.random.once_in(2) { last } else { self.random.below(last + 1) } as usize;
         let mut packet = self.packets[at].clone();
+        if self.random.once_in(6) {
+            packet = packets::in_other_width(&packet);
+        }
         if self.random.once_in(4) {
             packet = packets::damaged(&mut self.random, &packet);
         }
@@ -197,16 +217,16 @@ impl<'a> World<'a> {
 
     fn made_packet(&mut self, node: usize) -> Vec<u8> {
         let both = &self.nodes[node];
-        packets::made(&mut self.random, both.settings(), both.memory(), self.beat).encode()
+        packets::made(&mut self.random, self.numbers, both.settings(), both.memory(), self.beat)
     }
 
     /// A late block, and then a proposal with an old vote for it.
     fn receive_old_votes(&mut self) {
         let (node, beat) = (self.any(), self.beat);
         let both = &self.nodes[node];
-        let packets = packets::with_old_votes(&mut self.random, both.settings(), both.memory(), beat);
+        let packets = packets::with_old_votes(&mut self.random, self.numbers, both.settings(), both.memory(), beat);
         for packet in packets.into_iter().flatten() {
-            let _ = self.make(node, Call::Receive { beat, packet: packet.encode() });
+            let _ = self.make(node, Call::Receive { beat, packet });
         }
     }
 
@@ -243,10 +263,78 @@ impl<'a> World<'a> {
     /// Write with a buffer of any length.
     fn write_odd(&mut self) {
         let node = self.any();
-        let mut buffer = vec![0; self.random.pick(&[0, 1, 16, 17, 18, 37, 50, 200, 700, 3000])];
+        let mut buffer = vec![0; self.random.pick(&[0, 1, 16, 17, 18, 24, 25, 26, 37, 50, 61, 200, 700, 3000, 5000])];
         buffer.iter_mut().for_each(|byte| *byte = self.random.word() as u8);
-        let proposal = self.random.once_in(2);
-        let _ = self.run.make(&mut self.nodes[node], &Call::Write { proposal }, &mut buffer);
+        let call = self.write();
+        let _ = self.run.make(&mut self.nodes[node], &call, &mut buffer);
+    }
+
+    /// Write, of either kind and width.
+    fn write(&mut self) -> Call {
+        Call::Write { proposal: self.random.once_in(2), wide: self.random.once_in(2) }
+    }
+
+    /// A copy of a node proposes a block with an old number, and then one whose number has an upper half waits: the whole store has it, the
+    /// view has not.
+    fn wide_beside_proposal(&mut self) {
+        let node = self.any();
+        let mut copy = self.nodes[node].clone();
+        let Settings { nodes, own, .. } = copy.settings();
+        let next = copy.memory().clock.seen / 3 + 1;
+        let slot = next + (own + nodes - next % nodes) % nodes;
+        let beat = 3 * slot;
+        let number = self.random.between(1_201, 1_600).into();
+        let wide = number_of(self.random.between(0, 400), self.random.between(1, 3));
+        let waiting = packets::gossip(vec![PacketBlock { number: wide, parent: 0, slot: slot as u32 }], Vec::new());
+        let calls =
+            [Call::Merge { beat: beat - 1 }, Call::Propose { beat, number }, Call::Receive { beat, packet: waiting.encode() }];
+        let writes = [(true, false), (false, false), (true, true)].map(|(proposal, wide)| Call::Write { proposal, wide });
+        let mut buffer = vec![7; room(copy.memory()) + 36 + 36];
+        for call in calls.iter().chain(&writes) {
+            let _ = self.run.make(&mut copy, call, &mut buffer);
+        }
+    }
+
+    /// A copy of a node has two blocks with the lower half in common and one voter's votes for both. A proposal brings one of them into view.
+    fn bring_twin(&mut self) {
+        let node = self.any();
+        let mut copy = self.nodes[node].clone();
+        let slot = copy.memory().clock.seen / 3 + 1;
+        let beat = 3 * slot;
+        let [gossip, proposal] = packets::with_twins(&mut self.random, copy.settings(), copy.memory(), beat);
+        let calls = [
+            Call::Receive { beat, packet: gossip },
+            Call::Receive { beat, packet: proposal },
+            Call::Head { slot },
+            Call::Merge { beat: beat + 2 },
+            Call::Fast { slot },
+            Call::Vote { beat: beat + 4 },
+        ];
+        for call in &calls {
+            let _ = self.run.make(&mut copy, call, &mut []);
+        }
+    }
+
+    /// An old stock written wide, received by a fresh node and then written narrow gives the bytes of its own narrow gossip.
+    fn carry_old_stock(&mut self) {
+        let node = self.any();
+        let both = &mut self.nodes[node];
+        let Ok(narrow) = gossip(self.run, both, false) else { return };
+        let packet = gossip(self.run, both, true).expect("there is room for it");
+        let (memory, random) = (both.memory(), &mut self.random);
+        let settings = Settings {
+            own: random.below(both.settings().nodes),
+            expiry: random.between(1, 4096),
+            depth: random.between(1, 4096),
+            ..both.settings()
+        };
+        let beat = memory.clock.seen;
+        let mut fresh = Both::new(settings, zeroed(memory.blocks_used, memory.votes_used.max(1)));
+        for call in [Call::Open, Call::Receive { beat, packet }] {
+            self.run.make(&mut fresh, &call, &mut []).expect("a fresh node takes it");
+        }
+        assert_eq!(gossip(self.run, &mut fresh, false), Ok(narrow));
+        self.run.wide.carried += 1;
     }
 
     /// Opens a node again.
@@ -284,10 +372,10 @@ impl<'a> World<'a> {
                 5 => Call::Head { slot },
                 6 => Call::Deep { slot },
                 7 => Call::Fast { slot },
-                8 => Call::Write { proposal: self.random.once_in(2) },
+                8 => self.write(),
                 _ => Call::Open,
             };
-            let mut buffer = [7; 700];
+            let mut buffer = [7; 1200];
             let _ = self.run.make(&mut copy, &call, &mut buffer);
         }
     }
@@ -299,19 +387,19 @@ impl<'a> World<'a> {
         if first < 2 || memory.votes_used == 0 {
             return;
         }
-        let row = 4 * self.random.below(memory.votes_used as u64) as usize;
+        let row = VOTE_WORDS * self.random.below(memory.votes_used as u64) as usize;
         // a waiting vote of the same voter for block 0
-        memory.votes[row + 1..row + 4].copy_from_slice(&[self.random.between(1, first - 1), 0, 0]);
+        memory.votes[row + 1..row + VOTE_WORDS].copy_from_slice(&[self.random.between(1, first - 1), 0, 0, 0]);
         let (beat, slot) = (self.beat.next_multiple_of(3), self.slot(node));
-        let packets = packets::with_old_votes(&mut self.random, settings, &memory, beat);
+        let packets = packets::with_old_votes(&mut self.random, self.numbers, settings, &memory, beat);
         let mut copy = Both::new(settings, memory);
         for packet in packets.into_iter().flatten() {
-            let _ = self.run.make(&mut copy, &Call::Receive { beat, packet: packet.encode() }, &mut []);
+            let _ = self.run.make(&mut copy, &Call::Receive { beat, packet }, &mut []);
         }
         let due = [Call::Vote { beat: beat + 1 }, Call::Merge { beat: beat + 2 }];
-        let others = [Call::Head { slot }, Call::Write { proposal: false }];
+        let others = [Call::Head { slot }, Call::Write { proposal: false, wide: true }];
         for call in [&due[self.random.below(2) as usize], &others[self.random.below(2) as usize]] {
-            let _ = self.run.make(&mut copy, call, &mut [7; 3000]);
+            let _ = self.run.make(&mut copy, call, &mut [7; 5000]);
         }
     }
 
@@ -334,6 +422,21 @@ impl<'a> World<'a> {
     }
 }
 
+/// The gossip that a node writes.
+fn gossip(run: &mut Run, node: &mut Both, wide: bool) -> Result<Vec<u8>, Reply> {
+    let mut buffer = vec![7; room(node.memory())];
+    match run.make(node, &Call::Write { proposal: false, wide }, &mut buffer) {
+        Ok(Answer::Length(length)) => buffer.truncate(length),
+        reply => return Err(reply),
+    }
+    Ok(buffer)
+}
+
+/// Bytes that the node's packets fit in.
+fn room(memory: &Memory) -> usize {
+    25 + 36 * memory.blocks_used.min(100) + 21 * memory.votes_used.min(300)
+}
+
 fn fill(random: &mut Random, memory: &mut Memory) {
     memory.blocks.iter_mut().chain(&mut memory.votes).for_each(|word| *word = random.word());
     memory.blocks_used = random.word() as usize;
@@ -342,7 +445,7 @@ fn fill(random: &mut Random, memory: &mut Memory) {
 }
 
 fn fill_unused(random: &mut Random, memory: &mut Memory) {
-    let (blocks, votes) = (4 * memory.blocks_used, 4 * memory.votes_used);
+    let (blocks, votes) = (BLOCK_WORDS * memory.blocks_used, VOTE_WORDS * memory.votes_used);
     memory.blocks[blocks..].iter_mut().chain(&mut memory.votes[votes..]).for_each(|word| *word = random.word());
 }
 
@@ -375,45 +478,51 @@ fn damage_clock(random: &mut Random, clock: &mut Clock) {
 }
 
 fn damage_lengths(random: &mut Random, memory: &mut Memory) {
-    let odd = random.pick(&[0, 1, usize::MAX, usize::MAX / 4, usize::MAX / 4 + 1, 1 << 62]);
-    let (words, used) = if random.once_in(2) {
-        (&mut memory.blocks, &mut memory.blocks_used)
+    let (words, used, width) = if random.once_in(2) {
+        (&mut memory.blocks, &mut memory.blocks_used, BLOCK_WORDS)
     } else {
-        (&mut memory.votes, &mut memory.votes_used)
+        (&mut memory.votes, &mut memory.votes_used, VOTE_WORDS)
     };
     match random.below(8) {
-        0 => *used = odd,
+        0 => *used = random.pick(&[0, 1, usize::MAX, usize::MAX / width, usize::MAX / width + 1, 1 << 62]),
         1 => *used = used.wrapping_add(1),
         2 => *used = used.wrapping_sub(1),
-        3 => *used = words.len() / 4 + random.below(2) as usize,
+        3 => *used = words.len() / width + random.below(2) as usize,
         4 => words.clear(),
         5 => words.truncate(random.below(words.len() as u64 + 1) as usize),
         6 => words.resize(words.len() + random.between(1, 8) as usize, 0),
-        _ => words.resize(random.pick(&[4 * 2048, 4 * 2049, 4 * 8192, 4 * 8193]), 0),
+        _ => words.resize(width * random.pick(&[2048, 2049, 8192, 8193]), 0),
     }
 }
 
 /// One change in the used rows, which may leave the memory sound.
 fn damage_rows(random: &mut Random, memory: &mut Memory) {
-    let blocks = random.once_in(2);
-    let (words, used) = if blocks { (&mut memory.blocks, memory.blocks_used) } else { (&mut memory.votes, memory.votes_used) };
-    if used == 0 || used > words.len() / 4 {
+    // where the upper halves stand
+    let (words, used, width, upper) = if random.once_in(2) {
+        (&mut memory.blocks, memory.blocks_used, BLOCK_WORDS, random.pick(&[1, 3]))
+    } else {
+        (&mut memory.votes, memory.votes_used, VOTE_WORDS, 3)
+    };
+    if used == 0 || used > words.len() / width {
         return;
     }
-    let (row, other) = (random.below(used as u64) as usize, random.below(used as u64) as usize);
-    let at = 4 * row + random.below(4) as usize;
-    match random.below(8) {
+    let other = width * random.below(used as u64) as usize;
+    let row = if random.once_in(6) { 0 } else { width * random.below(used as u64) as usize };
+    let field = random.below(width as u64) as usize;
+    let (at, mark) = (row + field, row + width - 1);
+    match random.below(11) {
         // two rows change places
-        0 => (0..4).for_each(|i| words.swap(4 * row + i, 4 * other + i)),
+        0 => (0..width).for_each(|i| words.swap(row + i, other + i)),
         // a row stands twice
-        1 => words.copy_within(4 * row..4 * row + 4, 4 * other),
+        1 => words.copy_within(row..row + width, other),
         // a field of another row
-        2 => words[at] = words[4 * other + at % 4],
-        // the mark
-        3 => words[4 * row + 3] ^= 1,
-        4 => words[4 * row + 3] = random.pick(&[2, 256, 1 << 32, u64::MAX]),
+        2 => words[at] = words[other + field],
+        3 => words[mark] ^= 1,
+        4 => words[mark] = random.pick(&[2, 256, 1 << 32, u64::MAX]),
         5 => words[at] = random.word(),
         6 => words[at] = words[at].wrapping_add(random.pick(&[1, u64::MAX])),
+        7..=8 => words[row + upper] = random.pick(&[0, 1, 2, 1 << 63]),
+        9 => words.swap(row + upper - 1, row + upper),
         _ => words[at] = random.below(4),
     }
 }

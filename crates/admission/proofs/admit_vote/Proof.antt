@@ -9,7 +9,8 @@ use mathlib.Core.List.{List}
 use denote.Ref.{now}
 use lib.ListN.{length, getD}
 use lib.Seq.{take-all}
-use Rattle.protocol.specs.declared.Block.{Block}
+use Rattle.protocol.specs.Words.{voteOf}
+use Rattle.protocol.specs.Entry.{Block}
 use Rattle.protocol.specs.Store.{entries}
 use Rattle.protocol.specs.Packet.{packetOf}
 use Rattle.protocol.specs.Lent.{rowsOf, makeBlock}
@@ -58,7 +59,7 @@ told c =
     let p = packetOf (now (a .bytes)) in
     let E = entries (rowsOf makeBlock (now (a .blocks)) (a .used)) in
     vote-told _ _ _ _ (place-told _ _ _ (a .known) (omega (arith, s .pre .2)) _ refl (k .known-block .ensures) (b .block-of .ensures)) (c .vote-allowed .ensures)
-    ∙ ap (λ (bs : List Block). voteAllowed (a .nodes) (a .slot) (addBlocks E bs) (v .vote-at .result)) (take-all (a .known) (p .blocks) l)
+    ∙ ap (λ (bs : List Block). voteAllowed (a .nodes) (a .slot) (addBlocks E bs) (voteOf (v .vote-at .result))) (take-all (a .known) (p .blocks) l)
     ∙ ap (voteAllowed (a .nodes) (a .slot) (addBlocks E (p .blocks))) (v .vote-at .ensures)
 
 returns : tie.Need-returns

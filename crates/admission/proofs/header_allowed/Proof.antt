@@ -2,17 +2,18 @@
 use borrow.Author.Needs.{needs}
 use native.Mathlib.Omega.{arith}
 use Prim.Native.Nat.{ℕ, _-_, _≤_}
-use mathlib.Core.Bool.{Bool, _&&_}
+use mathlib.Core.Bool.{Bool, true, _&&_}
 use mathlib.Core.List.{List}
 use mathlib.Core.Path.{_≡_, sym, _∙_}
-use borrow.Author.Tests.{eq-eqb, ne-eqb}
+use borrow.Author.Tests.{not-true, not-false}
 use lib.Dec.{eqb}
 use lib.ListN.{length, take, drop}
 use lib.Seq.{take-all}
-use Rattle.protocol.specs.declared.Block.{Block}
+use Rattle.protocol.specs.Entry.{Block}
+use Rattle.protocol.specs.Words.{value}
 use Rattle.protocol.specs.Lists.{any}
 use Rattle.protocol.specs.Chain.{genesis}
-use Rattle.protocol.specs.Packet.{packetOf}
+use Rattle.protocol.specs.Packet.{packetOf, isProposal}
 use Rattle.protocol.specs.Calls.Receive.{headerAllowed}
 use Rattle.packets.specs.declared.Header.{Header}
 use Rattle.packets.specs.Header.{headerOf}
@@ -22,7 +23,7 @@ use Rattle.admission.proofs.header_allowed.Statement.{statement}
 use Rattle.admission.proofs.header_allowed.Tie as tie
 
 abbrev isHeader : Header → Block → Bool
-isHeader h b = eqb (b .number) (h .number) && eqb (b .slot) (h .slot)
+isHeader h b = eqb (b .number) (value (h .number)) && eqb (b .slot) (h .slot)
 
 abbrev Inv-loop : tie.InvT-loop
 Inv-loop bytes h count i₀ i =
@@ -34,18 +35,18 @@ abbrev μ-loop : tie.MeasureT-loop
 
 returns : tie.Need-returns Inv-loop μ-loop
 unfolding headerAllowed
-returns c = rw (eq-eqb _ _ (sym (header-kind _ (c .before .before .header-of .ensures)) ∙ c .if1 .taken))
+returns c = rw (← header-kind _ (c .before .before .header-of .ensures), sym (c .before .is-proposal .ensures) ∙ not-true _ (c .if1 .taken))
 
-begin : (bs : List ℕ) (h : Header) → h ≡ headerOf bs → (h .kind ≡ 0 → ⊥) → headerAllowed (packetOf bs) ≡ any (isHeader h) (take (h .blocks) (packetOf bs .blocks))
+begin : (bs : List ℕ) (h : Header) → h ≡ headerOf bs → isProposal (h .kind) ≡ true → headerAllowed (packetOf bs) ≡ any (isHeader h) (take (h .blocks) (packetOf bs .blocks))
 unfolding headerAllowed
 begin bs h e k =
     let l : length (packetOf bs .blocks) ≤ h .blocks = omega (arith, header-blocks _ e) in
-    rw (← header-kind _ e, ne-eqb _ _ k, ← header-number _ e, ← header-slot _ e, take-all (h .blocks) (packetOf bs .blocks) l)
+    rw (← header-kind _ e, k, ← header-number _ e, ← header-slot _ e, take-all (h .blocks) (packetOf bs .blocks) l)
 
 loop-holds : tie.Need-loop-holds Inv-loop μ-loop
 loop-holds c =
     let e = c .before .before .header-of .ensures in
-    (omega (arith, header-blocks _ e), begin _ _ e (c .if1 .left))
+    (omega (arith, header-blocks _ e), begin _ _ e (sym (c .before .is-proposal .ensures) ∙ not-false _ (c .if1 .left)))
 
 returns-2 : tie.Need-returns-2 Inv-loop μ-loop
 returns-2 c =
@@ -70,5 +71,5 @@ returns-3 c =
 
 pub header-allowed-spec : {M : Type 1} → statement M
 header-allowed-spec {M} =
-    let s = tie.spec {M = M} Inv-loop μ-loop (λ c κs. search needs) returns loop-holds (λ c κs. search needs) (λ c κs. search needs) returns-2 in
+    let s = tie.spec {M = M} Inv-loop μ-loop (λ c κs. search needs) (λ c κs. search needs) returns loop-holds (λ c κs. search needs) (λ c κs. search needs) returns-2 in
     tie.close (s (λ c. search needs) (λ c. search needs) loop-again returns-3)

@@ -7,7 +7,7 @@ use mathlib.Core.Bool.{Bool, true, _&&_, and-true, and-false}
 use mathlib.Core.Path.{_≡_, ap, sym, _∙_}
 use denote.Ref.{now}
 use lib.Dec.{eqb, leb}
-use Rattle.protocol.specs.declared.Vote.{Vote}
+use Rattle.protocol.specs.Entry.{Vote}
 use Rattle.protocol.specs.Store.{since}
 use Rattle.protocol.proofs.Packet.Numbers.{bytes-by-index}
 use Rattle.protocol.proofs.Packet.Bytes.{read-fits}

@@ -38,7 +38,7 @@ latest-next-requires : tie.Need-latest-next-requires Inv-loop μ-loop
 latest-next-requires c κs =
     let l = c .before .before .before .before .before .before in
     let s = start l in
-    (omega arith, (λ i h. s .pre .2 i (omega arith)), l .loop .inv .1 ∙ s .pre .3, l .loop .inv .2 ∙ s .pre .4, l .loop .inv .6)
+    (omega arith, (λ i h. s .pre .2 i (omega arith)), l .loop .inv .1 ∙ s .pre .3, omega (arith, l .loop .inv .2, s .pre .4), l .loop .inv .6)
 
 loop-again : tie.Need-loop-again Inv-loop μ-loop
 loop-again c =

@@ -35,11 +35,8 @@ mul-slots c = omega (arith, voter (c .before .before .before .before .before))
 slice-write-slots : tie.Need-slice-write-slots
 slice-write-slots c = omega (arith, voter (c .before .before .before .before .before))
 
-mul-numbers : tie.Need-mul-numbers
-mul-numbers c = omega (arith, voter (c .before .before .before .before .before))
-
-slice-write-numbers : tie.Need-slice-write-numbers
-slice-write-numbers c = omega (arith, voter (c .before .before .before .before .before))
+keep-requires : tie.Need-keep-requires
+keep-requires c κs = omega (arith, voter (c .before .before .before .before .before .before))
 
 same-length : tie.Need-same-length
 same-length c = search needs
@@ -49,12 +46,15 @@ same-length-2 c = search needs
 
 returns : tie.Need-returns
 returns c =
-    let i = c .before .before .before in
+    let k = c .before .before in
+    let t = k .before .before in
+    let i = t .before .before .before in
     let d = i .before in
     let v = d .before in
     let s = v .before .before .before .before in
     let h = voter v in
-    new-turn _ _ _ _ (v .vote-at .ensures) _ _ (s .pre .4) (sym (d .counts .ensures) ∙ i .if1 .taken) (ltb-true _ _ (sym (c .before .is-later .ensures) ∙ c .if2 .taken)) (omega arith) (omega arith)
+    new-turn _ _ _ _ (v .vote-at .ensures) _ _ (s .pre .4) (sym (d .counts .ensures) ∙ i .if1 .taken) (ltb-true _ _ (sym (t .before .is-later .ensures) ∙ t .if2 .taken))
+    (omega arith) (omega arith) (k .keep .ensures)
 
 returns-2 : tie.Need-returns-2
 returns-2 c =
@@ -73,5 +73,5 @@ returns-3 c =
 
 pub latest-next-spec : {M : Type 1} → statement M
 latest-next-spec {M} =
-    let s = tie.spec {M = M} vote-at-requires counts-requires mul-is-later slice-read-is-later is-later-requires mul-slots slice-write-slots mul-numbers in
-    tie.close (s slice-write-numbers same-length same-length-2 returns returns-2 returns-3)
+    let s = tie.spec {M = M} vote-at-requires counts-requires mul-is-later slice-read-is-later is-later-requires mul-slots slice-write-slots keep-requires in
+    tie.close (s same-length same-length-2 returns returns-2 returns-3)

@@ -8,7 +8,7 @@ use Rattle.verdicts.specs.Verdict.{indexOf}
 use Rattle.answers.specs.declared.Taken.{Taken}
 use Rattle.capi.specs.declared.Clock.{Clock}
 use Rattle.capi.specs.declared.Answer.{Answer}
-use Rattle.capi.specs.Structs.{answerOf}
+use Rattle.capi.specs.Structs.{noNumber, answerOf}
 use Rattle.capi.proofs.answer_of.Statement.{statement}
 use Rattle.capi.proofs.answer_of.Tie as tie
 
@@ -19,10 +19,10 @@ as-number false = refl
 
 abbrev broughtBy : ℕ → Taken → Clock → Answer
 broughtBy n t k =
-    record { refusal = 0; index = 0; value = 0; «new_blocks» = t .«new_blocks»; «new_votes» = t .«new_votes»; brought = n; clock = k }
+    record { refusal = 0; index = 0; value = noNumber; «new_blocks» = t .«new_blocks»; «new_votes» = t .«new_votes»; brought = n; clock = k }
 
 abbrev refusedBy : ℕ → ℕ → Clock → Answer
-refusedBy n i k = record { refusal = n; index = i; value = 0; «new_blocks» = 0; «new_votes» = 0; brought = 0; clock = k }
+refusedBy n i k = record { refusal = n; index = i; value = noNumber; «new_blocks» = 0; «new_votes» = 0; brought = 0; clock = k }
 
 returns : tie.Need-returns
 returns c = sym (ap (answerOf _) (c .enum-told .given .1))

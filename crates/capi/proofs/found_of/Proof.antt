@@ -3,12 +3,12 @@ use borrow.Author.Needs.{needs}
 use Prim.Native.Nat.{ℕ}
 use mathlib.Core.Path.{ap, sym, _∙_}
 use Rattle.capi.specs.declared.Found.{Found}
-use Rattle.capi.specs.Structs.{foundOf}
+use Rattle.capi.specs.Structs.{noNumber, foundOf}
 use Rattle.capi.proofs.found_of.Statement.{statement}
 use Rattle.capi.proofs.found_of.Tie as tie
 
 abbrev refusedBy : ℕ → Found
-refusedBy n = record { refusal = n; found = 0; value = 0 }
+refusedBy n = record { refusal = n; found = 0; value = noNumber }
 
 returns : tie.Need-returns
 returns c = sym (ap foundOf (c .before .answer .given .1))

@@ -8,10 +8,11 @@ returns : tie.Need-returns
 returns c =
     let o = c .before in
     let n = o .before .before .before .before .before .before in
-    let k = n .before .before .before .before .before in
-    proposes _ _ _ _ _ _ (k .before .settings-in .ensures) (k .clock-in .ensures) (n .propose .ensures) (o .clock-out .ensures) (c .answer-of .ensures)
+    let i = n .before in
+    let k = i .before .before .before .before .before in
+    proposes _ _ _ _ _ _ (k .before .settings-in .ensures) (k .clock-in .ensures) (rw (i .number-in .ensures) at (n .propose .ensures)) (o .clock-out .ensures) (c .answer-of .ensures)
 
 pub likvost-propose-spec : {M : Type 1} → statement M
 likvost-propose-spec {M} =
-    let s = tie.spec {M = M} (λ c κs. search needs) (λ c κs. search needs) (λ c κs. search needs) (λ c κs. search needs) (λ c κs. search needs) in
+    let s = tie.spec {M = M} (λ c κs. search needs) (λ c κs. search needs) (λ c κs. search needs) (λ c κs. search needs) (λ c κs. search needs) (λ c κs. search needs) in
     tie.close (s (λ c. search needs) (λ c. search needs) returns)

@@ -7,13 +7,15 @@ use Rattle.capi.proofs.likvost_write.Tie as tie
 returns : tie.Need-returns
 returns c =
     let n = c .before .before .before in
-    let k = n .before .before in
-    writes _ _ _ _ (k .before .settings-in .ensures) (k .clock-in .ensures) (n .write .ensures) (c .written-of .ensures)
+    let w = n .before .before in
+    let k = w .before in
+    writes _ _ _ _ (k .before .settings-in .ensures) (k .clock-in .ensures) (rw (w .width-in .ensures) at (n .write .ensures)) (c .written-of .ensures)
 
 pub likvost-write-spec : {M : Type 1} → statement M
 likvost-write-spec =
     tie.close
     (tie.spec
+    (λ c κs. search needs)
     (λ c κs. search needs)
     (λ c κs. search needs)
     (λ c κs. search needs)

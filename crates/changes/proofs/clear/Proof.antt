@@ -7,7 +7,7 @@ use denote.Ref.{now}
 use lib.ListN.{length}
 use Rattle.protocol.specs.Chain.{genesis}
 use Rattle.protocol.specs.Store.{visible}
-use Rattle.protocol.specs.Lent.{blockRow}
+use Rattle.protocol.specs.Lent.{blockWords, blockRow}
 use Rattle.rows.specs.Rows.{putRow}
 use Rattle.changes.proofs.Zeros.{fill-whole, put-first}
 use Rattle.changes.proofs.clear.Statement.{statement}
@@ -16,11 +16,12 @@ use Rattle.changes.proofs.clear.Tie as tie
 returns : tie.Need-returns
 returns c =
     let p = c .before .before in
-    let v = p .before .before .before .before in
+    let z = p .before .before in
+    let v = z .before .before .before in
     let b = v .before .before .before .before in
     let a = b .before .before .before .before .args in (
-      p .put-block .ensures
-          ∙ ap (λ (w : List ℕ). putRow w 0 (blockRow (visible genesis))) (b .zero .ensures ∙ fill-whole 0 (now (a .blocks)))
+      (rw (z .zero3 .ensures) at (p .put-block .ensures))
+          ∙ ap (λ (w : List ℕ). putRow blockWords w 0 (blockRow (visible genesis))) (b .zero .ensures ∙ fill-whole 0 (now (a .blocks)))
           ∙ put-first (length (now (a .blocks))),
       v .zero2 .ensures ∙ fill-whole 0 (now (a .votes)),
     )
@@ -29,6 +30,7 @@ pub clear-spec : {M : Type 1} → statement M
 clear-spec =
     tie.close
     (tie.spec
+    (λ c κs. search needs)
     (λ c κs. search needs)
     (λ c κs. search needs)
     (λ c κs. search needs)

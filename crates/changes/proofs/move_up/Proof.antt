@@ -6,6 +6,7 @@ use mathlib.Core.Path.{_≡_, refl, ap, _∙_}
 use mathlib.Core.Logic.{⊎-elim}
 use denote.Ref.{now}
 use lib.ListN.{length}
+use Rattle.protocol.specs.Words.{voteOf}
 use Rattle.protocol.specs.Store.{showAll}
 use Rattle.protocol.specs.Lent.{stored, voteRow}
 use Rattle.protocol.proofs.Store.Since.{since-holds, since-fails}
@@ -54,10 +55,10 @@ loop-again c =
     let I = l .loop .inv in
     let m : (c .if1 .votes ≡ movedTo ws n from (i + 1)) × (c .if1 .kept ≡ length (keptTo ws n from (i + 1)))
     = ⊎-elim (λ w.
-    let q = move-turn ws n from i kept (t .loop-test .taken) (I .3) (I .2) (v .vote-at .ensures) (since-holds from (v .vote-at .result .vote) (w .0 .taken)) (w .2 .ensures) in
+    let q = move-turn ws n from i kept (t .loop-test .taken) (I .3) (I .2) (v .vote-at .ensures) (since-holds from (voteOf (v .vote-at .result .vote)) (w .0 .taken)) (w .2 .ensures) in
     (w .5 ∙ q .0, w .6 ∙ q .1))
     (λ w.
-    let q = move-skip ws n from i kept (t .loop-test .taken) (I .3) (I .2) (v .vote-at .ensures) (since-fails from (v .vote-at .result .vote) (w .0 .left)) in
+    let q = move-skip ws n from i kept (t .loop-test .taken) (I .3) (I .2) (v .vote-at .ensures) (since-fails from (voteOf (v .vote-at .result .vote)) (w .0 .left)) in
     (w .1 ∙ q .0, w .2 ∙ q .1))
     (c .if1 .came) in (
       omega (arith, t .loop-test .taken),

@@ -2,6 +2,7 @@
 use native.Mathlib.Omega.{arith}
 use mathlib.Core.Path.{ap}
 use borrow.Author.Needs.{needs}
+use Rattle.protocol.specs.Words.{value}
 use Rattle.choice.proofs.Held.{held}
 use Rattle.choice.proofs.Scan.{Scan, left, scan-start, scan-turn, scan-less, scan-end}
 use Rattle.choice.proofs.best_child.Statement.{statement}
@@ -9,7 +10,7 @@ use Rattle.choice.proofs.best_child.Tie as tie
 
 abbrev Inv-loop : tie.InvT-loop
 Inv-loop blocks used children siblings weights whole lim a parent best₀ c₀ best c =
-    Scan whole blocks used weights lim a (parent .block .number) c best
+    Scan whole blocks used weights lim a (value (parent .block .number)) c best
 
 abbrev μ-loop : tie.MeasureT-loop
 μ-loop blocks used children siblings weights whole lim a parent best₀ c₀ best c = left used c

@@ -16,7 +16,8 @@ block-at-requires c κs =
 
 returns : tie.Need-returns
 returns c =
-    ap (λ o. o .entry .number) (c .block-at .ensures) ∙ c .before .before .heaviest-leaf .ensures .2
+    let b = c .before in
+    ap (λ o. o .entry .number) (b .block-at .ensures) ∙ b .before .before .heaviest-leaf .ensures .2
 
 pub heaviest-spec : {M : Type 1} → statement M
 heaviest-spec = tie.close (tie.spec (λ c. search needs) heaviest-leaf-requires block-at-requires returns)

@@ -1,5 +1,6 @@
 -- `weigh` meets its contract. Assumes nothing.
 use borrow.Author.Needs.{needs}
+use native.Mathlib.Omega.{arith}
 use Prim.Native.Nat.{ℕ}
 use mathlib.Core.Path.{refl, _∙_}
 use lib.ListN.{length-replicate}
@@ -16,7 +17,7 @@ slice-aggregate-kept-votes-2 c = search needs
 kept-votes-requires : tie.Need-kept-votes-requires
 kept-votes-requires c κs =
     let T = c .before .before .before .before .before .before .pre .0 in
-    (T .votes-fit, few-votes T, voters-fit T, refl, length-replicate {A = ℕ} 64 0)
+    (T .votes-fit, few-votes T, voters-fit T, refl, omega arith)
 
 slice-aggregate-supporters : tie.Need-slice-aggregate-supporters
 slice-aggregate-supporters c = search needs
@@ -34,7 +35,7 @@ supporters-requires c κs =
       blocks-held T (s .args .whole) .some,
       f .0,
       k .kept-votes .kept .1 .1 .1 .1 .1 .0 ∙ length-replicate {A = ℕ} 64 0,
-      k .kept-votes .kept .1 .1 .1 .1 .1 .1 .0 ∙ length-replicate {A = ℕ} 64 0,
+      omega (arith, k .kept-votes .kept .1 .1 .1 .1 .1 .1 .0),
       s .pre .1,
       s .pre .2,
     )

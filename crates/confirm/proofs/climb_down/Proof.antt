@@ -45,9 +45,10 @@ loop-again c =
 
 returns : tie.Need-returns Inv-loop μ-loop
 returns c =
-    let r = c .before .before in
+    let i = c .before in
+    let r = i .before .before in
     let s = r .before .before .before .before in
-    down-end (held false _ _ (s .pre .2)) (s .args .m) (r .before .loop .inv) _ (r .block-at .ensures) (c .if1 .taken)
+    down-end (held false _ _ (s .pre .2)) (s .args .m) (r .before .loop .inv) _ (r .block-at .ensures) (i .if1 .taken)
 
 pub climb-down-spec : {M : Type 1} → statement M
 climb-down-spec =

@@ -37,12 +37,13 @@ is-quorum-requires c κs = search needs
 
 returns : tie.Need-returns Inv-loop μ-loop
 returns c =
-    let q = c .before in
+    let h = c .before in
+    let q = h .before in
     let f = q .before .before in
     let r = f .before in
     let l = r .before .before .loop in
     let e : l .i ≡ suc (l .i - 1) = omega (arith, r .before .loop-test .taken) in
-    sym (l .inv .1 ∙ top-hit _ _ _ _ (l .i - 1) _ (r .block-at .ensures) e (f .if1 .taken) (sym (q .is-quorum .ensures) ∙ c .if2 .taken))
+    sym (l .inv .1 ∙ top-hit _ _ _ _ (l .i - 1) _ (r .block-at .ensures) e (f .if1 .taken) (sym (q .is-quorum .ensures) ∙ h .if2 .taken))
 
 loop-less : tie.Need-loop-less Inv-loop μ-loop
 loop-less c = search needs

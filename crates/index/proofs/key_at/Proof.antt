@@ -1,5 +1,6 @@
 -- `key_at` meets its contract. Assumes nothing.
 use borrow.Author.Needs.{needs}
+use native.Mathlib.Omega.{arith}
 use mathlib.Core.Bool.{Bool}
 use mathlib.Core.Path.{_≡_, sym, _∙_}
 use denote.Ref.{now}
@@ -24,8 +25,10 @@ row-key-requires c κs =
 returns : tie.Need-returns
 returns c =
     let i = c .before in
+    let k = i .before .before .before in
     let a = start (i .before) .args in
-    c .row-key .ensures ∙ row-keyed (now (a .words)) (a .used) (now (a .bytes)) (a .j) (a .kind) (told (i .before) (i .if1 .taken))
+    c .row-key .ensures
+    ∙ row-keyed (now (a .words)) (a .used) (now (a .bytes)) (a .j) (λ n. omega (arith, k .shared-slice-known .given n)) (a .kind) (told (i .before) (i .if1 .taken))
 
 sub : tie.Need-sub-packet-key
 sub c = let a = start (c .before) .args in past (now (a .words)) (a .used) (now (a .bytes)) (a .j) (a .kind) (told (c .before) (c .if1 .left))

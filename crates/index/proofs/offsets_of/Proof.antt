@@ -7,22 +7,22 @@ use Rattle.index.proofs.offsets_of.Statement.{statement}
 use Rattle.index.proofs.offsets_of.Tie as tie
 
 returns : tie.Need-returns
-returns c = (ap offsetsOf (sym (c .enum-told .given .1)), omega arith, omega arith, omega arith)
+returns c = (ap offsetsOf (sym (c .enum-told .given .1)), omega arith, omega arith, omega arith, omega arith)
 
 returns-2 : tie.Need-returns-2
-returns-2 c = (ap offsetsOf (sym (c .enum-told2 .given .1)), omega arith, omega arith, omega arith)
+returns-2 c = (ap offsetsOf (sym (c .enum-told2 .given .1)), omega arith, omega arith, omega arith, omega arith)
 
 returns-3 : tie.Need-returns-3
-returns-3 c = (ap offsetsOf (sym (c .enum-told3 .given .1)), omega arith, omega arith, omega arith)
+returns-3 c = (ap offsetsOf (sym (c .enum-told3 .given .1)), omega arith, omega arith, omega arith, omega arith)
 
 returns-4 : tie.Need-returns-4
-returns-4 c = (ap offsetsOf (sym (c .enum-told4 .given .1)), omega arith, omega arith, omega arith)
+returns-4 c = (ap offsetsOf (sym (c .enum-told4 .given .1)), omega arith, omega arith, omega arith, omega arith)
 
 returns-5 : tie.Need-returns-5
-returns-5 c = (ap offsetsOf (sym (c .enum-told5 .given .1)), omega arith, omega arith, omega arith)
+returns-5 c = (ap offsetsOf (sym (c .enum-told5 .given .1)), omega arith, omega arith, omega arith, omega arith)
 
 returns-6 : tie.Need-returns-6
-returns-6 c = (ap offsetsOf (sym (c .enum-told6 .given .1)), omega arith, omega arith, omega arith)
+returns-6 c = (ap offsetsOf (sym (c .enum-told6 .given .1)), omega arith, omega arith, omega arith, omega arith)
 
 pub offsets-of-spec : {M : Type 1} → statement M
 offsets-of-spec {M} =

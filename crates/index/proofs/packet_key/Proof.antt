@@ -6,7 +6,7 @@ use Rattle.index.specs.declared.Kind.{Kind}
 use Rattle.index.specs.declared.Key.{Key}
 use Rattle.index.specs.Keys.{numberKey, voteKey}
 use Rattle.index.specs.Index.{InPacket, packetKey}
-use Rattle.protocol.specs.declared.Block.{Block}
+use Rattle.protocol.specs.Entry.{Block}
 use Rattle.index.proofs.packet_key.Statement.{statement}
 use Rattle.index.proofs.packet_key.Tie as tie
 

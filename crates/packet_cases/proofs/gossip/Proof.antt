@@ -2,10 +2,8 @@
 use mathlib.Core.Path.{refl}
 use native.Mathlib.Omega.{arith}
 use borrow.Author.Needs.{needs}
-use Rattle.protocol.specs.Store.{inView}
-use Rattle.protocol.specs.Calls.Write.{lastBlock, gossipOf, proposalOf}
-use Rattle.protocol.specs.Lent.{rowsOf}
-use Rattle.writer.specs.Sent.{nodeIn, sentOf}
+use Rattle.protocol.specs.Words.{join}
+use Rattle.protocol.specs.Calls.Write.{gossipOf, sentOf}
 use Rattle.packet_cases.proofs.gossip.Statement.{statement}
 use Rattle.packet_cases.proofs.gossip.Tie as tie
 
@@ -16,7 +14,7 @@ slice-aggregate-put-2 : tie.Need-slice-aggregate-put-2
 slice-aggregate-put-2 c = search needs
 
 put-requires : tie.Need-put-requires
-unfolding nodeIn sentOf proposalOf gossipOf inView lastBlock rowsOf
+unfolding sentOf gossipOf join
 put-requires c κs = (record { blockRows = omega arith; voteRows = omega arith; blockCount = omega arith; voteCount = omega arith; first = refl }, refl, refl)
 
 same-length : tie.Need-same-length

@@ -25,11 +25,11 @@ slice-aggregate-word-2 c = search needs
 word-requires-2 : tie.Need-word-requires-2
 word-requires-2 c κs = search needs
 
-slice-aggregate-word-3 : tie.Need-slice-aggregate-word-3
-slice-aggregate-word-3 c = search needs
+slice-aggregate-number : tie.Need-slice-aggregate-number
+slice-aggregate-number c = search needs
 
-word-requires-3 : tie.Need-word-requires-3
-word-requires-3 c κs = search needs
+number-requires : tie.Need-number-requires
+number-requires c κs = search needs
 
 show-blocks-requires : tie.Need-show-blocks-requires
 unfolding headerOf
@@ -60,5 +60,5 @@ returns-2 c = search needs
 pub show-spec : {M : Type 1} → statement M
 show-spec {M} =
     let s₁ = tie.spec {M = M} well-formed-requires header-of-requires slice-aggregate-word word-requires slice-aggregate-word-2 word-requires-2 in
-    let s₂ = s₁ slice-aggregate-word-3 word-requires-3 show-blocks-requires show-votes-requires slice-aggregate-write-all write-all-requires in
+    let s₂ = s₁ slice-aggregate-number number-requires show-blocks-requires show-votes-requires slice-aggregate-write-all write-all-requires in
     tie.close (s₂ returns slice-aggregate-write-all-2 write-all-requires-2 returns-2)

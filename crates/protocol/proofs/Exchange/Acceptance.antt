@@ -9,9 +9,8 @@ use native.Mathlib.Omega.{arith}
 use lib.Dec.{ltb}
 use lib.ListN.{length}
 use borrow.Author.Tests.{lt-ltb, le-leb, le-ltb}
-use Rattle.protocol.specs.declared.Block.{Block}
+use Rattle.protocol.specs.Entry.{Block, Vote}
 use Rattle.protocol.specs.declared.Settings.{Settings}
-use Rattle.protocol.specs.declared.Vote.{Vote}
 use Rattle.protocol.specs.Limits.{limits}
 use Rattle.protocol.specs.Chain.{genesis, Found, found, missing, find, foundWith}
 use Rattle.protocol.specs.Store.{entries, keptFrom, Places, Node}

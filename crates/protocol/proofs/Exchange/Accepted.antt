@@ -10,25 +10,27 @@ use lib.ListN.{length, take}
 use lib.Dec.{ltb}
 use borrow.Author.Tests.{ltb-true}
 use Rattle.protocol.specs.declared.Settings.{Settings}
+use Rattle.protocol.specs.declared.Width.{Width}
 use Rattle.protocol.specs.Limits.{limits}
 use Rattle.protocol.specs.Store.{entries, keptFrom, Places, Node}
 use Rattle.protocol.specs.Packet.{Packet, packetOf, wellFormed}
 use Rattle.protocol.specs.Refusal.{Refusal, by, pass, refuse, refused, done, first}
 use Rattle.protocol.specs.Calls.Receive.{blocksAfter, votesAfter, brings, receivedOf, receiveInto, receiveTests, receive}
-use Rattle.protocol.specs.Calls.Write.{gossipOf, proposalOf, proposedNow, packetOut, write}
+use Rattle.protocol.specs.Calls.Write.{gossipOf, proposalOf, sentOf, proposedNow, packetOut, write}
 use Rattle.protocol.specs.RoundTrip.{NumbersBelow}
 use Rattle.protocol.proofs.Basics.Tests.{either}
 use Rattle.protocol.proofs.Store.FirstBad.{Allowed}
 use Rattle.protocol.proofs.Store.Sound.{IsSound, sound-holds}
+use Rattle.protocol.proofs.Packet.Ranges.{InRange}
 use Rattle.protocol.proofs.Packet.Bytes.{round-trip, written-well}
 use Rattle.protocol.proofs.Calls.Refusal.{unless-refused}
 use Rattle.protocol.proofs.Calls.Write.{Wrote, wrote}
 use Rattle.protocol.proofs.Exchange.Acceptance.{lacking, verdict, accepted, Agree}
-use Rattle.protocol.proofs.Exchange.Sending.{gossip-in-range, gossip-welcome, proposal-in-range, proposal-welcome}
+use Rattle.protocol.proofs.Exchange.Sending.{sent-in-range, gossip-welcome, proposal-welcome}
 
 -- Sender x and receiver y: the receiver is sound and of the same n, both allow the beat, and no number names two blocks.
 pub record Meet (s : Settings) (x : Node) (s' : Settings) (pl' : Places) (y : Node) (beat : ℕ) : Type 0 where
-  pub numbers : NumbersBelow (2 ^ 64) x
+  pub numbers : NumbersBelow (2 ^ 128) x
   pub good : IsSound s' pl' y
   pub nodes : s' .nodes ≡ s .nodes
   pub sender : x .clock .seen ≤ beat
@@ -36,42 +38,41 @@ pub record Meet (s : Settings) (x : Node) (s' : Settings) (pl' : Places) (y : No
   pub within : beat / 3 ≤ limits .slot
   pub agree : Agree (entries (y .blocks)) (entries (x .blocks))
 
-module _ (s : Settings) (pl : Places) (x : Node) (proposal : Bool) (buffer : List ℕ) (n : ℕ) (d : write s pl x proposal buffer .reply ≡ done n)
+module _ (s : Settings) (pl : Places) (x : Node) (proposal : Bool) (width : Width) (buffer : List ℕ) (n : ℕ) (d : write s pl x proposal width buffer .reply ≡ done n)
     (s' : Settings) (pl' : Places) (y : Node) (beat : ℕ) (M : Meet s x s' pl' y beat) where
   -- the bytes that were written, and the packet that they are
   abbrev bytes : List ℕ
-  bytes = take n (write s pl x proposal buffer .buffer)
+  bytes = take n (write s pl x proposal width buffer .buffer)
 
   abbrev sent : Packet
-  sent = cond proposal (proposalOf x) (gossipOf x)
+  sent = sentOf proposal width x
 
-  W : Wrote s pl x proposal buffer n
-  W = wrote s pl x proposal buffer n d
+  W : Wrote s pl x proposal width buffer n
+  W = wrote s pl x proposal width buffer n d
 
-  -- what Receive asks of a packet
-  record Arrives (b : Bool) : Type 0 where
-    read : packetOf (packetOut b x) ≡ cond b (proposalOf x) (gossipOf x)
-    formed : wellFormed (packetOut b x) ≡ true
-    allowed : Allowed (s' .nodes) (beat / 3) y (cond b (proposalOf x) (gossipOf x))
+  fits : InRange sent
+  fits = sent-in-range (W .good) proposal width (M .numbers) (W .fits)
 
-  arrives : (b : Bool) → (b ≡ true → proposedNow s x ≡ true) → Arrives b
+  read : packetOf (packetOut proposal width x) ≡ sent
   unfolding packetOut
-  arrives false h =
-      let I = gossip-in-range (W .good) (M .numbers) in
-      let G = gossip-welcome (W .good) (M .good) (M .nodes) beat (M .sender) (M .receiver) (M .within) (M .agree) in
-      record { read = round-trip (gossipOf x) I; formed = written-well (gossipOf x) I; allowed = rw (M .nodes) (G .allowed) }
-  arrives true h =
-      let I = proposal-in-range (W .good) (M .numbers) in
-      let P = proposal-welcome (W .good) (M .good) (M .nodes) beat (M .sender) (M .receiver) (M .within) (M .agree) (h refl) in
-      record { read = round-trip (proposalOf x) I; formed = written-well (proposalOf x) I; allowed = rw (M .nodes) (P .allowed) }
+  read = round-trip sent fits
 
-  here : Arrives proposal
-  here = arrives proposal (W .proposes)
+  formed : wellFormed (packetOut proposal width x) ≡ true
+  unfolding packetOut
+  formed = written-well sent fits
+
+  allowed : Allowed (s' .nodes) (beat / 3) y sent
+  unfolding sentOf
+  allowed = rw (M .nodes) (go proposal (W .proposes))
+    where
+      go : (b : Bool) → (b ≡ true → proposedNow s x ≡ true) → Allowed (s .nodes) (beat / 3) y (cond b (proposalOf width x) (gossipOf width x))
+      go false h = gossip-welcome (W .good) (M .good) (M .nodes) beat (M .sender) (M .receiver) (M .within) (M .agree) width .allowed
+      go true h = proposal-welcome (W .good) (M .good) (M .nodes) beat (M .sender) (M .receiver) (M .within) (M .agree) (h refl) width .allowed
 
   pub sent-verdict : first (receiveTests s' pl' y beat bytes) ≡ cond (lacking s' pl' y sent) (refuse (by 10)) pass
   sent-verdict =
-      verdict s' pl' y beat bytes sent (ap packetOf (W .bytes) ∙ here .read) (sound-holds (M .good)) (M .receiver) (M .within)
-      (ap wellFormed (W .bytes) ∙ here .formed) (here .allowed)
+      verdict s' pl' y beat bytes sent (ap packetOf (W .bytes) ∙ read) (sound-holds (M .good)) (M .receiver) (M .within)
+      (ap wellFormed (W .bytes) ∙ formed) allowed
 
   pub sent-accepted : length (blocksAfter y sent) ≤ pl' .blocks → length (votesAfter (keptFrom s' (y .clock .merged)) y sent) ≤ pl' .votes
       → receive s' pl' y beat bytes ≡ record {
@@ -79,8 +80,8 @@ module _ (s : Settings) (pl : Places) (x : Node) (proposal : Bool) (buffer : Lis
         node = receiveInto (keptFrom s' (y .clock .merged)) (brings y beat sent) beat y sent;
       }
   sent-accepted =
-      accepted s' pl' y beat bytes sent (ap packetOf (W .bytes) ∙ here .read) (sound-holds (M .good)) (M .receiver) (M .within)
-      (ap wellFormed (W .bytes) ∙ here .formed) (here .allowed)
+      accepted s' pl' y beat bytes sent (ap packetOf (W .bytes) ∙ read) (sound-holds (M .good)) (M .receiver) (M .within)
+      (ap wellFormed (W .bytes) ∙ formed) allowed
 
   pub sent-refused : (k : Refusal) → receive s' pl' y beat bytes .reply ≡ refused k
       → (k ≡ by 10) × ((pl' .blocks < length (blocksAfter y sent)) ⊎ (pl' .votes < length (votesAfter (keptFrom s' (y .clock .merged)) y sent)))

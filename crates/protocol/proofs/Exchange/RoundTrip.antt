@@ -8,15 +8,16 @@ use native.Mathlib.Nat.{le-refl, zero-sub}
 use native.Mathlib.Omega.{arith}
 use lib.ListN.{length, take, drop}
 use borrow.Author.Tests.{not-true}
-use Rattle.protocol.specs.declared.Block.{Block}
+use Rattle.protocol.specs.Entry.{Block, Vote}
 use Rattle.protocol.specs.declared.Settings.{Settings}
-use Rattle.protocol.specs.declared.Vote.{Vote}
+use Rattle.protocol.specs.declared.Width.{Width}
+use Rattle.protocol.specs.declared.Width.the-variants.{Narrow, Wide}
 use Rattle.protocol.specs.Lists.{any}
 use Rattle.protocol.specs.Chain.{genesis, find, foundWith}
 use Rattle.protocol.specs.Store.{entries, allWaiting, visible, sameVote, keptFrom, Places, Node, fresh}
 use Rattle.protocol.specs.Refusal.{done}
 use Rattle.protocol.specs.Calls.Receive.{blocksAfter, votesAfter, brings, receivedOf, receiveInto, receive}
-use Rattle.protocol.specs.Calls.Write.{afterGenesis, gossipOf, write}
+use Rattle.protocol.specs.Calls.Write.{afterGenesis, gossipOf, sentOf, write}
 use Rattle.protocol.specs.RoundTrip.{copyOf, RoundTrip}
 use Rattle.protocol.proofs.Basics.Tests.{facts, and-left, and-right, clashing, not-passes}
 use Rattle.protocol.proofs.Chain.Relations.{Sound}
@@ -69,40 +70,48 @@ fresh-agrees bs S c d m k q =
 
 -- ---- the gossip of a sound node, at any beat from the one seen on
 
+brings-none : (beat : ℕ) (width : Width) (x : Node) → brings fresh beat (gossipOf width x) ≡ false
+unfolding brings gossipOf
+brings-none beat Narrow x = refl
+brings-none beat Wide x = refl
+
 -- a fresh node has merged nothing, so to it no vote is old
-module _ {s : Settings} {pl : Places} {x : Node} (G : IsSound s pl x) (from : ℕ) (z : from ≡ 0) where
-  all-blocks : blocksAfter fresh (gossipOf x) ≡ entries (x .blocks)
+module _ {s : Settings} {pl : Places} {x : Node} (G : IsSound s pl x) (width : Width) (from : ℕ) (z : from ≡ 0) where
+  all-blocks : blocksAfter fresh (gossipOf width x) ≡ entries (x .blocks)
   unfolding gossipOf entries
   all-blocks =
       let D = store-sendable G in
-      blocks-after fresh (gossipOf x) ∙ ap (λ l. genesis ∷ l) (follow-new (x .clock .seen / 3) (genesis ∷ []) (afterGenesis (entries (x .blocks))) (D .follow)) ∙ sym (D .root)
+      blocks-after fresh (gossipOf width x) ∙ ap (λ l. genesis ∷ l) (follow-new (x .clock .seen / 3) (genesis ∷ []) (afterGenesis (entries (x .blocks))) (D .follow)) ∙ sym (D .root)
 
-  all-votes : votesAfter from fresh (gossipOf x) ≡ entries (x .votes)
+  all-votes : votesAfter from fresh (gossipOf width x) ≡ entries (x .votes)
   unfolding gossipOf entries any
   all-votes =
-      votes-after fresh (gossipOf x) from ∙ ap (newVotesOf []) (since-zero from z (entries (x .votes)))
+      votes-after fresh (gossipOf width x) from ∙ ap (newVotesOf []) (since-zero from z (entries (x .votes)))
       ∙ distinct-new [] (entries (x .votes)) (λ a m. refl) (G .apart)
 
-  gossip-into : receiveInto from (brings fresh (x .clock .seen) (gossipOf x)) (x .clock .seen) fresh (gossipOf x) ≡ copyOf x
-  unfolding receiveInto brings gossipOf
-  gossip-into =
-      let b = show-none (λ a. false) (λ a. refl) (visible genesis ∷ allWaiting (drop 1 (blocksAfter fresh (gossipOf x)))) in
+  into : receiveInto from false (x .clock .seen) fresh (gossipOf width x) ≡ copyOf x
+  unfolding receiveInto gossipOf
+  into =
+      let b = show-none (λ a. false) (λ a. refl) (visible genesis ∷ allWaiting (drop 1 (blocksAfter fresh (gossipOf width x)))) in
       let c = ap (λ bs. visible genesis ∷ allWaiting (drop 1 bs)) (all-blocks ∙ store-sendable G .root) in
-      let v = show-none (λ a. false) (λ a. refl) (allWaiting (votesAfter from fresh (gossipOf x))) in
+      let v = show-none (λ a. false) (λ a. refl) (allWaiting (votesAfter from fresh (gossipOf width x))) in
       let w = ap allWaiting all-votes in
       λ i. record { blocks = (b ∙ c) i; votes = (v ∙ w) i; clock = copyOf x .clock }
 
+  gossip-into : receiveInto from (brings fresh (x .clock .seen) (gossipOf width x)) (x .clock .seen) fresh (gossipOf width x) ≡ copyOf x
+  gossip-into = ap (λ b. receiveInto from b (x .clock .seen) fresh (gossipOf width x)) (brings-none (x .clock .seen) width x) ∙ into
+
 -- the receiver may have another index, another period and depth, and other places
 pub gossip-carries-the-store : RoundTrip
-unfolding RoundTrip entries brings gossipOf receivedOf
-gossip-carries-the-store s p x N buffer n e s' p' old o same rb rv =
-    let G = wrote s p x false buffer n e .good in
+unfolding RoundTrip entries receivedOf sentOf
+gossip-carries-the-store s p x N width buffer n e s' p' old o same rb rv =
+    let G = wrote s p x false width buffer n e .good in
     let beat = x .clock .seen in
     let from = keptFrom s' 0 in
     let z : from ≡ 0 = zero-sub (s' .expiry) in
-    let a : length (blocksAfter fresh (gossipOf x)) ≡ length (x .blocks) = ap length (all-blocks G from z) ∙ length-entries (x .blocks) in
-    let c : length (votesAfter from fresh (gossipOf x)) ≡ length (x .votes) = ap length (all-votes G from z) ∙ length-entries (x .votes) in
-    let d : length (votesAfter from fresh (gossipOf x)) - 0 ≡ length (x .votes) = omega arith in
+    let a : length (blocksAfter fresh (gossipOf width x)) ≡ length (x .blocks) = ap length (all-blocks G width from z) ∙ length-entries (x .blocks) in
+    let c : length (votesAfter from fresh (gossipOf width x)) ≡ length (x .votes) = ap length (all-votes G width from z) ∙ length-entries (x .votes) in
+    let d : length (votesAfter from fresh (gossipOf width x)) - 0 ≡ length (x .votes) = omega arith in
     let M : Meet s x s' p' fresh beat = record {
       numbers = N;
       good = fresh-sound s' p' (open-settings s' p' old o) (open-places s' p' old o);
@@ -112,11 +121,11 @@ gossip-carries-the-store s p x N buffer n e s' p' old o same rb rv =
       within = G .time .limited;
       agree = fresh-agrees (entries (x .blocks)) (store-sound G);
     } in (
-      (λ i. receive s' p' (opened s' p' old o i) beat (take n (write s p x false buffer .buffer)))
-          ∙ sent-accepted s p x false buffer n e s' p' fresh beat M (omega (arith, a, rb)) (omega (arith, c, rv))
+      (λ i. receive s' p' (opened s' p' old o i) beat (take n (write s p x false width buffer .buffer)))
+          ∙ sent-accepted s p x false width buffer n e s' p' fresh beat M (omega (arith, a, rb)) (omega (arith, c, rv))
           ∙ λ i. record {
-            reply = done (record { newBlocks = a i - 1; newVotes = d i; brought = false });
-            node = gossip-into G from z i;
+            reply = done (record { newBlocks = a i - 1; newVotes = d i; brought = brings-none beat width x i });
+            node = gossip-into G width from z i;
           },
       ap {B = List Block} (λ l. genesis ∷ l) (entries-waiting (afterGenesis (entries (x .blocks)))) ∙ sym (store-sendable G .root),
       entries-waiting (entries (x .votes)),

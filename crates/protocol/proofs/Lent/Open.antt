@@ -6,17 +6,16 @@ use mathlib.Core.List.{[]}
 use native.Mathlib.Omega.{arith}
 use lib.ListN.{length, drop, replicate, length-append, length-replicate}
 use Rattle.protocol.specs.declared.Settings.{Settings}
-use Rattle.protocol.specs.Lists.{all}
 use Rattle.protocol.specs.Store.{fresh}
 use Rattle.protocol.specs.Sound.{between, placesSound}
 use Rattle.protocol.specs.Refusal.{Refusal, first, Verdict, pass, refuse, refused, done, unless, answer}
 use Rattle.protocol.specs.Calls.Open.{openTests, openNode}
-use Rattle.protocol.specs.Lent.{Lent, rowsOf, wordsOf, blockRow, placesIn, placesOf, nodeOf, marksSound, lentSound, cleared, openVerdict, openLent}
+use Rattle.protocol.specs.Lent.{Lent, rowsOf, wordsOf, blockRow, placesIn, placesOf, nodeOf, marksSound, lentSound, cleared, openVerdict, openLent, blockWords, voteWords}
 use Rattle.protocol.proofs.Basics.Tests.{facts}
 use Rattle.protocol.proofs.Store.Sound.{fresh-sound, sound-holds}
 use Rattle.protocol.proofs.Calls.Passed.{Opens, opens}
 use Rattle.protocol.proofs.Calls.Refusal.{answer-done, answer-refused, unless-reply}
-use Rattle.protocol.proofs.Lent.Rows.{block-codec, rows-words, marks-words, places-fit, places-same}
+use Rattle.protocol.proofs.Lent.Rows.{block-codec, rows-words, marks-words, blocks-fit, places-same}
 use Rattle.protocol.proofs.Lent.Memory.{lent-holds}
 
 -- the memory y after an Open of m that was carried out
@@ -25,28 +24,28 @@ pub record OpenedLent (s : Settings) (m y : Lent) : Type 0 where
   pub places : placesOf y ≡ placesOf m
   pub length-blocks : length (y .blocks) ≡ length (m .blocks)
   pub length-votes : length (y .votes) ≡ length (m .votes)
-  pub zero-blocks : drop (4 * y .blocksUsed) (y .blocks) ≡ replicate (length (m .blocks) - 4) 0
-  pub zero-votes : drop (4 * y .votesUsed) (y .votes) ≡ replicate (length (m .votes)) 0
+  pub zero-blocks : drop (blockWords * y .blocksUsed) (y .blocks) ≡ replicate (length (m .blocks) - blockWords) 0
+  pub zero-votes : drop (voteWords * y .votesUsed) (y .votes) ≡ replicate (length (m .votes)) 0
   pub sound : lentSound s y ≡ true
 
 module _ (s : Settings) (m : Lent) where
   cleared-node : nodeOf (cleared m) ≡ fresh
   unfolding nodeOf cleared rowsOf
-  cleared-node = λ i. record { blocks = rows-words block-codec (fresh .blocks) (replicate (length (m .blocks) - 4) 0) i; votes = []; clock = fresh .clock }
+  cleared-node = λ i. record { blocks = rows-words block-codec (fresh .blocks) (replicate (length (m .blocks) - blockWords) 0) i; votes = []; clock = fresh .clock }
 
   module _ (O : Opens s (placesOf m)) where
-    room : 4 ≤ length (m .blocks)
+    room : blockWords ≤ length (m .blocks)
     unfolding placesSound between placesOf
     room =
         let e : placesSound (placesOf m) ≡ true = O .places in
-        let h : 1 ≤ placesIn (m .blocks) = search facts in
-        places-fit (m .blocks) 1 h
+        let h : 1 ≤ placesIn blockWords (m .blocks) = search facts in
+        blocks-fit (m .blocks) 1 h
 
     cleared-blocks : length (cleared m .blocks) ≡ length (m .blocks)
     unfolding cleared wordsOf
     cleared-blocks =
         let h = room in
-        omega (arith, length-append (wordsOf blockRow (fresh .blocks)) (replicate (length (m .blocks) - 4) 0), length-replicate {A = ℕ} (length (m .blocks) - 4) 0)
+        omega (arith, length-append (wordsOf blockRow (fresh .blocks)) (replicate (length (m .blocks) - blockWords) 0), length-replicate {A = ℕ} (length (m .blocks) - blockWords) 0)
 
     cleared-votes : length (cleared m .votes) ≡ length (m .votes)
     unfolding cleared
@@ -55,12 +54,12 @@ module _ (s : Settings) (m : Lent) where
     cleared-places : placesOf (cleared m) ≡ placesOf m
     unfolding placesOf
     cleared-places =
-        let b = places-same (cleared m .blocks) (m .blocks) cleared-blocks in
-        let v = places-same (cleared m .votes) (m .votes) cleared-votes in
+        let b = places-same blockWords (cleared m .blocks) (m .blocks) cleared-blocks in
+        let v = places-same voteWords (cleared m .votes) (m .votes) cleared-votes in
         λ i. record { blocks = b i; votes = v i }
 
     opened-lent : OpenedLent s m (cleared m)
-    unfolding cleared wordsOf marksSound rowsOf all
+    unfolding cleared wordsOf marksSound rowsOf
     opened-lent = record {
       node = cleared-node;
       places = cleared-places;
@@ -69,7 +68,7 @@ module _ (s : Settings) (m : Lent) where
       zero-blocks = refl;
       zero-votes = refl;
       sound = lent-holds s (cleared m) (record {
-        mark-blocks = marks-words block-codec (fresh .blocks) (replicate (length (m .blocks) - 4) 0);
+        mark-blocks = marks-words block-codec (fresh .blocks) (replicate (length (m .blocks) - blockWords) 0);
         mark-votes = refl;
         node = rw (cleared-places, cleared-node) (sound-holds (fresh-sound s (placesOf m) (O .settings) (O .places)));
       });

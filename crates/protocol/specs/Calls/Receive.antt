@@ -5,13 +5,12 @@ use mathlib.Core.List.{List, [], _∷_, _++_}
 use lib.ListN.{length, drop}
 use lib.Dec.{eqb, leb, ltb}
 use Rattle.protocol.specs.declared.Settings.{Settings}
-use Rattle.protocol.specs.declared.Block.{Block}
-use Rattle.protocol.specs.declared.Vote.{Vote}
+use Rattle.protocol.specs.Entry.{Block, Vote}
 use Rattle.protocol.specs.Lists.{any, filter}
 use Rattle.protocol.specs.Chain.{Found, found, missing, find, foundWith, known, above}
 use Rattle.protocol.specs.Store.{entries, allWaiting, show, sameBlock, sameVote, keptFrom, since, Places, Node}
 use Rattle.protocol.specs.Sound.{between}
-use Rattle.protocol.specs.Packet.{Packet, packetOf, wellFormed}
+use Rattle.protocol.specs.Packet.{Packet, isProposal, packetOf, wellFormed}
 use Rattle.protocol.specs.Refusal.{Test, test, testSection, first, Outcome, unless, unsound, wrongBeat}
 
 -- ---- what is stored: an entry that is not known yet goes to the end
@@ -57,7 +56,7 @@ voteAllowed n slot bs a =
 
 -- a proposal's block is among the packet's, with the header's slot
 unfoldable pub headerAllowed : Packet → Bool
-headerAllowed p = eqb (p .kind) 0 || any (λ b. eqb (b .number) (p .number) && eqb (b .slot) (p .slot)) (p .blocks)
+headerAllowed p = not (isProposal (p .kind)) || any (λ b. eqb (b .number) (p .number) && eqb (b .slot) (p .slot)) (p .blocks)
 
 -- ---- the least index of an entry that breaks a rule, or how many entries there are
 
@@ -75,7 +74,7 @@ firstBadVote n slot bs (a ∷ rest) = cond (voteAllowed n slot bs a) (suc (first
 
 -- a proposal of the beat's slot, in phase 0, as the first of that slot
 unfoldable pub brings : Node → ℕ → Packet → Bool
-brings x beat p = eqb (p .kind) 1 && (eqb (p .slot * 3) beat && not (eqb (x .clock .proposed) (p .slot)))
+brings x beat p = isProposal (p .kind) && (eqb (p .slot * 3) beat && not (eqb (x .clock .proposed) (p .slot)))
 
 -- a block that the packet's entries stand on: one of its blocks, one that its votes are for, old ones too, or an ancestor of these
 unfoldable pub stoodOn : List Block → Packet → Block → Bool

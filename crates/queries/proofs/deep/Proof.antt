@@ -15,7 +15,7 @@ returns : tie.Need-returns
 returns c = deep-leaves _ _ _ (c .before .before .before .query-verdict .ensures) (c .before .verdict .given .1)
 
 returns-2 : tie.Need-returns-2
-returns-2 c = deep-answers _ _ _ (c .before .before .before .query-verdict .ensures) (c .before .enum-told .given .1) (c .deep .ensures)
+returns-2 c = deep-answers _ _ _ (c .before .before .before .query-verdict .ensures) (c .deep .result) (c .before .enum-told .given .1) (c .deep .ensures)
 
 pub deep-spec : {M : Type 1} → statement M
 deep-spec =

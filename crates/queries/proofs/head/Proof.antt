@@ -15,7 +15,7 @@ returns : tie.Need-returns
 returns c = head-leaves _ _ _ (c .before .before .before .query-verdict .ensures) (c .before .verdict .given .1)
 
 returns-2 : tie.Need-returns-2
-returns-2 c = head-answers _ _ _ (c .before .before .before .query-verdict .ensures) (c .before .enum-told .given .1) (c .head .ensures)
+returns-2 c = head-answers _ _ _ (c .before .before .before .query-verdict .ensures) (c .head .result) (c .before .enum-told .given .1) (c .head .ensures)
 
 pub head-spec : {M : Type 1} → statement M
 head-spec =

@@ -1,7 +1,7 @@
 -- `blocks_in_range` meets its contract. Assumes nothing.
 use borrow.Author.Needs.{needs}
 use native.Mathlib.Omega.{arith}
-use borrow.Author.Tests.{le-leb, lt-leb}
+use borrow.Author.Tests.{le-leb, lt-leb, not-true, not-false}
 use Prim.Native.Nat.{_-_}
 use mathlib.Core.Bool.{_&&_}
 use mathlib.Core.Path.{_≡_, sym, _∙_}
@@ -14,7 +14,7 @@ use Rattle.ranges.proofs.blocks_in_range.Tie as tie
 
 abbrev Inv-loop : tie.InvT-loop
 Inv-loop blocks used slot i₀ i =
-    (marksSound blocks used && all (blockInRange slot) (rowsOf makeBlock blocks used)) ≡ rangesFrom makeBlock (blockInRange slot) blocks used i
+    (marksSound makeBlock blocks used && all (blockInRange slot) (rowsOf makeBlock blocks used)) ≡ rangesFrom makeBlock (blockInRange slot) blocks used i
 
 abbrev μ-loop : tie.MeasureT-loop
 μ-loop blocks used slot i₀ i = used - i
@@ -26,7 +26,7 @@ returns : tie.Need-returns Inv-loop μ-loop
 returns c =
     let m = c .before in
     let t = m .before in
-    sym (t .before .loop .inv ∙ mark-fails makeBlock (blockInRange _) _ _ _ (t .loop-test .taken) (m .mark-at .ensures) (c .if1 .taken))
+    sym (t .before .loop .inv ∙ mark-fails makeBlock (blockInRange _) _ _ _ (t .loop-test .taken) (m .block-clean .ensures) (not-true _ (c .if1 .taken)))
 
 returns-2 : tie.Need-returns-2 Inv-loop μ-loop
 returns-2 c =
@@ -34,7 +34,7 @@ returns-2 c =
     let m = b .before .before in
     let t = m .before in
     sym (t .before .loop .inv
-    ∙ row-fails makeBlock (blockInRange _) _ _ _ (t .loop-test .taken) (m .mark-at .ensures) (b .block-at .ensures) (lt-leb _ _ (c .if2 .taken)))
+    ∙ row-fails makeBlock (blockInRange _) _ _ _ (t .loop-test .taken) (m .block-clean .ensures) (b .block-at .ensures) (lt-leb _ _ (c .if2 .taken)))
 
 loop-again : tie.Need-loop-again Inv-loop μ-loop
 loop-again c =
@@ -43,7 +43,7 @@ loop-again c =
     let m = i .before in
     let t = m .before in
     t .before .loop .inv
-    ∙ row-passes makeBlock (blockInRange _) _ _ _ (t .loop-test .taken) (m .mark-at .ensures) (b .block-at .ensures) (i .if1 .left) (le-leb _ _ (c .if2 .left))
+    ∙ row-passes makeBlock (blockInRange _) _ _ _ (t .loop-test .taken) (m .block-clean .ensures) (b .block-at .ensures) (not-false _ (i .if1 .left)) (le-leb _ _ (c .if2 .left))
 
 returns-3 : tie.Need-returns-3 Inv-loop μ-loop
 returns-3 c = sym (c .before .loop .inv ∙ ranges-end makeBlock (blockInRange _) _ _ _ (c .loop-test .left))

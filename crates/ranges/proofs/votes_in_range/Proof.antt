@@ -14,7 +14,7 @@ use Rattle.ranges.proofs.votes_in_range.Tie as tie
 
 abbrev Inv-loop : tie.InvT-loop
 Inv-loop votes used nodes slot i₀ i =
-    (marksSound votes used && all (voteInRange nodes slot) (rowsOf makeVote votes used)) ≡ rangesFrom makeVote (voteInRange nodes slot) votes used i
+    (marksSound makeVote votes used && all (voteInRange nodes slot) (rowsOf makeVote votes used)) ≡ rangesFrom makeVote (voteInRange nodes slot) votes used i
 
 abbrev μ-loop : tie.MeasureT-loop
 μ-loop votes used nodes slot i₀ i = used - i
@@ -26,7 +26,7 @@ returns : tie.Need-returns Inv-loop μ-loop
 returns c =
     let m = c .before in
     let t = m .before in
-    sym (t .before .loop .inv ∙ mark-fails makeVote (voteInRange _ _) _ _ _ (t .loop-test .taken) (m .mark-at .ensures) (c .if1 .taken))
+    sym (t .before .loop .inv ∙ mark-fails makeVote (voteInRange _ _) _ _ _ (t .loop-test .taken) (m .vote-clean .ensures) (not-true _ (c .if1 .taken)))
 
 returns-2 : tie.Need-returns-2 Inv-loop μ-loop
 returns-2 c =
@@ -34,7 +34,7 @@ returns-2 c =
     let m = v .before .before in
     let t = m .before in
     sym (t .before .loop .inv
-    ∙ row-fails makeVote (voteInRange _ _) _ _ _ (t .loop-test .taken) (m .mark-at .ensures) (v .vote-at .ensures) (simp (le-ltb _ _ (c .if2 .taken))))
+    ∙ row-fails makeVote (voteInRange _ _) _ _ _ (t .loop-test .taken) (m .vote-clean .ensures) (v .vote-at .ensures) (simp (le-ltb _ _ (c .if2 .taken))))
 
 returns-3 : tie.Need-returns-3 Inv-loop μ-loop
 returns-3 c =
@@ -44,7 +44,7 @@ returns-3 c =
     let m = v .before .before in
     let t = m .before in
     sym (t .before .loop .inv
-    ∙ row-fails makeVote (voteInRange _ _) _ _ _ (t .loop-test .taken) (m .mark-at .ensures) (v .vote-at .ensures)
+    ∙ row-fails makeVote (voteInRange _ _) _ _ _ (t .loop-test .taken) (m .vote-clean .ensures) (v .vote-at .ensures)
     (simp (lt-ltb _ _ (i .if2 .left), sym (w .within .ensures) ∙ not-true _ (c .if3 .taken))))
 
 loop-again : tie.Need-loop-again Inv-loop μ-loop
@@ -56,7 +56,7 @@ loop-again c =
     let m = j .before in
     let t = m .before in
     t .before .loop .inv
-    ∙ row-passes makeVote (voteInRange _ _) _ _ _ (t .loop-test .taken) (m .mark-at .ensures) (v .vote-at .ensures) (j .if1 .left)
+    ∙ row-passes makeVote (voteInRange _ _) _ _ _ (t .loop-test .taken) (m .vote-clean .ensures) (v .vote-at .ensures) (not-false _ (j .if1 .left))
     (simp (lt-ltb _ _ (i .if2 .left), sym (w .within .ensures) ∙ not-false _ (c .if3 .left)))
 
 returns-4 : tie.Need-returns-4 Inv-loop μ-loop

@@ -4,15 +4,14 @@ use mathlib.Core.Path.{_≡_, refl, ap, _∙_}
 use mathlib.Core.Bool.{Bool, true, false, cond}
 use mathlib.Core.List.{List, [], _∷_, List·Memᴰ·head}
 use native.Mathlib.Omega.{arith}
-use Rattle.protocol.specs.declared.Block.{Block}
-use Rattle.protocol.specs.declared.Vote.{Vote}
+use Rattle.protocol.specs.Entry.{Block, Vote}
+use Rattle.protocol.specs.declared.Width.the-variants.{Wide}
 use Rattle.protocol.specs.Limits.{limits}
 use Rattle.protocol.specs.Chain.{genesis}
-use Rattle.protocol.specs.Store.{Node}
 use Rattle.protocol.specs.Packet.{Packet, packetOf, packetBytes}
 use Rattle.protocol.specs.Refusal.{by, first, pass, refuse}
 use Rattle.protocol.specs.Calls.Receive.{headerAllowed, receiveTests}
-use Rattle.protocol.specs.Calls.Write.{gossipOf, proposalOf, proposedNow, packetOut}
+use Rattle.protocol.specs.Calls.Write.{gossipOf, proposalOf, sentOf, proposedNow, packetOut, tooWide}
 use Rattle.protocol.proofs.Chain.Relations.{In}
 use Rattle.protocol.proofs.Filters.Relations.{Cast}
 use Rattle.protocol.proofs.Store.FirstBad.{Allowed}
@@ -24,7 +23,7 @@ use Rattle.protocol.proofs.Packet.Ranges.{InRange}
 use Rattle.protocol.proofs.Calls.Passed.{Receives, receives}
 use Rattle.protocol.proofs.Exchange.Acceptance.{packet-allowed, lacking, verdict}
 use Rattle.protocol.proofs.Exchange.Sendable.{Sendable, sending, store-sendable, view-sendable, sent-in}
-use Rattle.protocol.proofs.Exchange.Sending.{gossip-in-range, proposal-in-range, proposal-header}
+use Rattle.protocol.proofs.Exchange.Sending.{sent-in-range, proposal-header}
 use Rattle.resilience.specs.Run.{Network, settings, isHonest, Receive, step}
 use Rattle.resilience.proofs.Steps.Effect.{receivedNode, receive-refused, receive-done}
 use Rattle.resilience.proofs.Steps.Change.{node-after}
@@ -36,10 +35,6 @@ use Rattle.resilience.proofs.Invariants.Soundness.{sound-tables}
 use Rattle.resilience.proofs.Invariants.Clock.{seen-beat}
 use Rattle.resilience.proofs.Invariants.Numbers.{numbers-below}
 use Rattle.resilience.proofs.Invariants.Blocks.{OfRun, one-block, stored-of-run}
-
--- the packet that Write writes
-abbrev pub outgoing : Bool → Node → Packet
-outgoing proposal x = cond proposal (proposalOf x) (gossipOf x)
 
 module _ {N : Network} (X : Execution N) where
   -- ---- packets that meet all rules from a slot on
@@ -64,23 +59,23 @@ module _ {N : Network} (X : Execution N) where
 
   pub outgoing-acceptable : (k : ℕ) → k ≤ X .end → (i : ℕ) → isHonest N i ≡ true → (proposal : Bool)
       → (proposal ≡ true → proposedNow (settings N i) (world X k .node i) ≡ true)
-      → Acceptable (world X k .node i .clock .seen / 3) (outgoing proposal (world X k .node i))
-  unfolding gossipOf proposalOf headerAllowed
+      → Acceptable (world X k .node i .clock .seen / 3) (sentOf proposal Wide (world X k .node i))
+  unfolding gossipOf proposalOf sentOf tooWide headerAllowed
   outgoing-acceptable k l i h false f =
       let G = sound-tables X k i h in
-      sendable-acceptable (store-sendable G) (stored-of-run X k l i h) 0 0 0 (gossip-in-range G (numbers-below X i h k l)) refl
+      sendable-acceptable (store-sendable G) (stored-of-run X k l i h) 2 0 0 (sent-in-range G false Wide (numbers-below X i h k l) refl) refl
   outgoing-acceptable k l i h true f =
       let G = sound-tables X k i h in
       sendable-acceptable (view-sendable G) (λ c m. stored-of-run X k l i h c (view-stored (world X k .node i .blocks) c m)) _ _ _
-      (proposal-in-range G (numbers-below X i h k l)) (proposal-header G (f refl))
+      (sent-in-range G true Wide (numbers-below X i h k l) refl) (proposal-header G (f refl) Wide)
 
   -- what it sent reads as that packet
   pub sent-reads : (k : ℕ) → k < X .end → (b i : ℕ) (bytes : List ℕ) (S : SentBy N (world X k) (X .steps k) b i bytes)
-      → packetOf bytes ≡ outgoing (S .proposal) (world X k .node i)
+      → packetOf bytes ≡ sentOf (S .proposal) Wide (world X k .node i)
   unfolding packetOut
   sent-reads k l b i bytes S =
       ap packetOf (S .value)
-      ∙ round-trip (outgoing (S .proposal) (world X k .node i))
+      ∙ round-trip (sentOf (S .proposal) Wide (world X k .node i))
       (outgoing-acceptable k (omega arith) i (sender-honest X k l (S .proposal) i (S .buffer) (S .is)) (S .proposal) (S .proposes) .fits)
 
   -- ---- they are accepted

@@ -6,13 +6,13 @@ use mathlib.Core.Logic.{_⊎_, inl, inr}
 use mathlib.Core.Bool.{true, false, false≢true}
 use mathlib.Core.List.{List, _∷_, _++_, List·Memᴰ·cases-cons, append-assoc}
 use native.Mathlib.Omega.{arith}
-use Rattle.protocol.specs.declared.Block.{Block}
-use Rattle.protocol.specs.declared.Vote.{Vote}
+use Rattle.protocol.specs.Entry.{Block, Vote}
+use Rattle.protocol.specs.declared.Width.the-variants.{Wide}
 use Rattle.protocol.specs.Limits.{limits}
 use Rattle.protocol.specs.Chain.{genesis}
 use Rattle.protocol.specs.Store.{entries, Node}
 use Rattle.protocol.specs.Packet.{Packet, packetBytes}
-use Rattle.protocol.specs.Calls.Write.{gossipOf, packetOut}
+use Rattle.protocol.specs.Calls.Write.{gossipOf, sentOf, packetOut}
 use Rattle.protocol.proofs.Chain.Relations.{In}
 use Rattle.protocol.proofs.Filters.Relations.{Cast}
 use Rattle.protocol.proofs.Store.Sound.{store-sound}
@@ -111,13 +111,14 @@ module _ {N : Network} (X : Execution N) where
     s : Sending X i hi false a o m
     s = sends-before X i hi false a o m (omega arith) b l
 
-    acceptable : Acceptable X (world X (s .when) .node i .clock .seen / 3) (gossipOf (world X (s .when) .node i))
+    acceptable : Acceptable X (world X (s .when) .node i .clock .seen / 3) (gossipOf Wide (world X (s .when) .node i))
+    unfolding sentOf
     acceptable = outgoing-acceptable X (s .when) (omega (arith, s .before)) i hi false (λ e. absurd (false≢true e))
 
-    arrival : Arrival (s .when) m j (packetBytes (gossipOf (world X (s .when) .node i)))
-    unfolding packetOut
+    arrival : Arrival (s .when) m j (packetBytes (gossipOf Wide (world X (s .when) .node i)))
+    unfolding packetOut sentOf
     arrival =
-        arrives at-beat del (s .when) m i j (packetBytes (gossipOf (world X (s .when) .node i))) (s .before)
+        arrives at-beat del (s .when) m i j (packetBytes (gossipOf Wide (world X (s .when) .node i))) (s .before)
         (written X (s .when) (omega (arith, s .before)) false i (s .buffer) (s .is) (λ e. absurd (false≢true e))) w (s .beat ∙ f)
         (omega (arith, s .beat)) ne
 
@@ -130,11 +131,11 @@ module _ {N : Network} (X : Execution N) where
     gossip-arrives first soon = record {
       blocks =
           λ c n. arrived-block (s .when) m j (world X (s .when) .node i .clock .seen / 3)
-          (gossipOf (world X (s .when) .node i)) acceptable lm arrival early within c
+          (gossipOf Wide (world X (s .when) .node i)) acceptable lm arrival early within c
           (rw (store-sendable (sound-tables X (s .when) i hi) .root) at (grows X i a (s .when) (s .after) (omega (arith, s .before)) .blocks c n));
       votes =
           λ v n r. arrived-vote (s .when) m j (world X (s .when) .node i .clock .seen / 3)
-          (gossipOf (world X (s .when) .node i)) acceptable lm arrival early within v
+          (gossipOf Wide (world X (s .when) .node i)) acceptable lm arrival early within v
           (grows X i a (s .when) (s .after) (omega (arith, s .before)) .votes v n (not-removed X (s .when) i (v .slot) hi (omega (arith, s .beat))))
           (omega arith);
     }

@@ -5,7 +5,7 @@ use mathlib.Core.Logic.{_⊎_, inl, inr}
 use mathlib.Core.List.{List}
 use native.Mathlib.Nat.{le-refl}
 use native.Mathlib.Omega.{arith}
-use Rattle.protocol.specs.declared.Block.{Block}
+use Rattle.protocol.specs.Entry.{Block}
 use Rattle.protocol.proofs.Chain.Relations
 use Rattle.protocol.proofs.Chain.Above.{parent-known}
 use Rattle.protocol.proofs.Chain.Relations.{In, Known, Sound, Above}

@@ -9,7 +9,7 @@ use native.Mathlib.Nat.{le-refl}
 use native.Mathlib.Omega.{arith}
 use lib.Dec.{eqb, leb}
 use borrow.Author.Tests.{eqb-true, eqb-false, leb-true, leb-false}
-use Rattle.protocol.specs.declared.Block.{Block}
+use Rattle.protocol.specs.Entry.{Block}
 use Rattle.protocol.specs.Calls.Vote.{headOf}
 use Rattle.resilience.specs.Run.{Network, settings, isHonest, voted, built}
 use Rattle.resilience.specs.Resilience.{AtOrAbove, DeliveredAt, StaysAfter}

@@ -8,7 +8,7 @@ use native.Mathlib.Nat.{le-refl}
 use native.Mathlib.Omega.{arith}
 use lib.Dec.{ltb}
 use borrow.Author.Tests.{lt-ltb, ltb-true, ltb-false, not-true, not-false}
-use Rattle.protocol.specs.declared.Vote.{Vote}
+use Rattle.protocol.specs.Entry.{Vote}
 use Rattle.protocol.specs.Filters.{chosen, nothing}
 use Rattle.protocol.specs.Walk.{count}
 use Rattle.protocol.specs.Store.{entries}

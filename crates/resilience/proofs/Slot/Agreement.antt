@@ -7,14 +7,14 @@ use mathlib.Core.List.{List, [], _∷_}
 use native.Mathlib.Omega.{arith}
 use lib.Dec.{eqb}
 use borrow.Author.Tests.{eqb-true, eqb-false}
-use Rattle.protocol.specs.declared.Block.{Block}
-use Rattle.protocol.specs.declared.Vote.{Vote}
+use Rattle.protocol.specs.Entry.{Block, Vote}
+use Rattle.protocol.specs.declared.Width.the-variants.{Wide}
 use Rattle.protocol.specs.Lists.{Same}
 use Rattle.protocol.specs.Store.{inView}
-use Rattle.protocol.specs.Packet.{Packet, packetOf, packetBytes}
+use Rattle.protocol.specs.Packet.{Packet, packetOf, packetBytes, isProposal}
 use Rattle.protocol.specs.Calls.Receive.{receiveInto, brings}
 use Rattle.protocol.specs.Calls.Vote.{headOf}
-use Rattle.protocol.specs.Calls.Write.{proposalOf, packetOut}
+use Rattle.protocol.specs.Calls.Write.{proposalOf, sentOf, packetOut}
 use Rattle.protocol.proofs.Basics.Members.{same-refl}
 use Rattle.protocol.proofs.Basics.Tests.{split}
 use Rattle.protocol.proofs.Filters.Relations.{Cast}
@@ -84,13 +84,14 @@ module _ {N : Network} {X : Execution N} {b p n y : ℕ} (Q : Built X b p n y) w
     proposal = sends-proposal Q (A .when) (omega (arith, A .before)) (omega (arith, beat-now))
 
     abbrev packet : Packet
-    packet = proposalOf (world X (proposal .when) .node p)
+    packet = proposalOf Wide (world X (proposal .when) .node p)
 
     acceptable : Acceptable X (world X (proposal .when) .node p .clock .seen / 3) packet
+    unfolding sentOf
     acceptable = outgoing-acceptable X (proposal .when) (omega (arith, proposal .before, A .before)) p (Q .honest) true (λ e. proposal .now)
 
     arrival : Arrival X (proposal .when) (A .when) v (packetBytes packet)
-    unfolding packetOut
+    unfolding packetOut sentOf
     arrival =
         arrives X b del (proposal .when) (A .when) p v (packetBytes packet) (proposal .before) (proposal .log)
         (woken X (A .when) v (A .before) (_ ∷ []) (ap (λ o. o .log) (A .by .result))) (proposal .beat)
@@ -123,7 +124,7 @@ module _ {N : Network} {X : Execution N} {b p n y : ℕ} (Q : Built X b p n y) w
         go (inl h) = ap (λ z. cond z (packetOf (packetBytes packet) .slot) (world X (arrival .when) .node v .clock .proposed)) h ∙ slot-is
         go (inr h) =
             ap (λ z. cond z (packetOf (packetBytes packet) .slot) (world X (arrival .when) .node v .clock .proposed)) h
-            ∙ brought-before (world X (arrival .when) .node v) (world X (arrival .when) .beat) (packetOf (packetBytes packet)) h (ap (λ o. o .kind) read)
+            ∙ brought-before (world X (arrival .when) .node v) (world X (arrival .when) .beat) (packetOf (packetBytes packet)) h (ap (λ o. isProposal (o .kind)) read)
             (omega (arith, slot-is, arrival-beat, Q .beat))
             ∙ slot-is
 

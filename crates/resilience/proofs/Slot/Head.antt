@@ -7,8 +7,7 @@ use mathlib.Core.List.{List, [], _∷_, _++_, Memᴰ·append-left}
 use native.Mathlib.Omega.{arith}
 use lib.Dec.{ltb}
 use borrow.Author.Tests.{ltb-true, ltb-false}
-use Rattle.protocol.specs.declared.Block.{Block}
-use Rattle.protocol.specs.declared.Vote.{Vote}
+use Rattle.protocol.specs.Entry.{Block, Vote}
 use Rattle.protocol.specs.Lists.{Same}
 use Rattle.protocol.specs.Chain.{genesis}
 use Rattle.protocol.specs.Walk.{head, base}

@@ -7,12 +7,11 @@ use mathlib.Core.Bool.{Bool, true, false, cond}
 use mathlib.Core.List.{List, _∷_}
 use native.Mathlib.Nat.{le-refl}
 use native.Mathlib.Omega.{arith}
-use Rattle.protocol.specs.declared.Block.{Block}
-use Rattle.protocol.specs.declared.Vote.{Vote}
+use Rattle.protocol.specs.Entry.{Block, Vote}
 use Rattle.protocol.specs.Lists.{Same}
 use Rattle.protocol.specs.Chain.{genesis}
 use Rattle.protocol.specs.Store.{inView, Node}
-use Rattle.protocol.specs.Packet.{packetOf}
+use Rattle.protocol.specs.Packet.{packetOf, isProposal}
 use Rattle.protocol.specs.Calls.Receive.{receiveInto, brings}
 use Rattle.protocol.specs.Calls.Write.{afterGenesis}
 use Rattle.protocol.proofs.Basics.Tests.{split}
@@ -46,7 +45,7 @@ module _ {N : Network} {X : Execution N} {b p n y : ℕ} (Q : Built X b p n y) w
   SameEntries bytes = Same Block (afterGenesis (viewOf Q)) (packetOf bytes .blocks) × Same Vote (votesOf Q) (packetOf bytes .votes)
 
   pub same-entries : (k v : ℕ) (bytes : List ℕ) → k < X .end → step N (world X k) (X .steps k) .log ≡ given (world X k .beat) v bytes true ∷ world X k .log
-      → packetOf bytes .kind ≡ 1 → packetOf bytes .slot ≡ b / 3 → SameEntries bytes
+      → isProposal (packetOf bytes .kind) ≡ true → packetOf bytes .slot ≡ b / 3 → SameEntries bytes
   same-entries k v bytes l lg kind slot =
       let o : packetOf bytes .slot % N .nodes ≡ p = ap (λ z. z % N .nodes) slot ∙ turn-of Q in
       let g = genuine X k l v bytes lg .proposal kind (truth (ap (isHonest N) o ∙ Q .honest)) in

@@ -2,14 +2,15 @@
 -- Assumes nothing.
 use Prim.Native.Nat.{ℕ, suc, _/_, _%_, _≤_, _<_}
 use mathlib.Core.Path.{_≡_, refl, sym, ap, _∙_}
-use mathlib.Core.Bool.{Bool, true, false}
+use mathlib.Core.Bool.{Bool, true, false, true≢false}
 use mathlib.Core.List.{List, _∷_}
 use native.Mathlib.Omega.{arith}
 use lib.Dec.{leb}
 use borrow.Author.Tests.{leb-true, leb-false}
+use Rattle.protocol.specs.declared.Width.the-variants.{Wide}
 use Rattle.protocol.specs.Store.{entries, inView}
-use Rattle.protocol.specs.Packet.{packetOf}
-use Rattle.protocol.specs.Calls.Write.{gossipOf, proposalOf, proposedNow, packetOut, lastBlock, afterGenesis}
+use Rattle.protocol.specs.Packet.{packetOf, isProposal}
+use Rattle.protocol.specs.Calls.Write.{gossipOf, proposalOf, sentOf, proposedNow, packetOut, lastBlock, afterGenesis}
 use Rattle.protocol.proofs.Calls.Write.{IsProposer, proposer-true, proposer-holds, last-end}
 use Rattle.protocol.proofs.Calls.Keeps.{Keeps}
 use Rattle.resilience.specs.Run.{Network, settings, sent, owes, owesProposal, step}
@@ -24,7 +25,7 @@ use Rattle.resilience.proofs.Invariants.Clock.{seen-beat}
 use Rattle.resilience.proofs.Invariants.Proposals.{Built}
 use Rattle.resilience.proofs.Delivery.Owed.{Sending, sends-before}
 use Rattle.resilience.proofs.Delivery.Written.{written}
-use Rattle.resilience.proofs.Delivery.Acceptance.{outgoing, sent-reads}
+use Rattle.resilience.proofs.Delivery.Acceptance.{sent-reads}
 use Rattle.resilience.proofs.Slot.ProposerView.{blockOf, proposer, viewOf, votesOf, node-is, own-view}
 
 module _ {N : Network} {X : Execution N} {b p n y : ℕ} (Q : Built X b p n y) where
@@ -37,17 +38,17 @@ module _ {N : Network} {X : Execution N} {b p n y : ℕ} (Q : Built X b p n y) w
       go true h = absurd (omega (arith, grows X p k (Q .when) (leb-true k (Q .when) h) (omega (arith, Q .before)) .done, Q .by .tests .undone, Q .by .beat))
       go false h = leb-false k (Q .when) h
 
-  pub sent-view : (k c : ℕ) (bytes : List ℕ) → k < X .end → SentBy N (world X k) (X .steps k) c p bytes → packetOf bytes .kind ≡ 1
+  pub sent-view : (k c : ℕ) (bytes : List ℕ) → k < X .end → SentBy N (world X k) (X .steps k) c p bytes → isProposal (packetOf bytes .kind) ≡ true
       → packetOf bytes .slot ≡ b / 3
       → (packetOf bytes .blocks ≡ afterGenesis (viewOf Q)) × (packetOf bytes .votes ≡ votesOf Q)
-  unfolding gossipOf proposalOf
+  unfolding gossipOf proposalOf sentOf
   sent-view k c bytes l S kind slot = go (S .proposal) refl
     where
-      reads : (o : Bool) → S .proposal ≡ o → packetOf bytes ≡ outgoing o (world X k .node p)
-      reads o e = sent-reads X k l c p bytes S ∙ ap (λ z. outgoing z (world X k .node p)) e
+      reads : (o : Bool) → S .proposal ≡ o → packetOf bytes ≡ sentOf o Wide (world X k .node p)
+      reads o e = sent-reads X k l c p bytes S ∙ ap (λ z. sentOf z Wide (world X k .node p)) e
 
       go : (o : Bool) → S .proposal ≡ o → (packetOf bytes .blocks ≡ afterGenesis (viewOf Q)) × (packetOf bytes .votes ≡ votesOf Q)
-      go false e = absurd (omega (arith, ap (λ r. r .kind) (reads false e)))
+      go false e = absurd (true≢false (sym kind ∙ ap (λ r. isProposal (r .kind)) (reads false e)))
       go true e =
           let f = reads true e in
           let r = proposer-true (settings N p) (world X k .node p) (S .proposes e) in
@@ -62,8 +63,8 @@ module _ {N : Network} {X : Execution N} {b p n y : ℕ} (Q : Built X b p n y) w
     pub before : when < m
     pub beat : world X when .beat ≡ b
     pub now : proposedNow (settings N p) (world X when .node p) ≡ true
-    pub slot : proposalOf (world X when .node p) .slot ≡ b / 3
-    pub log : step N (world X when) (X .steps when) .log ≡ sent (world X when .beat) p (packetOut true (world X when .node p)) ∷ world X when .log
+    pub slot : proposalOf Wide (world X when .node p) .slot ≡ b / 3
+    pub log : step N (world X when) (X .steps when) .log ≡ sent (world X when .beat) p (packetOut true Wide (world X when .node p)) ∷ world X when .log
 
   module _ (m : ℕ) (lm : m ≤ X .end) (late : b < world X m .beat) where
     owed : owesProposal (world X (suc (Q .when)) .turn p) ≡ true

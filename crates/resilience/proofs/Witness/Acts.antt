@@ -1,13 +1,12 @@
 -- What happens in a run, each as a list of moves: nodes are awake or propose, and packets arrive. A packet is what the log says was
 -- sent; only those of dishonest nodes are written out. Assumes nothing.
-use Prim.Native.Nat.{ℕ}
+use Prim.Native.Nat.{ℕ, _+_}
 use mathlib.Core.Path.{_≡_, refl, sym, ap, _∙_}
 use mathlib.Core.Bool.{Bool, true, not, _&&_, cond}
 use mathlib.Core.List.{List, [], _∷_, _++_, append-assoc}
 use lib.ListN.{replicate}
 use lib.Dec.{eqb}
-use Rattle.protocol.specs.declared.Block.{Block}
-use Rattle.protocol.specs.declared.Vote.{Vote}
+use Rattle.protocol.specs.Entry.{Block, Vote}
 use Rattle.protocol.specs.Store.{fresh}
 use Rattle.protocol.specs.Packet.{Packet, packetBytes}
 use Rattle.resilience.specs.Run.{Network, Begin, Due, Gossip, Proposal, Receive, Event}
@@ -56,7 +55,7 @@ unfoldable pub begin : Act
 begin = (λ w. Begin) ∷ []
 
 unfoldable buffer : List ℕ
-buffer = replicate 500 0
+buffer = replicate 900 0
 
 -- node i is awake: it makes its call and sends its gossip
 unfoldable pub awake : ℕ → Act
@@ -68,7 +67,7 @@ unfoldable pub proposes : ℕ → ℕ → Act
 unfolding buffer
 proposes i number = (λ w. Due i number) ∷ (λ w. Gossip i buffer) ∷ (λ w. Proposal i buffer) ∷ []
 
--- the first byte says gossip or proposal
+-- the first byte; honest nodes write wide: 2 gossip, 3 proposal
 abbrev kindOf : List ℕ → ℕ
 kindOf [] = 0
 kindOf (k ∷ rest) = k
@@ -83,22 +82,22 @@ sentAt kind b i (e ∷ log) =
 -- the gossip that node i sent at beat b reaches node j
 unfoldable pub lateGossip : ℕ → ℕ → ℕ → Act
 unfolding sentAt
-lateGossip b i j = (λ w. Receive j (sentAt 0 b i (w .log))) ∷ []
+lateGossip b i j = (λ w. Receive j (sentAt 2 b i (w .log))) ∷ []
 
 -- the gossip that it sent at this beat
 unfoldable pub gossip : ℕ → ℕ → Act
 unfolding sentAt
-gossip i j = (λ w. Receive j (sentAt 0 (w .beat) i (w .log))) ∷ []
+gossip i j = (λ w. Receive j (sentAt 2 (w .beat) i (w .log))) ∷ []
 
 -- the proposal that it sent at beat b
 unfoldable pub lateProposal : ℕ → ℕ → ℕ → Act
 unfolding sentAt
-lateProposal b i j = (λ w. Receive j (sentAt 1 b i (w .log))) ∷ []
+lateProposal b i j = (λ w. Receive j (sentAt 3 b i (w .log))) ∷ []
 
 -- the proposal that it sent at this beat
 unfoldable pub proposal : ℕ → ℕ → Act
 unfolding sentAt
-proposal i j = (λ w. Receive j (sentAt 1 (w .beat) i (w .log))) ∷ []
+proposal i j = (λ w. Receive j (sentAt 3 (w .beat) i (w .log))) ∷ []
 
 unfoldable spread : ℕ → List ℕ → Act
 unfolding gossip
@@ -119,7 +118,7 @@ exchange nodes = spreadAll nodes nodes
 unfoldable pub packet : Packet → ℕ → Act
 packet p j = (λ w. Receive j (packetBytes p)) ∷ []
 
--- ---- packets that are written out
+-- ---- packets that are written out, narrow
 
 abbrev pub blockWith : ℕ → ℕ → ℕ → Block
 blockWith number parent slot = record { number = number; parent = parent; slot = slot }
@@ -132,3 +131,7 @@ gossipWith bs vs = record { kind = 0; slot = 0; number = 0; blocks = bs; votes =
 
 abbrev pub proposalWith : ℕ → ℕ → List Block → Packet
 proposalWith slot number bs = record { kind = 1; slot = slot; number = number; blocks = bs; votes = [] }
+
+-- the same, wide
+abbrev pub wide : Packet → Packet
+wide p = record { kind = p .kind + 2; slot = p .slot; number = p .number; blocks = p .blocks; votes = p .votes }

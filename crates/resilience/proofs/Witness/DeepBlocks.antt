@@ -12,25 +12,25 @@ use Rattle.resilience.proofs.Witness.Events.{only-in}
 use Rattle.resilience.proofs.Witness.Tests.{apart-true}
 use Rattle.resilience.proofs.Witness.Premises.{Premise, delivery, one-block, enough, majority, Holds, unforged-by, runTest, run-true, proposedTest, premises-true, meetsTest, neededTest}
 use Rattle.resilience.proofs.Witness.DeepTests.{deepTest, deep-true, everyTest, every-true}
-use Rattle.resilience.proofs.Witness.FiveNodes.{five, acts, end, happened, met}
+use Rattle.resilience.proofs.Witness.FiveNodes.{five, twin, acts, end, happened, met}
 
 starts : runTest five acts ≡ true
 unfolding meetsTest proposedTest
-starts = and-left (runTest five acts) _ (and-left (proposedTest five acts 6 2 21 11) _ met)
+starts = and-left (runTest five acts) _ (and-left (proposedTest five acts 6 2 twin 11) _ met)
 
 premises : (q : Premise) → Holds q five 5 2 end
 unfolding meetsTest
-premises = premises-true five acts 5 2 (and-right (proposedTest five acts 6 2 21 11) _ met)
+premises = premises-true five acts 5 2 (and-right (proposedTest five acts 6 2 twin 11) _ met)
 
 -- From slot 2 on every two slots have an honest block. Slot 6 has none: node 1 proposes there, against the chain.
 pub blocks : BlockEvery five end (HonestBlock end) 2
 unfolding everyTest meetsTest acts
 blocks = every-true five 2 end (omega arith) refl
 
--- right after the vote of node 0 in slot 4 its deep block is 21, and right after that of node 3 in slot 6 it is 41
-pub deep-4 : DeepAfterVote five end 0 4 21
+-- right after the vote of node 0 in slot 4 its deep block is twin, and right after that of node 3 in slot 6 it is 41
+pub deep-4 : DeepAfterVote five end 0 4 twin
 unfolding deepTest acts
-deep-4 = deep-true five acts starts 0 4 21 refl
+deep-4 = deep-true five acts starts 0 4 twin refl
 
 pub deep-6 : DeepAfterVote five end 3 6 41
 unfolding deepTest acts
@@ -39,8 +39,8 @@ deep-6 = deep-true five acts starts 3 6 41 refl
 block-31 : HonestBlock end 9 31
 block-31 = record {
   proposer = 3;
-  parent = 21;
-  proposed = only-in 2 (end .log) (built 9 3 31 21) (rw (happened .blocks) (List·Memᴰ·tail (List·Memᴰ·tail (List·Memᴰ·head refl))));
+  parent = twin;
+  proposed = only-in 2 (end .log) (built 9 3 31 twin) (rw (happened .blocks) (List·Memᴰ·tail (List·Memᴰ·tail (List·Memᴰ·head refl))));
 }
 
 claim : Agree five end (DeepAfterVote five end)
@@ -49,7 +49,7 @@ claim = deep-agreement five (run-true five acts starts .opened) end
 
 pub record Conclusion : Type 0 where
   -- these two agree
-  pub agree : AtOrAbove (end .log) 21 41
+  pub agree : AtOrAbove (end .log) twin 41
   -- block 31, of slot 3, is at or below the deep block of slot 6
   pub block : AtOrAbove (end .log) 31 41
   -- block 51, of slot 5, is not: K slots must lie between
@@ -61,7 +61,7 @@ holds =
     let r = claim 2 (conditions-from five end 2 (premises delivery) (premises majority))
     (unforged-by five 5 2 end premises) (premises one-block) (premises enough) in
     record {
-      agree = r .0 blocks 4 6 0 3 21 41 (omega arith) (omega arith) deep-4 deep-6;
+      agree = r .0 blocks 4 6 0 3 twin 41 (omega arith) (omega arith) deep-4 deep-6;
       block = r .1 .1 9 31 6 3 41 block-31 (omega arith) (omega arith) deep-6;
-      too-soon = apart-true (end .log) 51 (41 ∷ 31 ∷ 21 ∷ 11 ∷ 0 ∷ []) refl 41 refl;
+      too-soon = apart-true (end .log) 51 (41 ∷ 31 ∷ twin ∷ 11 ∷ 0 ∷ []) refl 41 refl;
     }

@@ -1,12 +1,12 @@
 -- A run of five nodes that meets every premise of reorg resilience and in which old votes leave the tables, and what the theorem says of it. So the premises do
 -- not contradict one another, and the conclusion speaks of votes and blocks that there are. Assumes nothing.
-use Prim.Native.Nat.{ℕ}
+use Prim.Native.Nat.{ℕ, _+_, _^_}
 use mathlib.Core.Path.{_≡_, refl, ap, _∙_}
 use mathlib.Core.Bool.{true, false, _&&_, cond}
 use mathlib.Core.List.{List, [], _∷_, _++_, List·Memᴰ, List·Memᴰ·head}
 use native.Mathlib.Omega.{arith}
 use lib.Dec.{eqb}
-use Rattle.protocol.specs.declared.Vote.{Vote}
+use Rattle.protocol.specs.Entry.{Vote}
 use Rattle.protocol.specs.Lists.{all, filter}
 use Rattle.protocol.specs.Filters.{chosen, nothing, kept}
 use Rattle.protocol.specs.Store.{entries, inView}
@@ -14,7 +14,7 @@ use Rattle.protocol.specs.Packet.{Packet, packetBytes, packetOf}
 use Rattle.resilience.specs.Run.{Network, World, start, Event, voted, built, given}
 use Rattle.resilience.specs.Resilience.{AtOrAbove, Stays}
 use Rattle.resilience.proofs.Witness.Runs.{runs, runs-append}
-use Rattle.resilience.proofs.Witness.Acts.{network, butOne, ten, Act, together, together-append, begin, awake, proposes, lateGossip, gossip, proposal, exchange, packet, blockWith, voteBy, gossipWith, proposalWith}
+use Rattle.resilience.proofs.Witness.Acts.{network, butOne, ten, Act, together, together-append, begin, awake, proposes, lateGossip, gossip, proposal, exchange, packet, blockWith, voteBy, gossipWith, proposalWith, wide}
 use Rattle.resilience.proofs.Witness.Events.{row, occurs, only, only-in}
 use Rattle.resilience.proofs.Witness.Tests.{countOpposed, countVoters}
 use Rattle.resilience.proofs.Witness.Premises.{meetsTest, meets}
@@ -22,6 +22,10 @@ use Rattle.resilience.proofs.Witness.Premises.{meetsTest, meets}
 -- Node 1 is dishonest. Votes expire after two slots, and a block is deep after two.
 abbrev pub five : Network
 five = network 5 2 2 butOne ten
+
+-- The number of the block that stays. It has more than 64 bits, and its lower half is the number of another block, on another branch.
+abbrev pub twin : ℕ
+twin = 2 ^ 64 + 12
 
 -- ---- the dishonest packets
 
@@ -40,8 +44,8 @@ proposal-12 = proposalWith 1 12 (blockWith 12 0 1 ∷ [])
 abbrev pub vote-12 : Packet
 vote-12 = gossipWith [] (voteBy 1 2 12 ∷ [])
 
-abbrev pub vote-21 : Packet
-vote-21 = gossipWith [] (voteBy 1 2 21 ∷ [])
+abbrev pub vote-twin : Packet
+vote-twin = wide (gossipWith [] (voteBy 1 2 twin ∷ []))
 
 -- one vote of slot 4
 abbrev pub again-12 : Packet
@@ -68,14 +72,14 @@ slot-1 =
     ∷ begin ∷ awake 2 ∷ awake 3 ∷ awake 4 ∷ exchange (2 ∷ 3 ∷ 4 ∷ [])
     ∷ []
 
--- Node 2 proposes block 21, on 11, against its own vote. Node 3 has its proposal before its gossip, node 4 the other way round. They vote for 21,
--- node 3 after it received node 2's vote. In the same beat node 1 votes for 12 at node 2 and for 21 at node 3.
+-- Node 2 proposes block twin, on 11, against its own vote. Node 3 has its proposal before its gossip, node 4 the other way round. They vote for it,
+-- node 3 after it received node 2's vote. In the same beat node 1 votes for 12 at node 2 and for twin at node 3.
 -- Node 0, asleep, receives the proposal at once, and in the vote beat all else that was sent since the merge beat, the latest first. It
 -- wakes for the merge. Node 4 falls asleep before it.
 unfoldable slot-2 : List Act
 slot-2 =
-    begin ∷ proposes 2 21 ∷ proposal 2 3 ∷ gossip 2 3 ∷ gossip 2 4 ∷ proposal 2 4 ∷ proposal 2 0
-    ∷ begin ∷ awake 2 ∷ gossip 2 3 ∷ awake 3 ∷ packet vote-12 2 ∷ packet vote-21 3 ∷ awake 4 ∷ exchange (4 ∷ 3 ∷ 2 ∷ [])
+    begin ∷ proposes 2 twin ∷ proposal 2 3 ∷ gossip 2 3 ∷ gossip 2 4 ∷ proposal 2 4 ∷ proposal 2 0
+    ∷ begin ∷ awake 2 ∷ gossip 2 3 ∷ awake 3 ∷ packet vote-12 2 ∷ packet vote-twin 3 ∷ awake 4 ∷ exchange (4 ∷ 3 ∷ 2 ∷ [])
     ∷ gossip 4 0 ∷ gossip 3 0 ∷ gossip 2 0 ∷ lateGossip 6 2 0 ∷ lateGossip 5 4 0 ∷ lateGossip 5 3 0 ∷ lateGossip 5 2 0
     ∷ begin ∷ awake 0 ∷ awake 2 ∷ awake 3 ∷ exchange (0 ∷ 2 ∷ 3 ∷ [])
     ∷ []
@@ -145,7 +149,7 @@ arrivals f b j (e ∷ log) =
     (f (packetOf (row e .bytes)) ++ arrivals f b j log)
     (arrivals f b j log)
 
--- 0 gossip, 1 proposal
+-- 2 gossip, 3 proposal
 abbrev pub kinds : Packet → List ℕ
 kinds p = p .kind ∷ []
 
@@ -160,25 +164,25 @@ pub record Happened : Type 0 where
       ∷ voted 16 4 51 ∷ voted 16 3 51 ∷ voted 16 2 51 ∷ voted 16 0 51
       ∷ voted 13 4 41 ∷ voted 13 3 41 ∷ voted 13 2 41 ∷ voted 13 0 41
       ∷ voted 10 3 31 ∷ voted 10 2 31 ∷ voted 10 0 31
-      ∷ voted 7 4 21 ∷ voted 7 3 21 ∷ voted 7 2 21
+      ∷ voted 7 4 twin ∷ voted 7 3 twin ∷ voted 7 2 twin
       ∷ voted 4 4 11 ∷ voted 4 3 11 ∷ voted 4 2 12 ∷ []
-  pub blocks : only 2 (end .log) ≡ built 15 0 51 41 ∷ built 12 4 41 31 ∷ built 9 3 31 21 ∷ built 6 2 21 11 ∷ []
+  pub blocks : only 2 (end .log) ≡ built 15 0 51 41 ∷ built 12 4 41 31 ∷ built 9 3 31 twin ∷ built 6 2 twin 11 ∷ []
   pub lies : all (λ e. occurs e (end .log))
       (given 2 0 (packetBytes empty) true
       ∷ given 3 2 (packetBytes proposal-12) true ∷ given 3 3 (packetBytes proposal-11) true
-      ∷ given 7 2 (packetBytes vote-12) true ∷ given 7 3 (packetBytes vote-21) true
+      ∷ given 7 2 (packetBytes vote-12) true ∷ given 7 3 (packetBytes vote-twin) true
       ∷ given 9 3 (packetBytes orphan) false ∷ given 13 4 (packetBytes again-12) true
       ∷ given 18 0 (packetBytes proposal-61) true ∷ []) ≡ true
   pub counts-again : (kept (inView (before .node 3 .votes)) 2 4 1 ≡ nothing) × (kept (inView (before .node 3 .votes)) 2 5 1 ≡ chosen 12)
-  -- the votes of slot 2, in which block 21 is proposed, leave the table of node 3 with its Merge of slot 5
+  -- the votes of slot 2, in which block twin is proposed, leave the table of node 3 with its Merge of slot 5
   pub votes-removed : (before .node 3 .clock .merged ≡ 4) × (end .node 3 .clock .merged ≡ 5)
-      × (ofSlot 2 (entries (before .node 3 .votes)) ≡ voteBy 2 2 21 ∷ voteBy 3 2 21 ∷ voteBy 1 2 21 ∷ voteBy 4 2 21 ∷ voteBy 1 2 12 ∷ [])
+      × (ofSlot 2 (entries (before .node 3 .votes)) ≡ voteBy 2 2 twin ∷ voteBy 3 2 twin ∷ voteBy 1 2 twin ∷ voteBy 4 2 twin ∷ voteBy 1 2 12 ∷ [])
       × (ofSlot 2 (entries (end .node 3 .votes)) ≡ [])
   -- and what it accepts after that Merge, in the propose beat of slot 6, holds them all
-  pub removed-arrive : arrivals (λ p. ofSlot 2 (p .votes)) 18 3 (end .log) ≡ voteBy 4 2 21 ∷ voteBy 2 2 21 ∷ voteBy 3 2 21 ∷ voteBy 1 2 21 ∷ voteBy 1 2 12 ∷ []
+  pub removed-arrive : arrivals (λ p. ofSlot 2 (p .votes)) 18 3 (end .log) ≡ voteBy 4 2 twin ∷ voteBy 2 2 twin ∷ voteBy 3 2 twin ∷ voteBy 1 2 twin ∷ voteBy 1 2 12 ∷ []
   pub counts-3 : (countOpposed five end 3 ≡ 2) × (countVoters five end 3 ≡ 3)
-  pub at-node-3 : arrivals kinds 6 3 (end .log) ≡ 0 ∷ 1 ∷ []
-  pub at-node-4 : arrivals kinds 6 4 (end .log) ≡ 1 ∷ 0 ∷ []
+  pub at-node-3 : arrivals kinds 6 3 (end .log) ≡ 2 ∷ 3 ∷ []
+  pub at-node-4 : arrivals kinds 6 4 (end .log) ≡ 3 ∷ 2 ∷ []
 
 pub happened : Happened
 unfolding meetsTest acts arrivals ofSlot
@@ -194,25 +198,25 @@ happened = record {
   at-node-4 = refl;
 }
 
--- ---- what the theorem says of it: block 21 stays
+-- ---- what the theorem says of it: block twin stays
 
 pub record Conclusion : Type 0 where
-  pub votes-2 : (i x : ℕ) → List·Memᴰ (voted 7 i x) (end .log) → x ≡ 21
-  pub votes-3 : (i x : ℕ) → List·Memᴰ (voted 10 i x) (end .log) → AtOrAbove (end .log) 21 x
-  pub votes-4 : (i x : ℕ) → List·Memᴰ (voted 13 i x) (end .log) → AtOrAbove (end .log) 21 x
-  pub votes-5 : (i x : ℕ) → List·Memᴰ (voted 16 i x) (end .log) → AtOrAbove (end .log) 21 x
-  pub votes-6 : (i x : ℕ) → List·Memᴰ (voted 19 i x) (end .log) → AtOrAbove (end .log) 21 x
-  pub base-3 : (i x y : ℕ) → List·Memᴰ (built 9 i x y) (end .log) → AtOrAbove (end .log) 21 y
-  pub base-4 : (i x y : ℕ) → List·Memᴰ (built 12 i x y) (end .log) → AtOrAbove (end .log) 21 y
-  pub base-5 : (i x y : ℕ) → List·Memᴰ (built 15 i x y) (end .log) → AtOrAbove (end .log) 21 y
+  pub votes-2 : (i x : ℕ) → List·Memᴰ (voted 7 i x) (end .log) → x ≡ twin
+  pub votes-3 : (i x : ℕ) → List·Memᴰ (voted 10 i x) (end .log) → AtOrAbove (end .log) twin x
+  pub votes-4 : (i x : ℕ) → List·Memᴰ (voted 13 i x) (end .log) → AtOrAbove (end .log) twin x
+  pub votes-5 : (i x : ℕ) → List·Memᴰ (voted 16 i x) (end .log) → AtOrAbove (end .log) twin x
+  pub votes-6 : (i x : ℕ) → List·Memᴰ (voted 19 i x) (end .log) → AtOrAbove (end .log) twin x
+  pub base-3 : (i x y : ℕ) → List·Memᴰ (built 9 i x y) (end .log) → AtOrAbove (end .log) twin y
+  pub base-4 : (i x y : ℕ) → List·Memᴰ (built 12 i x y) (end .log) → AtOrAbove (end .log) twin y
+  pub base-5 : (i x y : ℕ) → List·Memᴰ (built 15 i x y) (end .log) → AtOrAbove (end .log) twin y
 
-pub met : meetsTest five acts 6 2 21 11 ≡ true
+pub met : meetsTest five acts 6 2 twin 11 ≡ true
 unfolding meetsTest acts
 met = refl
 
 pub witness-holds : Conclusion
 witness-holds =
-    let s : Stays 6 21 end = meets five acts 6 2 21 11 met in
+    let s : Stays 6 twin end = meets five acts 6 2 twin 11 met in
     record {
       votes-2 = λ i x m. s .0 7 i x m refl;
       votes-3 = λ i x m. s .1 .0 10 i x m (omega arith);
@@ -225,6 +229,6 @@ witness-holds =
     }
 
 -- the last vote is one of those
-pub last-vote : AtOrAbove (end .log) 21 51
+pub last-vote : AtOrAbove (end .log) twin 51
 last-vote =
     witness-holds .votes-6 3 51 (only-in 1 (end .log) (voted 19 3 51) (rw (happened .votes) (List·Memᴰ·head refl)))

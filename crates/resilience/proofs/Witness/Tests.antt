@@ -8,12 +8,11 @@ use mathlib.Core.List.{List, [], _∷_, _++_, List·Memᴰ, List·Memᴰ·head, 
 use native.Mathlib.Omega.{arith}
 use lib.Dec.{eqb, leb, ltb, T}
 use borrow.Author.Tests.{eqb-true, eqb-false, ne-eqb, eq-eqb, not-true, lt-ltb, le-leb, ltb-true}
-use Rattle.protocol.specs.declared.Block.{Block}
-use Rattle.protocol.specs.declared.Vote.{Vote}
+use Rattle.protocol.specs.Entry.{Block, Vote}
 use Rattle.protocol.specs.Lists.{any, all, Same}
 use Rattle.protocol.specs.Store.{sameBlock, sameVote}
 use Rattle.protocol.specs.Walk.{count}
-use Rattle.protocol.specs.Packet.{Packet, packetOf}
+use Rattle.protocol.specs.Packet.{Packet, packetOf, isProposal}
 use Rattle.protocol.specs.Refusal.{Reply, refused, done}
 use Rattle.protocol.specs.Calls.Open.{openNode}
 use Rattle.protocol.proofs.Basics.Tests.{facts, both, and-left, and-right, clashing}
@@ -98,9 +97,9 @@ GenuineVotes N earlier p =
 
 abbrev pub GenuineProposal : Network → List Event → Packet → Type 0
 GenuineProposal N earlier p =
-    p .kind ≡ 1 → T (isHonest N (p .slot % N .nodes)) →
+    isProposal (p .kind) ≡ true → T (isHonest N (p .slot % N .nodes)) →
     (beat : ℕ) × (bytes : List ℕ) × List·Memᴰ (sent beat (p .slot % N .nodes) bytes) earlier
-    × (packetOf bytes .kind ≡ 1) × (packetOf bytes .slot ≡ p .slot) × (packetOf bytes .number ≡ p .number)
+    × (isProposal (packetOf bytes .kind) ≡ true) × (packetOf bytes .slot ≡ p .slot) × (packetOf bytes .number ≡ p .number)
     × Same Block (packetOf bytes .blocks) (p .blocks) × Same Vote (packetOf bytes .votes) (p .votes)
 
 pub unforged : (N : Network) (log : List Event) →
@@ -177,18 +176,18 @@ module _ {A : Type 0} where
 -- a proposal of the same slot, number and entries
 unfoldable pub sameProposal : Packet → Packet → Bool
 sameProposal q p =
-    eqb (q .kind) 1 && (eqb (q .slot) (p .slot) && (eqb (q .number) (p .number)
+    isProposal (q .kind) && (eqb (q .slot) (p .slot) && (eqb (q .number) (p .number)
     && (sameMembers sameBlock (q .blocks) (p .blocks) && sameMembers sameVote (q .votes) (p .votes))))
 
 unfoldable pub proposalTest : Network → List Event → Packet → Bool
 proposalTest N earlier p =
-    implies (eqb (p .kind) 1 && isHonest N (p .slot % N .nodes))
+    implies (isProposal (p .kind) && isHonest N (p .slot % N .nodes))
     (any (λ e. eqb (row e .kind) 3 && (eqb (row e .node) (p .slot % N .nodes) && sameProposal (packetOf (row e .bytes)) p)) earlier)
 
 pub proposal-true : (N : Network) (earlier : List Event) (p : Packet) → proposalTest N earlier p ≡ true → GenuineProposal N earlier p
 unfolding proposalTest sameProposal
 proposal-true N earlier p h kind honest =
-    let r = any-true _ earlier (implied (eqb (p .kind) 1 && isHonest N (p .slot % N .nodes)) _ h (both (eq-eqb (p .kind) 1 kind) (holds-true _ honest))) in
+    let r = any-true _ earlier (implied (isProposal (p .kind) && isHonest N (p .slot % N .nodes)) _ h (both kind (holds-true _ honest))) in
     let e = r .0 in
     let t = r .2 in
     let z : Packet = packetOf (row e .bytes) in

@@ -6,6 +6,7 @@ use mathlib.Core.Bool.{not, _&&_, _||_}
 use mathlib.Core.Path.{_≡_, refl, sym, _∙_}
 use denote.Ref.{now}
 use lib.Dec.{ltb}
+use Rattle.protocol.specs.Words.{value}
 use Rattle.protocol.specs.Lent.{rowsOf, makeBlock}
 use Rattle.rows.specs.Rows.{markedBlock}
 use Rattle.index.proofs.Tables.{differ-before}
@@ -20,7 +21,7 @@ returns c =
     let p = c .before in
     let s = p .before .before .before in
     let row = s .args .row in
-    sym (tested-none (λ b. ltb (b .slot) (row .block .slot)) _ _ (row .block .parent) (row .shown)
+    sym (tested-none (λ b. ltb (b .slot) (row .block .slot)) _ _ (value (row .block .parent)) (row .shown)
     (before _ _ _ _ (s .pre .0) (p .place .ensures) (omega arith)) (c .if1 .taken))
 
 returns-2 : tie.Need-returns-2
@@ -29,7 +30,7 @@ returns-2 c =
     let p = c .before .before in
     let s = p .before .before .before in
     let row = s .args .row in
-    sym (tested-none (λ b. ltb (b .slot) (row .block .slot)) _ _ (row .block .parent) (row .shown)
+    sym (tested-none (λ b. ltb (b .slot) (row .block .slot)) _ _ (value (row .block .parent)) (row .shown)
     (not-before _ _ _ _ (s .pre .0) (p .place .ensures) (c .if2 .taken)) refl)
 
 abbrev start : tie.After-block-at → tie.Start
@@ -46,7 +47,7 @@ told b =
     let p = i .before in
     let s = start b in
     let row = s .args .row in
-    tested-at (λ q. ltb (q .slot) (row .block .slot)) _ _ (row .block .parent) (row .shown) (before _ _ _ _ (s .pre .0) (p .place .ensures) (j .if2 .left)) (i .if1 .left)
+    tested-at (λ q. ltb (q .slot) (row .block .slot)) _ _ (value (row .block .parent)) (row .shown) (before _ _ _ _ (s .pre .0) (p .place .ensures) (j .if2 .left)) (i .if1 .left)
     (differ-before _ _ _ (s .pre .0) (s .pre .1 .differ)) (b .block-at .ensures)
 
 returns-3 : tie.Need-returns-3

@@ -2,13 +2,13 @@
 use borrow.Author.Needs.{needs}
 use borrow.Author.Tests.{leb-true, not-true, not-false}
 use native.Mathlib.Omega.{arith}
-use Prim.Native.Nat.{_*_, _≤_}
+use Prim.Native.Nat.{_≤_}
 use mathlib.Core.Bool.{false≢true}
 use mathlib.Core.Path.{sym, _∙_}
 use denote.Ref.{now}
-use lib.ListN.{length}
+use Rattle.protocol.specs.Lent.{BlocksFit, VotesFit}
 use Rattle.protocol.proofs.Store.Sound.{places-few}
-use Rattle.protocol.proofs.Lent.Rows.{places-fit}
+use Rattle.protocol.proofs.Lent.Rows as rows
 use Rattle.soundness.proofs.Whole.{no-settings, no-places, no-blocks-fit, no-votes-fit, no-clock, no-block-ranges, no-vote-ranges, tables-left}
 use Rattle.soundness.proofs.sound_indexed.Statement.{statement}
 use Rattle.soundness.proofs.sound_indexed.Tie as tie
@@ -35,20 +35,20 @@ counted c = c .before .before
 abbrev start : tie.Else4 → tie.Start
 start c = c .before .before .before .before .before .before .before .before .before .before .before .before
 
-blocks-fit : (c : tie.Else4) → let a = start c .args in (4 * a .blocks-used ≤ length (now (a .blocks))) × (a .blocks-used ≤ 2048)
+blocks-fit : (c : tie.Else4) → let a = start c .args in BlocksFit (a .blocks-used) (now (a .blocks)) × (a .blocks-used ≤ 2048)
 blocks-fit c =
     let d = c .before .before in
     let e = d .before .before in
     let h = leb-true _ _ (sym (d .before .fits2 .ensures) ∙ not-false _ (d .if3 .left)) in
     let few = places-few _ (sym (e .before .places-sound .ensures) ∙ not-false _ (e .if2 .left)) in
-    (places-fit _ _ h, omega arith)
+    (rows.blocks-fit _ _ h, omega arith)
 
-votes-fit : (c : tie.Else4) → let a = start c .args in (4 * a .votes-used ≤ length (now (a .votes))) × (a .votes-used ≤ 8192)
+votes-fit : (c : tie.Else4) → let a = start c .args in VotesFit (a .votes-used) (now (a .votes)) × (a .votes-used ≤ 8192)
 votes-fit c =
     let e = c .before .before .before .before in
     let h = leb-true _ _ (sym (c .before .fits3 .ensures) ∙ not-false _ (c .if4 .left)) in
     let few = places-few _ (sym (e .before .places-sound .ensures) ∙ not-false _ (e .if2 .left)) in
-    (places-fit _ _ h, omega arith)
+    (rows.votes-fit _ _ h, omega arith)
 
 returns-6 : tie.Need-returns-6
 returns-6 c = (no-block-ranges _ _ _ _ _ _ (sym (c .before .blocks-in-range .ensures) ∙ not-true _ (c .if6 .taken)), λ e. absurd (false≢true e))

@@ -6,6 +6,7 @@ use mathlib.Core.Bool.{not, _&&_, _||_}
 use mathlib.Core.Path.{_≡_, sym, _∙_}
 use denote.Ref.{now}
 use lib.Dec.{leb}
+use Rattle.protocol.specs.Words.{value}
 use Rattle.protocol.specs.Lent.{rowsOf, makeBlock}
 use Rattle.rows.specs.Rows.{markedVote}
 use Rattle.soundness.specs.Parts.{votedSound}
@@ -18,13 +19,13 @@ unfolding votedSound
 returns c =
     let p = c .before in
     let row = p .before .before .before .args .row in
-    sym (tested-none (λ b. leb (b .slot) (row .vote .slot)) _ _ (row .vote .number) (row .shown) (p .place .ensures) (c .if1 .taken))
+    sym (tested-none (λ b. leb (b .slot) (row .vote .slot)) _ _ (value (row .vote .number)) (row .shown) (p .place .ensures) (c .if1 .taken))
 
 block-at-requires : tie.Need-block-at-requires
 block-at-requires c κs =
     let p = c .before in
     let row = p .before .before .before .args .row in
-    let h = tested-below (λ b. leb (b .slot) (row .vote .slot)) _ _ (row .vote .number) (row .shown) (p .place .ensures) (c .if1 .left) in
+    let h = tested-below (λ b. leb (b .slot) (row .vote .slot)) _ _ (value (row .vote .number)) (row .shown) (p .place .ensures) (c .if1 .left) in
     omega arith
 
 abbrev start : tie.After-block-at → tie.Start
@@ -39,7 +40,7 @@ told b =
     let i = b .before in
     let s = start b in
     let row = s .args .row in
-    tested-at (λ q. leb (q .slot) (row .vote .slot)) _ _ (row .vote .number) (row .shown) (i .before .place .ensures) (i .if1 .left) (s .pre .differ) (b .block-at .ensures)
+    tested-at (λ q. leb (q .slot) (row .vote .slot)) _ _ (value (row .vote .number)) (row .shown) (i .before .place .ensures) (i .if1 .left) (s .pre .differ) (b .block-at .ensures)
 
 returns-2 : tie.Need-returns-2
 returns-2 c = sym (told (c .before .before .before) ∙ fails _ (lt-leb _ _ (c .if2 .taken)))

@@ -8,7 +8,7 @@ use mathlib.Core.Logic.{⊎-elim}
 use mathlib.Core.Path.{_≡_, refl, ap, sym, _∙_}
 use denote.Ref.{now}
 use lib.ListN.{length, getD, take}
-use Rattle.protocol.specs.declared.Block.{Block}
+use Rattle.protocol.specs.Entry.{Block}
 use Rattle.protocol.specs.Chain.{genesis}
 use Rattle.protocol.specs.Store.{Marked, entries}
 use Rattle.protocol.specs.Packet.{packetOf}

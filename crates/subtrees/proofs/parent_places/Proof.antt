@@ -5,6 +5,7 @@ use Prim.Native.Nat.{_-_, _≤_}
 use mathlib.Core.Path.{_≡_, refl, ap, _∙_}
 use lib.ListN.{length}
 use denote.Ref.{now}
+use Rattle.protocol.specs.Words.{value}
 use Rattle.search_tree.proofs.Tree.{index-free}
 use Rattle.index.specs.Places.{BlockIndex}
 use Rattle.subtrees.specs.Places.{placeIn, Parents}
@@ -35,7 +36,7 @@ put-link-requires : tie.Need-put-link-requires Inv-loop μ-loop
 put-link-requires c κs =
     let l = c .before .before .before .before .before .loop in
     let s = c .before .before .before .before .before .before .before .before .before in
-    (omega (arith, s .pre .4), omega (arith, c .before .place-in .ensures, place-low (now (s .args .blocks)) (l .i) (c .before .before .before .block-at .result .block .parent)))
+    (omega (arith, s .pre .4), omega (arith, c .before .place-in .ensures, place-low (now (s .args .blocks)) (l .i) (value (c .before .before .before .block-at .result .block .parent))))
 
 add-block-requires : tie.Need-add-block-requires Inv-loop μ-loop
 add-block-requires c κs =

@@ -2,19 +2,29 @@
 use borrow.Author.Needs.{needs}
 use native.Mathlib.Omega.{arith}
 use borrow.Author.Tests.{eq-eqb, ne-eqb}
-use Prim.Native.Nat.{_<_}
-use lib.ListN.{length, getD}
+use Prim.Native.Nat.{ℕ, _<_}
+use mathlib.Core.Path.{_≡_, ap, _∙_}
+use lib.ListN.{length}
 use denote.Ref.{now}
+use Rattle.numbers.specs.Kept.{numberIn}
+use Rattle.subtrees.specs.Places.{placeIn}
 use Rattle.subtrees.proofs.Places.{place-lt}
 use Rattle.subtrees.proofs.Handing.{set-word}
 use Rattle.subtrees.proofs.place_voter.Statement.{statement}
 use Rattle.subtrees.proofs.place_voter.Tie as tie
 
--- the place found is in the table
+-- the place found is that of the number kept for the voter
+found : (p : tie.After-place-in) → let a = p .before .before .before .before .before .before .before .before .before .args in
+    p .place-in .result ≡ placeIn (now (a .blocks)) (a .used) (numberIn (now (a .numbers)) (a .v))
+found p =
+    let a = p .before .before .before .before .before .before .before .before .before .args in
+    p .place-in .ensures ∙ ap (λ (x : ℕ). placeIn (now (a .blocks)) (a .used) x) (p .before .kept-at .ensures)
+
+-- it is in the table
 low : (p : tie.After-place-in) → p .place-in .result < length (now (p .before .before .before .before .before .before .before .before .before .args .masks))
 low p =
     let s = p .before .before .before .before .before .before .before .before .before in
-    omega (arith, p .place-in .ensures, place-lt (now (s .args .blocks)) (s .args .used) (getD (now (s .args .numbers)) (s .args .v) 0) (s .pre .2))
+    omega (arith, found p, place-lt (now (s .args .blocks)) (s .args .used) (numberIn (now (s .args .numbers)) (s .args .v)) (s .pre .2))
 
 mul-if1 : tie.Need-mul-if1
 mul-if1 c = search needs
@@ -22,11 +32,8 @@ mul-if1 c = search needs
 shared-slice-read-if1 : tie.Need-shared-slice-read-if1
 shared-slice-read-if1 c = search needs
 
-mul-place-in : tie.Need-mul-place-in
-mul-place-in c = search needs
-
-shared-slice-read-place-in : tie.Need-shared-slice-read-place-in
-shared-slice-read-place-in c = search needs
+kept-at-requires : tie.Need-kept-at-requires
+kept-at-requires c κs = search needs
 
 place-in-requires : tie.Need-place-in-requires
 place-in-requires c κs = search needs
@@ -54,12 +61,12 @@ returns c =
     let p = c .before .before in
     let i = p .before .before in
     let a = p .before .before .before .before .before .before .before .before .before .args in
-    simp (ne-eqb _ _ (i .if1 .taken)) (set-word (now (a .masks)) _ _ _ (a .v) (p .place-in .ensures) (c .with .ensures))
+    simp (ne-eqb _ _ (i .if1 .taken)) (set-word (now (a .masks)) _ _ _ (a .v) (found p) (c .with .ensures))
 
 returns-2 : tie.Need-returns-2
 returns-2 c = simp (eq-eqb _ _ (c .if1 .left))
 
 pub place-voter-spec : {M : Type 1} → statement M
 place-voter-spec {M} =
-    let s = tie.spec {M = M} mul-if1 shared-slice-read-if1 mul-place-in shared-slice-read-place-in place-in-requires mul-with slice-read-with in
+    let s = tie.spec {M = M} mul-if1 shared-slice-read-if1 kept-at-requires place-in-requires mul-with slice-read-with in
     tie.close (s with-requires mul-masks slice-write-masks same-length returns returns-2)

@@ -7,13 +7,14 @@ use Rattle.trials.proofs.packet.Statement.{statement}
 use Rattle.trials.proofs.packet.Tie as tie
 
 abbrev Inv-loop : tie.InvT-loop
-Inv-loop words bytes₀ n votes place₀ i₀ bytes place i = (length bytes ≡ length bytes₀) × (place ≤ 8 * i)
+Inv-loop words bytes₀ n votes wide place₀ i₀ bytes place i = (length bytes ≡ length bytes₀) × (place ≤ 16 * i) × (wide ≤ 16)
 
 abbrev μ-loop : tie.MeasureT-loop
-μ-loop words bytes₀ n votes place₀ i₀ bytes place i = 32 - i
+μ-loop words bytes₀ n votes wide place₀ i₀ bytes place i = 32 - i
 
 pub packet-spec : {M : Type 1} → statement M
 packet-spec {M} =
-    let s₁ = tie.spec {M = M} Inv-loop μ-loop (λ c κs. search needs) (λ c. search needs) (λ c. search needs) (λ c. search needs) (λ c. search needs) in
-    let s₂ = s₁ (λ c κs. search needs) (λ c κs. search needs) (λ c κs. search needs) (λ c. search needs) (λ c. search needs) in
-    tie.close (s₂ (λ c. search needs) (λ c. search needs) (λ c. search needs))
+    let s₁ = tie.spec {M = M} Inv-loop μ-loop (λ c κs. search needs) (λ c. search needs) (λ c. search needs) (λ c. search needs) (λ c κs. search needs) in
+    let s₂ = s₁ (λ c κs. search needs) (λ c. search needs) (λ c κs. search needs) (λ c. search needs) (λ c. search needs) (λ c κs. search needs) in
+    let s₃ = s₂ (λ c. search needs) (λ c. search needs) (λ c. search needs) (λ c. search needs) (λ c. search needs) (λ c. search needs) in
+    tie.close (s₃ (λ c. search needs) (λ c. search needs))

@@ -8,7 +8,7 @@ abbrev Inv-loop : tie.InvT-loop
 Inv-loop buffer end₀ i₀ end i = Unit {0}
 
 abbrev μ-loop : tie.MeasureT-loop
-μ-loop buffer end₀ i₀ end i = 100 - i
+μ-loop buffer end₀ i₀ end i = 200 - i
 
 pub touched-spec : {M : Type 1} → statement M
 touched-spec {M} =

@@ -8,10 +8,10 @@ use Rattle.writer.proofs.Rows.{section-size, section-lent}
 use Rattle.writer.proofs.put_section.Statement.{statement}
 use Rattle.writer.proofs.put_section.Tie as tie
 
-room : (s : tie.Start) → let a = s .args in 2 + length (entriesBytes (a .widths) (sentFrom (a .proposal) (a .rows .now) (a .from) (a .used))) ≤ length (a .buf .now)
+room : (s : tie.Start) → let a = s .args in 2 + length (entriesBytes (a .widths) (sentFrom (a .proposal) (a .words) (a .rows .now) (a .from) (a .used))) ≤ length (a .buf .now)
 room s =
     let a = s .args in
-    omega (arith, s .pre .1, section-size (a .widths) (sentFrom (a .proposal) (a .rows .now) (a .from) (a .used)))
+    omega (arith, s .pre .2, section-size (a .widths) (sentFrom (a .proposal) (a .words) (a .rows .now) (a .from) (a .used)))
 
 count-sent-requires : tie.Need-count-sent-requires
 count-sent-requires c κs = search needs
@@ -44,7 +44,7 @@ returns c =
     let n = p1 .before .before .count-sent in
     let s = p1 .before .before .before .before .before in
     let a = s .args in
-    let rs = sentFrom (a .proposal) (a .rows .now) (a .from) (a .used) in (
+    let rs = sentFrom (a .proposal) (a .words) (a .rows .now) (a .from) (a .used) in (
       omega (arith, section-size (a .widths) rs, p2 .put-rows .ensures .0),
       section-lent (a .widths) rs (n .result) (a .buf .now) (p1 .put-number .last .0) (p2 .put-rows .last .0) (n .ensures) (room s) (p1 .put-number .ensures) (p2 .put-rows .ensures .1),
     )

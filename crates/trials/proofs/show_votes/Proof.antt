@@ -1,0 +1,16 @@
+-- `trials::show_votes` meets its contract. Assumes nothing.
+use Prim.Native.Nat.{_-_}
+use borrow.Author.Needs.{needs}
+use Rattle.trials.proofs.show_votes.Statement.{statement}
+use Rattle.trials.proofs.show_votes.Tie as tie
+
+abbrev Inv-loop : tie.InvT-loop
+Inv-loop words used i₀ i = Unit {0}
+
+abbrev μ-loop : tie.MeasureT-loop
+μ-loop words used i₀ i = 64 - i
+
+pub show-votes-spec : {M : Type 1} → statement M
+show-votes-spec {M} =
+    let s = tie.spec {M = M} Inv-loop μ-loop (λ c. search needs) (λ c. search needs) (λ c κs. search needs) (λ c. search needs) (λ c. search needs) in
+    tie.close (s (λ c. search needs) (λ c. search needs))

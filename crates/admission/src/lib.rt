@@ -1,6 +1,6 @@
 // Which entries of a packet keep the rules, and which are new. Nothing may be changed before that is known, so the packet's entries are looked up
 // in an index of the table that they join, and the first place of each is noted in a set, by which they are stored and shown later.
-// All entries together cost two descents for each block and two for each vote, of which the longest meets 27 blocks or 49 votes. Where there is
+// All entries together cost two descents for each block and two for each vote, of which the longest meets 65 blocks or 81 votes. Where there is
 // no index, for a packet that is longer than it has room for, each descent is a search of the table and the packet.
 // No function keeps an array.
 use protocol::Block;

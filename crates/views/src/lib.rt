@@ -1,6 +1,6 @@
 // Bringing a proposal's entries into view: its own in one pass over each table, and then all that its blocks stand on in another.
 // Which rows are the packet's own was found when it was tested: they are in a set of places, or stand behind those that were there before it.
-// A parent is looked up in an index of the blocks, in links that the caller lends; a descent meets at most 27 blocks, whatever numbers are looked
+// A parent is looked up in an index of the blocks, in links that the caller lends; a descent meets at most 65 blocks, whatever numbers are looked
 // up. A mark is in no key, so the index serves until a row is added. No function keeps an array: the largest call takes less than 1 KB of stack.
 use protocol::Number;
 use rows::BlockRow;

@@ -121,7 +121,7 @@ fn admit_block(
     let n = used + i;
     let parent_place = index::known_block(blocks, used, bytes, n, indexed, links, b.parent);
     let parent = block_of(blocks, used, bytes, parent_place);
-    let place = index::join_block(blocks, used, bytes, n, indexed, links);
+    let place = index::join_block(blocks, used, bytes, n, indexed, links, b.number);
     let earlier = block_of(blocks, used, bytes, place);
     index::note_first(firsts, n, place);
     let allowed = block_allowed(slot, b, parent, earlier);
@@ -294,7 +294,7 @@ fn is_new_vote(
 {
     let vote = packets::vote_at(bytes, i);
     let n = used + i;
-    let place = index::join_vote(votes, used, bytes, n, indexed, links);
+    let place = index::join_vote(votes, used, bytes, n, indexed, links, vote);
     index::note_first(firsts, n, place);
     if place != 0 {
         return false;

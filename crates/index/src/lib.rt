@@ -10,18 +10,18 @@ use search_tree::Spot;
 ghost use mathlib.Core.Bool.{true, cond};
 ghost use mathlib.Core.Path.{_≡_};
 ghost use Prim.Native.Nat.{_+_, _*_, _<_, _≤_};
-ghost use lib.Dec.{leb};
 ghost use lib.ListN.{length, getD};
 ghost use Rattle.protocol.specs.Chain.{genesis};
 ghost use Rattle.protocol.specs.Words.{value, blockOf, voteOf};
 ghost use Rattle.protocol.specs.Packet.{packetOf};
+ghost use Rattle.packets.specs.Header.{noVote};
 ghost use Rattle.protocol.specs.Lent.{BlocksFit, VotesFit, rowsOf, makeBlock, makeVote};
 ghost use Rattle.bitset.specs.Bitset.{inserted};
 ghost use Rattle.search_tree.specs.Tree.{Placed, Sought, Blank};
 ghost use Rattle.index.specs.Keys.{numberKey, voteKey, sameKey, rootOf, firstOf, restOf, keyShape};
 ghost use Rattle.index.specs.declared.Kind.the-variants.{KnownBlocks, KnownVotes};
 ghost use Rattle.index.specs.Index.{offsetsOf, rowKey, packetKey, keyAt, inTable, InPacket, Readable, IndexOf, Room, keysDiffer};
-ghost use Rattle.index.specs.Places.{placeOfNumber, numbersDiffer, votesDiffer, BlockIndex, VoteIndex, SlotIndex, slotKey, knownBlocks};
+ghost use Rattle.index.specs.Places.{placeOfNumber, numbersDiffer, votesDiffer, BlockIndex, VoteIndex, SlotIndex, slotKey, knownBlocks, knownVotes};
 ghost use Rattle.index.specs.Firsts.{firstPlace};
 
 // What an index goes by: four words, of which d is the upper half of a number. Its root is chosen by b, c and d, and digits of all four part those
@@ -337,19 +337,38 @@ fn find(
     spot.place
 }
 
-// Place n joins the index of those before it; the answer is one more than the first of these that has its key, or 0. The cost is a descent.
-fn add(kind: Kind, words: &[u64], used: usize, bytes: &[u8], n: usize, links: &mut [u16]) -> usize
-    requires { ⌜ Readable kind (now words) used (now bytes) (n + 1) × Room (n + 1) (now links) × IndexOf kind (now words) used (now bytes) n (now links) ⌝ }
+// Place n, which has this key, joins the index of those before it; the answer is one more than the first of these that has the key, or 0.
+// The cost is a descent.
+fn add_key(
+    kind: Kind,
+    words: &[u64],
+    used: usize,
+    bytes: &[u8],
+    n: usize,
+    links: &mut [u16],
+    key: Key,
+) -> usize
+    requires { ⌜ Readable kind (now words) used (now bytes) (n + 1) × Room (n + 1) (now links) × IndexOf kind (now words) used (now bytes) n (now links)
+        × (key ≡ keyAt kind (now words) used (now bytes) n) ⌝ }
     ensures { λ r. ⌜ Placed (keyAt kind (now (words .entry)) used (now (bytes .entry))) n (keyAt kind (now (words .entry)) used (now (bytes .entry)) n) r
         × IndexOf kind (now (words .entry)) used (now (bytes .entry)) (n + 1) (now (links .exit)) ⌝ }
 {
-    let key = key_at(kind, words, used, bytes, n);
     let spot = descend(kind, words, used, bytes, n, links, key);
     let place = spot.place;
     if place == 0 {
         search_tree::put_link(links, spot.at, n + 1);
     }
     place
+}
+
+// The same, with the key that is read there.
+fn add(kind: Kind, words: &[u64], used: usize, bytes: &[u8], n: usize, links: &mut [u16]) -> usize
+    requires { ⌜ Readable kind (now words) used (now bytes) (n + 1) × Room (n + 1) (now links) × IndexOf kind (now words) used (now bytes) n (now links) ⌝ }
+    ensures { λ r. ⌜ Placed (keyAt kind (now (words .entry)) used (now (bytes .entry))) n (keyAt kind (now (words .entry)) used (now (bytes .entry)) n) r
+        × IndexOf kind (now (words .entry)) used (now (bytes .entry)) (n + 1) (now (links .exit)) ⌝ }
+{
+    let key = key_at(kind, words, used, bytes, n);
+    add_key(kind, words, used, bytes, n, links, key)
 }
 
 // The index of the first n places, in links that are all free; and whether their keys differ. The cost is a descent for each place.
@@ -405,7 +424,7 @@ fn seek(
     search(kind, words, used, bytes, n, key)
 }
 
-// `add` where the links are an index, and else what it would answer.
+// `add_key` where the links are an index, and else what it would answer.
 fn join(
     kind: Kind,
     words: &[u64],
@@ -414,15 +433,16 @@ fn join(
     n: usize,
     indexed: bool,
     links: &mut [u16],
+    key: Key,
 ) -> usize
-    requires { ⌜ Readable kind (now words) used (now bytes) (n + 1) × (indexed ≡ true → Room (n + 1) (now links) × IndexOf kind (now words) used (now bytes) n (now links)) ⌝ }
+    requires { ⌜ Readable kind (now words) used (now bytes) (n + 1) × (indexed ≡ true → Room (n + 1) (now links) × IndexOf kind (now words) used (now bytes) n (now links))
+        × (key ≡ keyAt kind (now words) used (now bytes) n) ⌝ }
     ensures { λ r. ⌜ Placed (keyAt kind (now (words .entry)) used (now (bytes .entry))) n (keyAt kind (now (words .entry)) used (now (bytes .entry)) n) r
         × (indexed ≡ true → IndexOf kind (now (words .entry)) used (now (bytes .entry)) (n + 1) (now (links .exit))) ⌝ }
 {
     if indexed {
-        return add(kind, words, used, bytes, n, links);
+        return add_key(kind, words, used, bytes, n, links, key);
     }
-    let key = key_at(kind, words, used, bytes, n);
     search(kind, words, used, bytes, n, key)
 }
 
@@ -478,16 +498,6 @@ pub fn slot_add(votes: &[u64], n: usize, whole: bool, links: &mut [u16]) -> usiz
 
 // ---- of a table and then a packet
 
-// Whether an index with `most` places has room for `count` entries behind the `used` rows of a table.
-pub fn fits(used: usize, count: usize, most: usize) -> bool
-    ensures { λ r. ⌜ r ≡ leb (used + count) most ⌝ }
-{
-    if most < used {
-        return false;
-    }
-    count <= most - used
-}
-
 // The block at place j.
 pub fn block_at(blocks: &[u64], used: usize, bytes: &[u8], j: usize) -> Block
     requires { ⌜ BlocksFit used (now blocks) × (j < used + length (packetOf (now bytes) .blocks)) ⌝ }
@@ -526,8 +536,8 @@ pub fn known_block(
     )
 }
 
-// The block at place n joins those before it; the answer is one more than the first of these that has its number, or 0. The cost is a descent;
-// where the links are no index, a search.
+// The block at place n, which has this number, joins those before it; the answer is one more than the first of these that has it, or 0. The cost
+// is a descent; where the links are no index, a search.
 pub fn join_block(
     blocks: &[u64],
     used: usize,
@@ -535,16 +545,28 @@ pub fn join_block(
     n: usize,
     indexed: bool,
     links: &mut [u16],
+    number: Number,
 ) -> usize
     requires { ⌜ Readable KnownBlocks (now blocks) used (now bytes) (n + 1)
-        × (indexed ≡ true → Room (n + 1) (now links) × IndexOf KnownBlocks (now blocks) used (now bytes) n (now links)) ⌝ }
+        × (indexed ≡ true → Room (n + 1) (now links) × IndexOf KnownBlocks (now blocks) used (now bytes) n (now links))
+        × (value number ≡ getD (knownBlocks (now blocks) used (now bytes)) n genesis .number) ⌝ }
     ensures { λ r. ⌜ Placed (keyAt KnownBlocks (now (blocks .entry)) used (now (bytes .entry))) n (keyAt KnownBlocks (now (blocks .entry)) used (now (bytes .entry)) n) r
         × (indexed ≡ true → IndexOf KnownBlocks (now (blocks .entry)) used (now (bytes .entry)) (n + 1) (now (links .exit))) ⌝ }
 {
-    join(Kind::KnownBlocks, blocks, used, bytes, n, indexed, links)
+    let key = number_key(number);
+    join(
+        Kind::KnownBlocks,
+        blocks,
+        used,
+        bytes,
+        n,
+        indexed,
+        links,
+        key,
+    )
 }
 
-// The same for the vote at place n.
+// The same for the vote at place n, which is this one.
 pub fn join_vote(
     votes: &[u64],
     used: usize,
@@ -552,13 +574,16 @@ pub fn join_vote(
     n: usize,
     indexed: bool,
     links: &mut [u16],
+    vote: Vote,
 ) -> usize
     requires { ⌜ Readable KnownVotes (now votes) used (now bytes) (n + 1)
-        × (indexed ≡ true → Room (n + 1) (now links) × IndexOf KnownVotes (now votes) used (now bytes) n (now links)) ⌝ }
+        × (indexed ≡ true → Room (n + 1) (now links) × IndexOf KnownVotes (now votes) used (now bytes) n (now links))
+        × (voteOf vote ≡ getD (knownVotes (now votes) used (now bytes)) n noVote) ⌝ }
     ensures { λ r. ⌜ Placed (keyAt KnownVotes (now (votes .entry)) used (now (bytes .entry))) n (keyAt KnownVotes (now (votes .entry)) used (now (bytes .entry)) n) r
         × (indexed ≡ true → IndexOf KnownVotes (now (votes .entry)) used (now (bytes .entry)) (n + 1) (now (links .exit))) ⌝ }
 {
-    join(Kind::KnownVotes, votes, used, bytes, n, indexed, links)
+    let key = vote_key(vote);
+    join(Kind::KnownVotes, votes, used, bytes, n, indexed, links, key)
 }
 
 // The first place of an entry joins the set: place - 1, or n if `place` is 0, where it was looked for among the first n.

@@ -5,78 +5,62 @@ use mathlib.Core.List.{List}
 use native.Mathlib.Omega.{arith}
 use lib.ListN.{length, drop, getD}
 use lib.Seq.{drop-drop}
+use Rattle.protocol.specs.declared.Block as code
+use Rattle.protocol.specs.declared.Vote as codeVote
 use Rattle.protocol.specs.Entry.{Block, Vote}
-use Rattle.protocol.specs.Words.{join}
+use Rattle.protocol.specs.Words.{join, blockOf, voteOf}
 use Rattle.protocol.specs.Packet.{field, blockWidth, voteWidth, afterBlocks, blocksIn, votesIn, blockAt, voteAt, packetAt, widthIn, packetOf}
 use Rattle.protocol.proofs.Packet.Numbers.{field-drop}
 use Rattle.protocol.proofs.Packet.Sections.{entries-count, entries-at}
-use Rattle.packets.specs.declared.Three.{Three}
-use Rattle.packets.specs.Reader.{threeOf}
 use Rattle.packets.proofs.Fields.{field-halves}
 
--- six numbers as a block, four as a vote
-abbrev asBlock : Three → Three → Block
-asBlock t u = record { number = join (t .first) (t .second); parent = join (t .third) (u .first); slot = u .second }
+-- the fields at a place are those of the entry there; h is how many bytes an upper half takes
+module _ (bs : List ℕ) (h at : ℕ) where
+  field-here : (w k p : ℕ) → at + k ≡ p → field (drop at bs) k w ≡ field bs p w
+  field-here w k p e = field-drop w at k bs ∙ ap (λ (j : ℕ). field bs j w) e
 
-abbrev asVote : Three → ℕ → Vote
-asVote t half = record { voter = t .first; slot = t .second; number = join (t .third) half }
-
-module _ (bs : List ℕ) (h : ℕ) where
   -- a number of 8 + h bytes, k places behind
-  number-here : (at k p : ℕ) → at + k ≡ p → field (drop at bs) k (8 + h) ≡ join (field bs p 8) (field bs (p + 8) h)
-  number-here at k p e = field-drop (8 + h) at k bs ∙ ap (λ (j : ℕ). field bs j (8 + h)) e ∙ field-halves h p bs
+  number-here : (k p q lower upper : ℕ) → at + k ≡ p → p + 8 ≡ q → lower ≡ field bs p 8 → upper ≡ field bs q h → join lower upper ≡ field (drop at bs) k (8 + h)
+  number-here k p q lower upper e f l u =
+      (λ i. join (l i) ((u ∙ ap (λ (j : ℕ). field bs j h) (sym f)) i)) ∙ sym (field-here (8 + h) k p e ∙ field-halves h p bs)
 
-  field-here : (w at k p : ℕ) → at + k ≡ p → field (drop at bs) k w ≡ field bs p w
-  field-here w at k p e = field-drop w at k bs ∙ ap (λ (j : ℕ). field bs j w) e
-
-  block-here : (at : ℕ) → blockAt (8 + h) (drop at bs) ≡ asBlock (threeOf bs at 8 h 8) (threeOf bs (at + 16 + h) h 4 0)
-  unfolding blockAt threeOf
-  block-here at =
-      let n = number-here at 0 at (omega arith) in
-      let e : at + 8 + h + 8 ≡ at + 16 + h = omega arith in
-      let p = number-here at (8 + h) (at + 8 + h) (omega arith) ∙ ap (λ (j : ℕ). join (field bs (at + 8 + h) 8) (field bs j h)) e in
-      let s = field-here 4 at (8 + h + (8 + h)) (at + 16 + h + h) (omega arith) in
+  pub block-here : (b : code.Block) → b .number .lower ≡ field bs at 8 → b .number .upper ≡ field bs (at + 8) h → b .parent .lower ≡ field bs (at + (8 + h)) 8
+      → b .parent .upper ≡ field bs (at + (16 + h)) h → b .slot ≡ field bs (at + (16 + 2 * h)) 4 → blockOf b ≡ blockAt (8 + h) (drop at bs)
+  unfolding blockAt
+  block-here b nl nu pl pu sl =
+      let n = number-here 0 at (at + 8) (b .number .lower) (b .number .upper) (omega arith) refl nl nu in
+      let p = number-here (8 + h) (at + (8 + h)) (at + (16 + h)) (b .parent .lower) (b .parent .upper) refl (omega arith) pl pu in
+      let s = sl ∙ sym (field-here 4 (8 + h + (8 + h)) (at + (16 + 2 * h)) (omega arith)) in
       λ i. record { number = n i; parent = p i; slot = s i }
 
-  vote-here : (at : ℕ) → voteAt (8 + h) (drop at bs) ≡ asVote (threeOf bs at 1 4 8) (field bs (at + 13) h)
-  unfolding voteAt threeOf
-  vote-here at =
-      let v = field-here 1 at 0 at (omega arith) in
-      let s = field-here 4 at 1 (at + 1) refl in
-      let e : at + 1 + 4 + 8 ≡ at + 13 = omega arith in
-      let n = number-here at 5 (at + 1 + 4) (omega arith) ∙ ap (λ (j : ℕ). join (field bs (at + 1 + 4) 8) (field bs j h)) e in
+  pub vote-here : (a : codeVote.Vote) → a .voter ≡ field bs at 1 → a .slot ≡ field bs (at + 1) 4 → a .number .lower ≡ field bs (at + 5) 8
+      → a .number .upper ≡ field bs (at + 13) h → voteOf a ≡ voteAt (8 + h) (drop at bs)
+  unfolding voteAt
+  vote-here a vo sl nl nu =
+      let v = vo ∙ sym (field-here 1 0 at (omega arith)) in
+      let s = sl ∙ sym (field-here 4 1 (at + 1) refl) in
+      let n = number-here 5 (at + 5) (at + 13) (a .number .lower) (a .number .upper) refl (omega arith) nl nu in
       λ i. record { voter = v i; slot = s i; number = n i }
 
-  module _ (w : 8 + h ≡ widthIn bs) where
-    -- the packet, read by this width
-    read-so : packetOf bs ≡ packetAt (8 + h) bs
-    unfolding packetOf
-    read-so = ap (λ (k : ℕ). packetAt k bs) (sym w)
+-- ---- entry i
 
-    pub block-six : (i at : ℕ) (d : Block) (t u : Three) → at ≡ afterBlocks (8 + h) i → t ≡ threeOf bs at 8 h 8 → u ≡ threeOf bs (at + 16 + h) h 4 0
-        → i < length (packetOf bs .blocks) → asBlock t u ≡ getD (packetOf bs .blocks) i d
-    unfolding packetAt
-    block-six i at d t u e f g l =
-        let n = blocksIn (8 + h) bs in
-        let front = drop (7 + (8 + h)) bs in
-        let r = ap (λ p. p .blocks) read-so in
-        let below : i < n = rw (entries-count (blockAt (8 + h)) (blockWidth (8 + h)) n front) at (rw r at l) in
-        (λ i. asBlock (f i) (g i)) ∙ sym (block-here at) ∙ ap (λ (k : ℕ). blockAt (8 + h) (drop k bs)) e
-        ∙ ap (blockAt (8 + h)) (sym (drop-drop (blockWidth (8 + h) * i) (7 + (8 + h)) bs))
-        ∙ sym (entries-at (blockAt (8 + h)) (blockWidth (8 + h)) n front i d below) ∙ ap (λ xs. getD xs i d) (sym r)
+module _ (bs : List ℕ) where
+  pub block-there : (i at : ℕ) (d : Block) → at ≡ afterBlocks (widthIn bs) i → i < length (packetOf bs .blocks) → blockAt (widthIn bs) (drop at bs) ≡ getD (packetOf bs .blocks) i d
+  unfolding packetOf packetAt
+  block-there i at d e l =
+      let w = widthIn bs in
+      let n = blocksIn w bs in
+      let front = drop (7 + w) bs in
+      let below : i < n = rw (entries-count (blockAt w) (blockWidth w) n front) at l in
+      ap (λ (k : ℕ). blockAt w (drop k bs)) e ∙ ap (blockAt w) (sym (drop-drop (blockWidth w * i) (7 + w) bs)) ∙ sym (entries-at (blockAt w) (blockWidth w) n front i d below)
 
-    pub vote-four : (blocks i at half : ℕ) (d : Vote) (t : Three) → blocks ≡ field bs (13 + h) 2 → at ≡ afterBlocks (8 + h) blocks + 2 + voteWidth (8 + h) * i
-        → t ≡ threeOf bs at 1 4 8 → half ≡ field bs (at + 13) h → i < length (packetOf bs .votes) → asVote t half ≡ getD (packetOf bs .votes) i d
-    unfolding packetAt
-    vote-four blocks i at half d t b e f g l =
-        let z : 13 + h ≡ 5 + (8 + h) = omega arith in
-        let c : blocks ≡ blocksIn (8 + h) bs = b ∙ ap (λ (k : ℕ). field bs k 2) z in
-        let n = votesIn (8 + h) bs in
-        let place = afterBlocks (8 + h) (blocksIn (8 + h) bs) + 2 in
-        let front = drop place bs in
-        let r = ap (λ p. p .votes) read-so in
-        let below : i < n = rw (entries-count (voteAt (8 + h)) (voteWidth (8 + h)) n front) at (rw r at l) in
-        let there : at ≡ place + voteWidth (8 + h) * i = e ∙ ap (λ (k : ℕ). afterBlocks (8 + h) k + 2 + voteWidth (8 + h) * i) c in
-        (λ i. asVote (f i) (g i)) ∙ sym (vote-here at) ∙ ap (λ (k : ℕ). voteAt (8 + h) (drop k bs)) there
-        ∙ ap (voteAt (8 + h)) (sym (drop-drop (voteWidth (8 + h) * i) place bs))
-        ∙ sym (entries-at (voteAt (8 + h)) (voteWidth (8 + h)) n front i d below) ∙ ap (λ xs. getD xs i d) (sym r)
+  pub vote-there : (i at : ℕ) (d : Vote) → at ≡ afterBlocks (widthIn bs) (blocksIn (widthIn bs) bs) + 2 + voteWidth (widthIn bs) * i → i < length (packetOf bs .votes)
+      → voteAt (widthIn bs) (drop at bs) ≡ getD (packetOf bs .votes) i d
+  unfolding packetOf packetAt
+  vote-there i at d e l =
+      let w = widthIn bs in
+      let n = votesIn w bs in
+      let place = afterBlocks w (blocksIn w bs) + 2 in
+      let front = drop place bs in
+      let below : i < n = rw (entries-count (voteAt w) (voteWidth w) n front) at l in
+      ap (λ (k : ℕ). voteAt w (drop k bs)) e ∙ ap (voteAt w) (sym (drop-drop (voteWidth w * i) place bs)) ∙ sym (entries-at (voteAt w) (voteWidth w) n front i d below)

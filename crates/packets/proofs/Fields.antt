@@ -20,10 +20,8 @@ field-low [] (suc at) k = rw take-nil refl
 field-low (b ∷ bs) zero k = refl
 field-low (b ∷ bs) (suc at) k = field-low bs at k
 
-pub field-two : (bs : List ℕ) (at : ℕ) → field bs at 2 ≡ getD bs at 0 + 256 * getD bs (at + 1) 0
-field-two bs at =
-    let next : suc at ≡ at + 1 = omega arith in
-    rw (field-low bs at 1, field-low bs (suc at) 0, field-none bs (suc (suc at)), next) (omega arith)
+pub field-one : (bs : List ℕ) (at : ℕ) → field bs at 1 ≡ getD bs at 0
+field-one bs at = rw (field-low bs at 0, field-none bs (suc at)) (omega arith)
 
 -- a field is its first bytes and then the others
 pub field-parts : (m n at : ℕ) (bs : List ℕ) → field bs at (m + n) ≡ field bs at m + 256 ^ m * field bs (at + m) n

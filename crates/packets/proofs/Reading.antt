@@ -16,9 +16,8 @@ use Rattle.protocol.proofs.Packet.Ranges.{Each, Byte}
 use Rattle.protocol.proofs.Packet.Numbers.{field-below}
 use Rattle.protocol.proofs.Packet.Sections.{entries-count}
 use Rattle.packets.specs.declared.Reader.{Reader}
-use Rattle.packets.specs.declared.Three.{Three}
 use Rattle.packets.specs.declared.Header.{Header}
-use Rattle.packets.specs.Reader.{placeAfter, threeOf}
+use Rattle.packets.specs.Reader.{placeAfter}
 use Rattle.packets.specs.Header.{headerOf}
 use Rattle.packets.proofs.Fields.{field-halves}
 
@@ -31,6 +30,10 @@ place-drop bs at n = go (ltb (length bs) (at + n)) refl
         let l = ltb-true (length bs) (at + n) e in
         drop-length bs ∙ sym (drop-of-length-le bs {i = at + n} (omega (arith, l)))
     go false e = refl
+
+pub field-after : (bs : List ℕ) (at n width : ℕ) → field bs (placeAfter bs at n) width ≡ field bs (at + n) width
+unfolding field
+field-after bs at n width = rw (place-drop bs at n) refl
 
 -- a reader of these bytes has what is left from a place on
 pub record Stands (r : Reader) (bs : List ℕ) (at : ℕ) : Type 0 where
@@ -53,12 +56,11 @@ module _ {r : Reader} {bs : List ℕ} {at : ℕ} (s : Stands r bs at) where
   unfolding field
   stands-take n width e = e ∙ rw (s .bytes, s .left) refl
 
-module _ (bs : List ℕ) where
-  pub three-made : (at u v w a b c : ℕ) → a ≡ field bs at u → b ≡ field bs (at + u) v → c ≡ field bs (at + u + v) w
-      → _≡_ {A = Three} (record { first = a; second = b; third = c }) (threeOf bs at u v w)
-  unfolding threeOf
-  three-made at u v w a b c e f g = rw (e, f, g) refl
+  -- what is read of the bytes that are left
+  pub stands-entry : {A : Type 0} (read : List ℕ → A) (x : A) → x ≡ read (drop (r .at) (r .bytes .now)) → x ≡ read (drop at bs)
+  stands-entry read x e = e ∙ rw (s .bytes, s .left) refl
 
+module _ (bs : List ℕ) where
   pub header-fields : let w = widthIn bs in headerOf bs
       ≡ record {
         kind = field bs 0 1;
@@ -70,21 +72,17 @@ module _ (bs : List ℕ) where
   unfolding headerOf packetOf packetAt
   header-fields = simp entries-count
 
-  pub header-made : (t : Three) (upper half blocks at votes : ℕ) → Each Byte bs → t ≡ threeOf bs 0 1 4 8 → 8 + upper ≡ widthOf (t .first)
+  pub header-made : (kind slot upper lower half blocks at votes : ℕ) → Each Byte bs → kind ≡ field bs 0 1 → slot ≡ field bs 1 4 → 8 + upper ≡ widthOf kind → lower ≡ field bs 5 8
       → half ≡ field bs 13 upper → blocks ≡ field bs (13 + upper) 2 → at ≡ afterBlocks (8 + upper) blocks → votes ≡ field bs at 2
-      → _≡_ {A = Header} (record { kind = t .first; slot = t .second; number = record { lower = t .third; upper = half }; blocks = blocks; votes = votes }) (headerOf bs)
-  unfolding threeOf
-  header-made t upper half blocks at votes h a e f b p v =
-      let kind : t .first ≡ field bs 0 1 = ap (λ (q : Three). q .first) a in
-      let slot : t .second ≡ field bs 1 4 = ap (λ (q : Three). q .second) a in
-      let third : t .third ≡ field bs 5 8 = ap (λ (q : Three). q .third) a in
-      let word : t .third < 2 ^ 64 = rw third (field-below 8 5 bs h) in
-      let wide : 8 + upper ≡ widthIn bs = e ∙ ap widthOf kind in
-      let whole : field bs 5 (widthIn bs) ≡ join (t .third) half
-      = ap (field bs 5) (sym wide) ∙ field-halves upper 5 bs ∙ (λ i. join (sym third i) (sym f i)) in
-      let low = sym (ap lowerOf whole ∙ lower-join (t .third) half word) in
-      let high = sym (ap upperOf whole ∙ upper-join (t .third) half word) in
+      → _≡_ {A = Header} (record { kind = kind; slot = slot; number = record { lower = lower; upper = half }; blocks = blocks; votes = votes }) (headerOf bs)
+  header-made kind slot upper lower half blocks at votes h k s e l f b p v =
+      let word : lower < 2 ^ 64 = rw l (field-below 8 5 bs h) in
+      let wide : 8 + upper ≡ widthIn bs = e ∙ ap widthOf k in
+      let whole : field bs 5 (widthIn bs) ≡ join lower half
+      = ap (field bs 5) (sym wide) ∙ field-halves upper 5 bs ∙ (λ i. join (sym l i) (sym f i)) in
+      let low = sym (ap lowerOf whole ∙ lower-join lower half word) in
+      let high = sym (ap upperOf whole ∙ upper-join lower half word) in
       let place : 13 + upper ≡ 5 + widthIn bs = omega arith in
-      let count : blocks ≡ blocksIn (widthIn bs) bs = b ∙ ap (λ (k : ℕ). field bs k 2) place in
-      let last : votes ≡ votesIn (widthIn bs) bs = v ∙ ap (λ (k : ℕ). field bs k 2) (p ∙ (λ i. afterBlocks (wide i) (count i))) in
-      (λ i. record { kind = kind i; slot = slot i; number = record { lower = low i; upper = high i }; blocks = count i; votes = last i }) ∙ sym header-fields
+      let count : blocks ≡ blocksIn (widthIn bs) bs = b ∙ ap (λ (j : ℕ). field bs j 2) place in
+      let last : votes ≡ votesIn (widthIn bs) bs = v ∙ ap (λ (j : ℕ). field bs j 2) (p ∙ (λ i. afterBlocks (wide i) (count i))) in
+      (λ i. record { kind = k i; slot = s i; number = record { lower = low i; upper = high i }; blocks = count i; votes = last i }) ∙ sym header-fields

@@ -1,15 +1,16 @@
 // Packets read: numbers at a place, the reader, the header, the entries, and whether bytes are a packet.
 // Nothing is read past the end: a byte that is not there counts as 0, as in the definitions.
-// Reading a number costs its width; no function here takes longer than a few numbers.
+// What is read whole, a number or an entry, is tested once for the end of the packet and then read at once; only what goes past the end is read
+// byte by byte. No function here takes longer than a few numbers.
 ghost use mathlib.Core.Bool.{_||_};
 ghost use mathlib.Core.Path.{_≡_};
 ghost use Prim.Native.Nat.{_+_, _*_, _^_, _≤_, _<_};
-ghost use lib.Dec.{eqb};
-ghost use lib.ListN.{length, getD};
+ghost use lib.Dec.{eqb, leb};
+ghost use lib.ListN.{length, getD, drop};
 ghost use Rattle.protocol.specs.Chain.{genesis};
 ghost use Rattle.protocol.specs.Words.{blockOf, voteOf};
-ghost use Rattle.protocol.specs.Packet.{field, blockWidth, voteWidth, afterBlocks, sizeOf, widthOf, widthIn, isProposal, packetOf, wellFormed};
-ghost use Rattle.packets.specs.Reader.{placeAfter, threeOf};
+ghost use Rattle.protocol.specs.Packet.{field, blockWidth, voteWidth, blockAt, voteAt, afterBlocks, sizeOf, widthOf, isProposal, packetOf, wellFormed};
+ghost use Rattle.packets.specs.Reader.{placeAfter};
 ghost use Rattle.packets.specs.Header.{noVote, headerOf};
 use protocol::Block;
 use protocol::Number;
@@ -21,13 +22,6 @@ pub struct Reader<'a> {
     pub at: usize,
 }
 
-// Three numbers in a row: what a block, a vote and the front of a header are.
-pub struct Three {
-    pub first: u64,
-    pub second: u64,
-    pub third: u64,
-}
-
 // The front of a packet and its two counts.
 pub struct Header {
     pub kind: u64,
@@ -36,6 +30,18 @@ pub struct Header {
     pub blocks: u64,
     pub votes: u64,
 }
+
+// Whether `count` more fit behind `used`, where there is room for `most`.
+pub fn fits(used: usize, count: usize, most: usize) -> bool
+    ensures { λ r. ⌜ r ≡ leb (used + count) most ⌝ }
+{
+    if most < used {
+        return false;
+    }
+    count <= most - used
+}
+
+// ---- numbers
 
 // The byte i places behind a place.
 fn byte_at(bytes: &[u8], at: usize, i: usize) -> u64
@@ -50,12 +56,21 @@ fn byte_at(bytes: &[u8], at: usize, i: usize) -> u64
     bytes[at + i] as u64
 }
 
-// The number in two bytes, in four, in eight. What is read so needs one test for all its bytes, and the compiler reads them at once.
+// The number in one byte, in two, in four, in eight. What is read so needs one test for all its bytes, and the compiler reads them at once.
+fn one_at(bytes: &[u8], at: usize) -> u64
+    requires { ⌜ at + 1 ≤ length (now bytes) ⌝ }
+    ensures { λ r. ⌜ (r ≡ field (now (bytes .entry)) at 1) × (r < 256) ⌝ }
+{
+    bytes[at] as u64
+}
+
 fn two_at(bytes: &[u8], at: usize) -> u64
     requires { ⌜ at + 2 ≤ length (now bytes) ⌝ }
     ensures { λ r. ⌜ (r ≡ field (now (bytes .entry)) at 2) × (r < 65536) ⌝ }
 {
-    bytes[at] as u64 + 256 * bytes[at + 1] as u64
+    let low = one_at(bytes, at);
+    let high = one_at(bytes, at + 1);
+    low + 256 * high
 }
 
 fn four_at(bytes: &[u8], at: usize) -> u64
@@ -95,14 +110,18 @@ pub fn number_at(bytes: &[u8], at: usize, width: usize) -> u64
     requires { ⌜ width ≤ 8 ⌝ }
     ensures { λ r. ⌜ (r ≡ field (now (bytes .entry)) at width) × (r < 256 ^ width) ⌝ }
 {
-    if width <= bytes.len() {
-        if at <= bytes.len() - width {
-            if width == 8 {
-                return eight_at(bytes, at);
-            }
-            if width == 4 {
-                return four_at(bytes, at);
-            }
+    if fits(at, width, bytes.len()) {
+        if width == 8 {
+            return eight_at(bytes, at);
+        }
+        if width == 4 {
+            return four_at(bytes, at);
+        }
+        if width == 2 {
+            return two_at(bytes, at);
+        }
+        if width == 1 {
+            return one_at(bytes, at);
         }
     }
     bytewise_at(bytes, at, width)
@@ -112,13 +131,31 @@ pub fn number_at(bytes: &[u8], at: usize, width: usize) -> u64
 fn onward(bytes: &[u8], at: usize, n: usize) -> usize
     ensures { λ r. ⌜ r ≡ placeAfter (now (bytes .entry)) at n ⌝ }
 {
-    if bytes.len() < n {
-        return bytes.len();
+    if fits(at, n, bytes.len()) {
+        return at + n;
     }
-    if bytes.len() - n < at {
-        return bytes.len();
+    bytes.len()
+}
+
+// The number in `width` bytes, n places behind a place.
+fn later_at(bytes: &[u8], at: usize, n: usize, width: usize) -> u64
+    requires { ⌜ width ≤ 8 ⌝ }
+    ensures { λ r. ⌜ r ≡ field (now (bytes .entry)) (at + n) width ⌝ }
+{
+    let place = onward(bytes, at, n);
+    number_at(bytes, place, width)
+}
+
+// ---- widths
+
+// How many bytes the upper half of a number takes in a packet of the kind: none in kinds 0 and 1.
+pub fn upper_bytes(kind: u64) -> usize
+    ensures { λ r. ⌜ (8 + r ≡ widthOf kind) × (r ≤ 8) ⌝ }
+{
+    if kind < 2 {
+        return 0;
     }
-    at + n
+    8
 }
 
 // The bytes of a block: a number takes 8 bytes for its lower half and so many for its upper one.
@@ -145,6 +182,91 @@ fn behind_blocks(upper: usize, blocks: usize) -> usize
     15 + upper + block_bytes(upper) * blocks
 }
 
+// ---- entries at a place
+
+// The upper half of a number, for which there are so many bytes.
+fn half_at(bytes: &[u8], at: usize, upper: usize) -> u64
+    requires { ⌜ upper ≤ 8 ⌝ }
+    ensures { λ r. ⌜ r ≡ field (now (bytes .entry)) at upper ⌝ }
+{
+    if upper == 0 {
+        return 0;
+    }
+    number_at(bytes, at, upper)
+}
+
+// A block that does not go past the end.
+fn whole_block(bytes: &[u8], at: usize, upper: usize) -> Block
+    requires { ⌜ (at + (20 + 2 * upper) ≤ length (now bytes)) × (upper ≤ 8) ⌝ }
+    ensures { λ r. ⌜ blockOf r ≡ blockAt (8 + upper) (drop at (now (bytes .entry))) ⌝ }
+{
+    Block {
+        number: Number {
+            lower: eight_at(bytes, at),
+            upper: half_at(bytes, at + 8, upper),
+        },
+        parent: Number {
+            lower: eight_at(bytes, at + (8 + upper)),
+            upper: half_at(bytes, at + (16 + upper), upper),
+        },
+        slot: four_at(bytes, at + (16 + 2 * upper)),
+    }
+}
+
+// A vote that does not.
+fn whole_vote(bytes: &[u8], at: usize, upper: usize) -> Vote
+    requires { ⌜ (at + (13 + upper) ≤ length (now bytes)) × (upper ≤ 8) ⌝ }
+    ensures { λ r. ⌜ voteOf r ≡ voteAt (8 + upper) (drop at (now (bytes .entry))) ⌝ }
+{
+    Vote {
+        voter: one_at(bytes, at),
+        slot: four_at(bytes, at + 1),
+        number: Number {
+            lower: eight_at(bytes, at + 5),
+            upper: half_at(bytes, at + 13, upper),
+        },
+    }
+}
+
+// The block at a place in a packet of the kind.
+fn block_in(bytes: &[u8], at: usize, kind: u64) -> Block
+    ensures { λ r. ⌜ blockOf r ≡ blockAt (widthOf kind) (drop at (now (bytes .entry))) ⌝ }
+{
+    let upper = upper_bytes(kind);
+    if fits(at, block_bytes(upper), bytes.len()) {
+        return whole_block(bytes, at, upper);
+    }
+    Block {
+        number: Number {
+            lower: number_at(bytes, at, 8),
+            upper: later_at(bytes, at, 8, upper),
+        },
+        parent: Number {
+            lower: later_at(bytes, at, 8 + upper, 8),
+            upper: later_at(bytes, at, 16 + upper, upper),
+        },
+        slot: later_at(bytes, at, 16 + 2 * upper, 4),
+    }
+}
+
+// The vote at a place in a packet of the kind.
+fn vote_in(bytes: &[u8], at: usize, kind: u64) -> Vote
+    ensures { λ r. ⌜ voteOf r ≡ voteAt (widthOf kind) (drop at (now (bytes .entry))) ⌝ }
+{
+    let upper = upper_bytes(kind);
+    if fits(at, vote_bytes(upper), bytes.len()) {
+        return whole_vote(bytes, at, upper);
+    }
+    Vote {
+        voter: number_at(bytes, at, 1),
+        slot: later_at(bytes, at, 1, 4),
+        number: Number {
+            lower: later_at(bytes, at, 5, 8),
+            upper: later_at(bytes, at, 13, upper),
+        },
+    }
+}
+
 // ---- the reader
 
 pub fn new<'a>(bytes: &'a [u8]) -> Reader<'a>
@@ -167,45 +289,45 @@ pub fn skip<'a>(r: Reader<'a>, n: usize) -> Reader<'a>
     Reader { bytes: r.bytes, at }
 }
 
-// Three numbers of the given widths from a place on.
-fn three_at(bytes: &[u8], at: usize, u: usize, v: usize, w: usize) -> Three
-    requires { ⌜ (u ≤ 8) × (v ≤ 8) × (w ≤ 8) ⌝ }
-    ensures { λ r. ⌜ r ≡ threeOf (now (bytes .entry)) at u v w ⌝ }
+pub fn take_block<'a>(r: Reader<'a>, kind: u64) -> Block
+    ensures { λ b. ⌜ blockOf b ≡ blockAt (widthOf kind) (drop (r .entry .at) (now (r .entry .bytes))) ⌝ }
 {
-    let r = new(bytes);
-    let r1 = skip(r, at);
-    let first = take(r1, u);
-    let r2 = skip(r1, u);
-    let second = take(r2, v);
-    let r3 = skip(r2, v);
-    let third = take(r3, w);
-    Three {
-        first,
-        second,
-        third,
-    }
+    block_in(r.bytes, r.at, kind)
 }
 
-// The count of a section, which stands at a place.
-fn count_at(bytes: &[u8], at: usize) -> u64
-    ensures { λ r. ⌜ (r ≡ field (now (bytes .entry)) at 2) × (r < 256 ^ 2) ⌝ }
+pub fn take_vote<'a>(r: Reader<'a>, kind: u64) -> Vote
+    ensures { λ a. ⌜ voteOf a ≡ voteAt (widthOf kind) (drop (r .entry .at) (now (r .entry .bytes))) ⌝ }
+{
+    vote_in(r.bytes, r.at, kind)
+}
+
+// What a reader takes that was moved to a place: a number, a block, a vote.
+fn number_from(bytes: &[u8], at: usize, width: usize) -> u64
+    requires { ⌜ width ≤ 8 ⌝ }
+    ensures { λ r. ⌜ (r ≡ field (now (bytes .entry)) at width) × (r < 256 ^ width) ⌝ }
 {
     let r = new(bytes);
     let r1 = skip(r, at);
-    take(r1, 2)
+    take(r1, width)
+}
+
+fn block_from(bytes: &[u8], at: usize, kind: u64) -> Block
+    ensures { λ r. ⌜ blockOf r ≡ blockAt (widthOf kind) (drop at (now (bytes .entry))) ⌝ }
+{
+    let r = new(bytes);
+    let r1 = skip(r, at);
+    take_block(r1, kind)
+}
+
+fn vote_from(bytes: &[u8], at: usize, kind: u64) -> Vote
+    ensures { λ r. ⌜ voteOf r ≡ voteAt (widthOf kind) (drop at (now (bytes .entry))) ⌝ }
+{
+    let r = new(bytes);
+    let r1 = skip(r, at);
+    take_vote(r1, kind)
 }
 
 // ---- packets
-
-// How many bytes the upper half of a number takes in a packet of the kind: none in kinds 0 and 1.
-pub fn upper_bytes(kind: u64) -> usize
-    ensures { λ r. ⌜ (8 + r ≡ widthOf kind) × (r ≤ 8) ⌝ }
-{
-    if kind < 2 {
-        return 0;
-    }
-    8
-}
 
 pub fn is_proposal(kind: u64) -> bool
     ensures { λ r. ⌜ r ≡ isProposal kind ⌝ }
@@ -219,28 +341,22 @@ fn is_gossip(kind: u64) -> bool
     kind == 0 || kind == 2
 }
 
-// The same as `upper_bytes`, of the packet's own kind.
-fn upper_in(bytes: &[u8]) -> usize
-    ensures { λ r. ⌜ (8 + r ≡ widthIn (now (bytes .entry))) × (r ≤ 8) ⌝ }
-{
-    let kind = number_at(bytes, 0, 1);
-    upper_bytes(kind)
-}
-
 pub fn header_of(bytes: &[u8]) -> Header
     ensures { λ r. ⌜ r ≡ headerOf (now (bytes .entry)) ⌝ }
 {
-    let t = three_at(bytes, 0, 1, 4, 8);
-    let upper = upper_bytes(t.first);
-    let half = number_at(bytes, 13, upper);
-    let blocks = count_at(bytes, 13 + upper);
+    let kind = number_from(bytes, 0, 1);
+    let slot = number_from(bytes, 1, 4);
+    let upper = upper_bytes(kind);
+    let lower = number_from(bytes, 5, 8);
+    let half = number_from(bytes, 13, upper);
+    let blocks = number_from(bytes, 13 + upper, 2);
     let at = behind_blocks(upper, blocks as usize);
-    let votes = count_at(bytes, at);
+    let votes = number_from(bytes, at, 2);
     Header {
-        kind: t.first,
-        slot: t.second,
+        kind: kind,
+        slot: slot,
         number: Number {
-            lower: t.third,
+            lower: lower,
             upper: half,
         },
         blocks,
@@ -285,21 +401,10 @@ pub fn block_at(bytes: &[u8], i: usize) -> Block
     requires { ⌜ i < length (packetOf (now bytes) .blocks) ⌝ }
     ensures { λ r. ⌜ blockOf r ≡ getD (packetOf (now (bytes .entry)) .blocks) i genesis ⌝ }
 {
-    let upper = upper_in(bytes);
+    let kind = number_at(bytes, 0, 1);
+    let upper = upper_bytes(kind);
     let at = behind_blocks(upper, i);
-    let t = three_at(bytes, at, 8, upper, 8);
-    let u = three_at(bytes, at + 16 + upper, upper, 4, 0);
-    Block {
-        number: Number {
-            lower: t.first,
-            upper: t.second,
-        },
-        parent: Number {
-            lower: t.third,
-            upper: u.first,
-        },
-        slot: u.second,
-    }
+    block_from(bytes, at, kind)
 }
 
 // Vote i of a packet.
@@ -307,16 +412,9 @@ pub fn vote_at(bytes: &[u8], i: usize) -> Vote
     requires { ⌜ i < length (packetOf (now bytes) .votes) ⌝ }
     ensures { λ r. ⌜ voteOf r ≡ getD (packetOf (now (bytes .entry)) .votes) i noVote ⌝ }
 {
-    let upper = upper_in(bytes);
+    let kind = number_at(bytes, 0, 1);
+    let upper = upper_bytes(kind);
     let blocks = number_at(bytes, 13 + upper, 2) as usize;
     let at = behind_blocks(upper, blocks) + 2 + vote_bytes(upper) * i;
-    let t = three_at(bytes, at, 1, 4, 8);
-    Vote {
-        voter: t.first,
-        slot: t.second,
-        number: Number {
-            lower: t.third,
-            upper: number_at(bytes, at + 13, upper),
-        },
-    }
+    vote_from(bytes, at, kind)
 }

@@ -299,7 +299,7 @@ pub fn receive_verdict(
     let header = packets::header_of(bytes);
     let block_count = header.blocks as usize;
     let slot = beat / 3;
-    let blocks_fit = index::fits(blocks_used, block_count, 4096);
+    let blocks_fit = packets::fits(blocks_used, block_count, 4096);
     let admitted = admission::admit_blocks(
         slot,
         blocks,
@@ -333,7 +333,7 @@ pub fn receive_verdict(
         return Verdict::Refuse(Refusal::Places);
     }
     let from = own::kept_from(settings, clock.merged);
-    let votes_fit = index::fits(votes_used, vote_count, 16384);
+    let votes_fit = packets::fits(votes_used, vote_count, 16384);
     let new_votes = admission::new_votes(
         votes,
         votes_used,

@@ -14,7 +14,7 @@ use Rattle.protocol.proofs.Packet.Bytes.{read-fits}
 use Rattle.index.specs.Firsts.{voteNew}
 use Rattle.index.proofs.Firsts.{first-most}
 use Rattle.admission.specs.Seen.{VotesSeen}
-use Rattle.admission.proofs.Places.{vote-new}
+use Rattle.admission.proofs.Places.{vote-past, vote-new}
 use Rattle.admission.proofs.Seen.{votes-next}
 use Rattle.admission.proofs.is_new_vote.Statement.{statement}
 use Rattle.admission.proofs.is_new_vote.Tie as tie
@@ -31,8 +31,9 @@ below v =
 
 join-vote-requires : tie.Need-join-vote-requires
 join-vote-requires c κs =
-    let s = start (c .before) in
-    ((s .pre .0, omega (arith, s .pre .2)), s .pre .3)
+    let v = c .before in
+    let s = start v in
+    ((s .pre .0, omega (arith, s .pre .2)), s .pre .3, v .vote-at .ensures ∙ sym (vote-past _ _ _ (s .args .i)))
 
 note-first-requires : tie.Need-note-first-requires
 note-first-requires c κs =

@@ -1,54 +1,10 @@
 -- `add` meets its contract. Assumes nothing.
 use borrow.Author.Needs.{needs}
-use native.Mathlib.Omega.{arith}
-use mathlib.Core.Path.{_≡_}
-use denote.Ref.{now}
-use Rattle.search_tree.specs.Tree.{Placed}
-use Rattle.search_tree.proofs.Tree.{index-old, index-new, free-within}
-use Rattle.index.specs.Index.{keyAt}
-use Rattle.index.proofs.Keys.{readable-less}
 use Rattle.index.proofs.add.Statement.{statement}
 use Rattle.index.proofs.add.Tie as tie
 
-abbrev start : tie.After-descend → tie.Start
-start d = d .before .before .before .before .before .before
-
-descend-requires : tie.Need-descend-requires
-descend-requires c κs =
-    let s = c .before .before .before .before .before in
-    let a = s .args in
-    (readable-less (a .kind) (now (a .words)) (a .used) (now (a .bytes)) _ (a .n) (omega arith) (s .pre .0), s .pre .2)
-
--- the key looked for is the one at place n
-row : (d : tie.After-descend) → let a = start d .args in d .before .before .key-at .result ≡ keyAt (a .kind) (now (a .words)) (a .used) (now (a .bytes)) (a .n)
-row d = d .before .before .key-at .ensures
-
-told : (d : tie.After-descend) → let a = start d .args in let key = keyAt (a .kind) (now (a .words)) (a .used) (now (a .bytes)) in
-    Placed key (a .n) (key (a .n)) (d .descend .result .place)
-told d = rw (row d) at (d .descend .ensures .placed)
-
-put-link-requires : tie.Need-put-link-requires
-put-link-requires c κs =
-    let i = c .before in
-    let d = i .before in
-    let s = start d in
-    (free-within (s .pre .2) (s .pre .1 .1) (row d) (d .descend .ensures) (i .if1 .taken), omega (arith, s .pre .1 .0))
-
-returns : tie.Need-returns
-returns c =
-    let p = c .before .before in
-    let i = p .before .before in
-    let d = i .before in
-    let s = start d in
-    (told d, rw (p .put-link .ensures) (index-new (s .pre .2) (s .pre .1 .1) (row d) (d .descend .ensures) (i .if1 .taken)))
-
-returns-2 : tie.Need-returns-2
-returns-2 c =
-    let d = c .before in
-    let s = start d in
-    (told d, index-old (s .pre .2) (s .pre .1 .1) (row d) (d .descend .ensures) (c .if1 .left))
+add-key-requires : tie.Need-add-key-requires
+add-key-requires c κs = let s = c .before .before .before .before .before in (s .pre .0, s .pre .1, s .pre .2, c .before .key-at .ensures)
 
 pub add-spec : {M : Type 1} → statement M
-add-spec {M} =
-    let s = tie.spec {M = M} (λ c κs. search needs) descend-requires (λ c. search needs) put-link-requires (λ c. search needs) returns (λ c. search needs) in
-    tie.close (s returns-2)
+add-spec = tie.close (tie.spec (λ c κs. search needs) add-key-requires (λ c. search needs) (λ c. c .before .before .add-key .ensures))

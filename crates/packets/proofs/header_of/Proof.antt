@@ -10,14 +10,17 @@ returns : tie.Need-returns
 returns c =
     let p = c .before in
     let b = p .before in
-    let n = b .before in
-    let u = n .before in
-    let t = u .before in
-    let k = t .before in
-    let bs = k .before .args .bytes .now in
-    header-made bs _ _ _ _ _ _ (bytes-by-index bs (λ j _. omega (arith, k .shared-slice-known .given j))) (t .three-at .ensures) (u .upper-bytes .ensures .0) (n .number-at .ensures .0) (b .count-at .ensures .0) (p .behind-blocks .ensures .0) (c .count-at2 .ensures .0)
+    let h = b .before in
+    let l = h .before in
+    let u = l .before in
+    let s = u .before in
+    let k = s .before in
+    let r = k .before in
+    let bs = r .before .args .bytes .now in
+    header-made bs _ _ _ _ _ _ _ _ (bytes-by-index bs (λ j _. omega (arith, r .shared-slice-known .given j))) (k .number-from .ensures .0) (s .number-from2 .ensures .0) (u .upper-bytes .ensures .0) (l .number-from3 .ensures .0)
+    (h .number-from4 .ensures .0) (b .number-from5 .ensures .0) (p .behind-blocks .ensures .0) (c .number-from6 .ensures .0)
 
 pub header-of-spec : {M : Type 1} → statement M
 header-of-spec {M} =
-    let s₁ = tie.spec {M = M} (λ c κs. search needs) (λ c κs. search needs) (λ c κs. search needs) (λ c. search needs) (λ c κs. search needs) in
-    tie.close (s₁ (λ c κs. search needs) (λ c κs. search needs) returns)
+    let s₁ = tie.spec {M = M} (λ c κs. search needs) (λ c κs. search needs) (λ c κs. search needs) (λ c κs. search needs) (λ c κs. search needs) (λ c. search needs) in
+    tie.close (s₁ (λ c κs. search needs) (λ c κs. search needs) (λ c κs. search needs) returns)

@@ -5,8 +5,8 @@ use native.Mathlib.Omega.{arith}
 use Prim.Native.Nat.{ℕ, _+_, _-_, _≤_, _<_}
 use mathlib.Core.Path.{_≡_, sym, _∙_}
 use lib.Dec.{leb}
-use Rattle.index.proofs.fits.Statement.{statement}
-use Rattle.index.proofs.fits.Tie as tie
+use Rattle.packets.proofs.fits.Statement.{statement}
+use Rattle.packets.proofs.fits.Tie as tie
 
 returns : tie.Need-returns
 returns c =

@@ -353,12 +353,9 @@ pub fn header_of(bytes: &[u8]) -> Header
     let at = behind_blocks(upper, blocks as usize);
     let votes = number_from(bytes, at, 2);
     Header {
-        kind: kind,
-        slot: slot,
-        number: Number {
-            lower: lower,
-            upper: half,
-        },
+        kind,
+        slot,
+        number: Number { lower, upper: half },
         blocks,
         votes,
     }

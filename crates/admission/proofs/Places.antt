@@ -1,6 +1,6 @@
 -- What a place among the table's entries and the packet's says: the block found by a number, and whether the packet's next entry is new.
 -- Assumes nothing.
-use Prim.Native.Nat.{ℕ, _+_, _-_, _≤_}
+use Prim.Native.Nat.{ℕ, _+_, _≤_}
 use mathlib.Core.Bool.{Bool, true, not, Bool·not-not}
 use mathlib.Core.List.{List, _++_}
 use mathlib.Core.Path.{_≡_, ap, sym, _∙_}
@@ -23,37 +23,22 @@ use Rattle.index.specs.declared.Key.{Key}
 use Rattle.index.specs.declared.Kind.the-variants.{KnownBlocks, KnownVotes}
 use Rattle.index.specs.Keys.{numberKey, voteKey}
 use Rattle.index.specs.Index.{keyAt}
-use Rattle.index.specs.Places.{knownBlocks, knownVotes, placeOfBlock, placeAmong, foundAt}
+use Rattle.index.specs.Places.{knownBlocks, placeOfBlock, placeAmong, foundAt}
 use Rattle.index.specs.Firsts.{blockNew, voteNew}
-use Rattle.index.proofs.Known.{known-front, known-past}
+use Rattle.index.proofs.Known.{known-front, known-next}
 use Rattle.index.proofs.Joined.{block-placed, vote-placed, vote-among, place-found}
 use Rattle.admission.proofs.Known.{added-joined}
 
 no-place : (place : ℕ) {t : Bool} → not (eqb place 0) ≡ t → eqb place 0 ≡ not t
 no-place place e = sym (Bool·not-not (eqb place 0)) ∙ ap not e
 
-back : (used i : ℕ) → used + i - used ≡ i
-back used i = omega arith
-
 module _ (ws : List ℕ) (used : ℕ) (bytes : List ℕ) (i : ℕ) where
-  -- the packet's next entries, and their keys
-  pub block-past : getD (knownBlocks ws used bytes) (used + i) genesis ≡ getD (packetOf bytes .blocks) i genesis
-  block-past =
-      let bs = packetOf bytes .blocks in
-      let h : used ≤ used + i = omega arith in
-      sym (known-past makeBlock ws used bs (used + i) genesis h) ∙ ap (λ (n : ℕ). getD bs n genesis) (back used i)
-
+  -- the keys of the packet's next entries
   pub block-key : keyAt KnownBlocks ws used bytes (used + i) ≡ numberKey (getD (packetOf bytes .blocks) i genesis .number)
-  block-key = ap (λ (b : Block). numberKey (b .number)) block-past
-
-  pub vote-past : getD (knownVotes ws used bytes) (used + i) noVote ≡ getD (packetOf bytes .votes) i noVote
-  vote-past =
-      let vs = packetOf bytes .votes in
-      let h : used ≤ used + i = omega arith in
-      sym (known-past makeVote ws used vs (used + i) noVote h) ∙ ap (λ (n : ℕ). getD vs n noVote) (back used i)
+  block-key = ap (λ (b : Block). numberKey (b .number)) (known-next makeBlock ws used (packetOf bytes .blocks) i genesis)
 
   pub vote-key : keyAt KnownVotes ws used bytes (used + i) ≡ voteKey (getD (packetOf bytes .votes) i noVote)
-  vote-key = ap voteKey vote-past
+  vote-key = ap voteKey (known-next makeVote ws used (packetOf bytes .votes) i noVote)
 
   -- what was read at the place of x, where the packet's first i blocks are known
   module _ (l : i ≤ length (packetOf bytes .blocks)) where

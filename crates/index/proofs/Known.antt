@@ -42,8 +42,12 @@ module _ {A : Type 0} (make : Make (Marked A)) (ws : List ℕ) (used : ℕ) (ys 
       let l : j < length (entries R) = omega (arith, size) in
       ap (λ r. r .entry) (e ∙ sym (getD-rowsOf make ws used j d h)) ∙ sym (List·getD-append (entries R) ys (d .entry) j l ∙ getD-entries R j d)
 
-  pub known-past : (j : ℕ) (d : A) → used ≤ j → getD ys (j - used) d ≡ getD (joined make ws used ys) j d
+  -- entry i of the packet, and that at place j
+  pub known-next : (i : ℕ) (d : A) → getD (joined make ws used ys) (used + i) d ≡ getD ys i d
   unfolding joined
+  known-next i d = ap (λ n. getD (entries R ++ ys) (n + i) d) (sym size) ∙ getD-append-add (entries R) ys i d
+
+  pub known-past : (j : ℕ) (d : A) → used ≤ j → getD ys (j - used) d ≡ getD (joined make ws used ys) j d
   known-past j d h =
-      let z : j ≡ length (entries R) + (j - used) = omega (arith, size) in
-      sym (ap (λ n. getD (entries R ++ ys) n d) z ∙ getD-append-add (entries R) ys (j - used) d)
+      let z : j ≡ used + (j - used) = omega arith in
+      sym (ap (λ n. getD (joined make ws used ys) n d) z ∙ known-next (j - used) d)

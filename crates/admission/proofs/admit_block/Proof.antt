@@ -5,11 +5,14 @@ use Prim.Native.Nat.{_<_}
 use mathlib.Core.Path.{refl, ap, sym, _∙_}
 use denote.Ref.{now}
 use Rattle.protocol.specs.Entry.{Block}
+use Rattle.protocol.specs.Chain.{genesis}
+use Rattle.protocol.specs.Lent.{makeBlock}
 use Rattle.protocol.proofs.Packet.Numbers.{bytes-by-index}
 use Rattle.protocol.proofs.Packet.Bytes.{read-fits}
 use Rattle.index.specs.Keys.{numberKey}
+use Rattle.index.proofs.Known.{known-next}
 use Rattle.index.proofs.Firsts.{placed-within, first-most}
-use Rattle.admission.proofs.Places.{block-past, block-key, place-told, block-new}
+use Rattle.admission.proofs.Places.{block-key, place-told, block-new}
 use Rattle.admission.proofs.FirstBad.{block-told}
 use Rattle.admission.proofs.Seen.{blocks-next}
 use Rattle.admission.proofs.admit_block.Statement.{statement}
@@ -42,7 +45,7 @@ join-block-requires : tie.Need-join-block-requires
 join-block-requires c κs =
     let b = c .before .before .before .before in
     let s = start b in
-    ((s .pre .0, omega (arith, s .pre .2)), s .pre .3, ap (λ (x : Block). x .number) (b .block-at .ensures ∙ sym (block-past _ _ _ (s .args .i))))
+    ((s .pre .0, omega (arith, s .pre .2)), s .pre .3, ap (λ (x : Block). x .number) (b .block-at .ensures ∙ sym (known-next makeBlock _ _ _ (s .args .i) genesis)))
 
 block-of-requires-2 : tie.Need-block-of-requires-2
 block-of-requires-2 c κs =

@@ -9,12 +9,15 @@ use denote.Ref.{now}
 use lib.Dec.{eqb, leb}
 use Rattle.protocol.specs.Entry.{Vote}
 use Rattle.protocol.specs.Store.{since}
+use Rattle.protocol.specs.Lent.{makeVote}
 use Rattle.protocol.proofs.Packet.Numbers.{bytes-by-index}
 use Rattle.protocol.proofs.Packet.Bytes.{read-fits}
+use Rattle.packets.specs.Header.{noVote}
 use Rattle.index.specs.Firsts.{voteNew}
+use Rattle.index.proofs.Known.{known-next}
 use Rattle.index.proofs.Firsts.{first-most}
 use Rattle.admission.specs.Seen.{VotesSeen}
-use Rattle.admission.proofs.Places.{vote-past, vote-new}
+use Rattle.admission.proofs.Places.{vote-new}
 use Rattle.admission.proofs.Seen.{votes-next}
 use Rattle.admission.proofs.is_new_vote.Statement.{statement}
 use Rattle.admission.proofs.is_new_vote.Tie as tie
@@ -33,7 +36,7 @@ join-vote-requires : tie.Need-join-vote-requires
 join-vote-requires c κs =
     let v = c .before in
     let s = start v in
-    ((s .pre .0, omega (arith, s .pre .2)), s .pre .3, v .vote-at .ensures ∙ sym (vote-past _ _ _ (s .args .i)))
+    ((s .pre .0, omega (arith, s .pre .2)), s .pre .3, v .vote-at .ensures ∙ sym (known-next makeVote _ _ _ (s .args .i) noVote))
 
 note-first-requires : tie.Need-note-first-requires
 note-first-requires c κs =

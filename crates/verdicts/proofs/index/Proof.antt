@@ -6,31 +6,13 @@ use Rattle.verdicts.proofs.index.Statement.{statement}
 use Rattle.verdicts.proofs.index.Tie as tie
 
 pub index-spec : {M : Type 1} → statement M
-index-spec =
+index-spec {M} =
+    let s₁ = tie.spec {M = M} (λ c. search needs) (λ c. search needs) (λ c. search needs) (λ c. search needs) (λ c. search needs) (λ c. search needs) in
+    let s₂ = s₁ (λ c. search needs) (λ c. search needs) (λ c. search needs) (λ c. search needs) (λ c. search needs) (λ c. search needs) in
+    let s₃ = s₂ (λ c. search needs) (λ c. search needs) (λ c. search needs) (λ c. search needs) (λ c. search needs) (λ c. search needs) in
+    let s₄ = s₃ (λ c. search needs) (λ c. search needs) (λ c. search needs) (λ c. search needs) in
     tie.close
-    (tie.spec
-    (λ c. search needs)
-    (λ c. search needs)
-    (λ c. search needs)
-    (λ c. search needs)
-    (λ c. search needs)
-    (λ c. search needs)
-    (λ c. search needs)
-    (λ c. search needs)
-    (λ c. search needs)
-    (λ c. search needs)
-    (λ c. search needs)
-    (λ c. search needs)
-    (λ c. search needs)
-    (λ c. search needs)
-    (λ c. search needs)
-    (λ c. search needs)
-    (λ c. search needs)
-    (λ c. search needs)
-    (λ c. search needs)
-    (λ c. search needs)
-    (λ c. search needs)
-    (λ c. search needs)
+    (s₄
     (λ c. sym (ap indexOf (c .enum-told .given .1)))
     (λ c. sym (ap indexOf (c .enum-told2 .given .1)))
     (λ c. sym (ap indexOf (c .enum-told3 .given .1)))

@@ -3,6 +3,8 @@
 use Prim.Native.Nat.{ℕ}
 use mathlib.Core.Path.{_≡_, refl}
 use mathlib.Core.List.{List, [], _∷_, _++_}
+use Rattle.protocol.specs.declared.Profile.the-variants.{Loom}
+use Rattle.protocol.specs.Limits.{limitsOf}
 use Rattle.protocol.specs.Entry.{Block, Vote}
 use Rattle.protocol.specs.Lists.{filter, any, all}
 use Rattle.protocol.specs.Chain.{genesis, find, foundWith, slotIn, upGo, upStep, aboveIn, above}
@@ -85,7 +87,7 @@ arrived = genesis ∷ block 21 0 2 ∷ block 11 0 1 ∷ block 31 11 3 ∷ []
 -- "Bringing gossip into view on arrival": a fresh node hears of block 11
 abbrev pub heard : Outcome Received
 heard =
-    receive (record { nodes = 5; own = 0; expiry = 2; depth = 3 }) (record { blocks = 4; votes = 4 }) fresh 3
+    receive (record { profile = Loom; nodes = 5; own = 0; expiry = 2; depth = 3 }) (record { blocks = 4; votes = 4 }) fresh 3
     (packetBytes (record { kind = 0; slot = 0; number = 0; blocks = block 11 0 1 ∷ []; votes = vote 1 1 11 ∷ [] }))
 
 pub record Told : Type 0 where
@@ -96,7 +98,7 @@ pub record Told : Type 0 where
   pub ties-by-number : head arrived votes 5 2 4 ≡ 31
 
 pub told : Told
-unfolding any filter since find slotIn upGo upStep aboveIn above conflict equivocates counted window later latest choiceOf kept count supports weight isChild beats better bestChild walkStep walkIn walk weightAt head base deepGo deepStep deepIn deepFrom deep voteIn validVote quorum heightGo heightStep heightIn height higher highest numberIn fast foundWith receive receiveTests receivedOf receiveInto firstBadBlock firstBadVote blockAllowed knownAs headerAllowed voteAllowed blocksAfter votesAfter addBlocks addBlock addVotes addVote brings stoodOn first unless sound settingsSound placesSound clockSound blocksSound restSound votesSound between all sameBlock sameVote entries inView show allWaiting packetBytes packetAs headBytes blockBytes voteBytes section flat bytesOf packetOf packetAt entriesAt blockAt voteAt field numberOf wellFormed headerFormed
+unfolding any filter since find slotIn upGo upStep aboveIn above conflict equivocates counted window later latest choiceOf kept count supports weight isChild beats better bestChild walkStep walkIn walk weightAt head base deepGo deepStep deepIn deepFrom deep voteIn validVote quorum heightGo heightStep heightIn height higher highest numberIn fast foundWith limitsOf receive receiveTests receivedOf receiveInto firstBadBlock firstBadVote blockAllowed knownAs headerAllowed voteAllowed blocksAfter votesAfter addBlocks addBlock addVotes addVote brings stoodOn first unless sound settingsSound placesSound clockSound blocksSound restSound votesSound between all sameBlock sameVote entries inView show allWaiting packetBytes packetAs headBytes blockBytes voteBytes section flat bytesOf packetOf packetAt entriesAt blockAt voteAt field numberOf wellFormed headerFormed
 told =
     record {
       slot-t-hides-nothing = refl;
@@ -111,7 +113,7 @@ told =
 -- what a fresh node of five without a free block place and with one free vote place answers to a packet at beat 3
 abbrev pub answered : ℕ → ℕ → ℕ → List Block → List Vote → Reply Received
 answered kind slot number bs vs =
-    receive (record { nodes = 5; own = 0; expiry = 2; depth = 3 }) (record { blocks = 1; votes = 1 }) fresh 3
+    receive (record { profile = Loom; nodes = 5; own = 0; expiry = 2; depth = 3 }) (record { blocks = 1; votes = 1 }) fresh 3
     (packetBytes (record { kind = kind; slot = slot; number = number; blocks = bs; votes = vs })) .reply
 
 -- Block 12's parent is unknown, as is 13's; voter 5 is not there. The first bad block counts, before any vote; the first bad vote before
@@ -124,7 +126,7 @@ pub record Named : Type 0 where
   pub no-place : answered 1 1 11 (block 11 0 1 ∷ []) [] ≡ refused (by 10)
 
 pub named : Named
-unfolding any filter since find foundWith receive receiveTests receivedOf receiveInto firstBadBlock firstBadVote blockAllowed knownAs headerAllowed voteAllowed blocksAfter votesAfter addBlocks addBlock addVotes addVote brings stoodOn first unless sound settingsSound placesSound clockSound blocksSound restSound votesSound between all sameBlock sameVote entries inView show allWaiting packetBytes packetAs headBytes blockBytes voteBytes section flat bytesOf packetOf packetAt entriesAt blockAt voteAt field numberOf wellFormed headerFormed
+unfolding limitsOf any filter since find foundWith receive receiveTests receivedOf receiveInto firstBadBlock firstBadVote blockAllowed knownAs headerAllowed voteAllowed blocksAfter votesAfter addBlocks addBlock addVotes addVote brings stoodOn first unless sound settingsSound placesSound clockSound blocksSound restSound votesSound between all sameBlock sameVote entries inView show allWaiting packetBytes packetAs headBytes blockBytes voteBytes section flat bytesOf packetOf packetAt entriesAt blockAt voteAt field numberOf wellFormed headerFormed
 named = record { first-block = refl; first-vote = refl; wrong-header = refl; other-slot = refl; no-place = refl }
 
 -- ---- request 2: a voter is dropped for two votes of one slot of the window, and for the fast block for two of slot t

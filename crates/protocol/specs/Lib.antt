@@ -14,4 +14,6 @@ pub mod Refusal
 pub mod Calls
 pub mod Lent
 pub mod RoundTrip
+pub mod CallList
 pub mod Removal
+pub mod Rack

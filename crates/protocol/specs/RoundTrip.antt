@@ -9,6 +9,7 @@ use Rattle.protocol.specs.declared.Settings.{Settings}
 use Rattle.protocol.specs.declared.Width.{Width}
 use Rattle.protocol.specs.declared.Width.the-variants.{Narrow, Wide}
 use Rattle.protocol.specs.Entry.{Block}
+use Rattle.protocol.specs.Limits.{limitsOf}
 use Rattle.protocol.specs.Chain.{genesis}
 use Rattle.protocol.specs.Store.{entries, visible, allWaiting, Places, Node}
 use Rattle.protocol.specs.Packet.{Packet, packetBytes, packetOf, wellFormed}
@@ -43,6 +44,8 @@ RoundTrip =
     s' .nodes ≡ s .nodes →
     -- "and places enough"
     length (x .blocks) ≤ p' .blocks → length (x .votes) ≤ p' .votes →
+    -- and "a limit that the packet keeps to" (document 02, request 9)
+    limitsOf (s' .profile) .tooLong n ≡ false →
     -- "received at the sender's beat": the first n bytes of the buffer as Write left it
     (receive s' p' (openNode s' p' old .node) (x .clock .seen) (take n (write s p x false width buffer .buffer))
     ≡ record {
@@ -64,7 +67,7 @@ OldStock =
     -- "received as in the second demand"
     (s' : Settings) (p' : Places) (old : Node) → openNode s' p' old .reply ≡ done tt →
     s' .nodes ≡ s .nodes →
-    length (x .blocks) ≤ p' .blocks → length (x .votes) ≤ p' .votes →
+    length (x .blocks) ≤ p' .blocks → length (x .votes) ≤ p' .votes → limitsOf (s' .profile) .tooLong n ≡ false →
     let y = receive s' p' (openNode s' p' old .node) (x .clock .seen) (take n (write s p x false Wide buffer .buffer)) .node in
     let bytes = packetOut false Narrow x in
     -- "and then written narrow", to any buffer that has room, "gives the bytes of its own narrow gossip"
@@ -76,9 +79,11 @@ OldStock =
 abbrev pub wider : Packet → Packet
 wider p = record { kind = p .kind + 2; slot = p .slot; number = p .number; blocks = p .blocks; votes = p .votes }
 
--- A narrow packet and the wide one of the same header and entries are taken alike, at every beat and by every node.
+-- A narrow packet and the wide one of the same header and entries are taken alike, at every beat and by every node, where neither is too long for it.
 unfoldable pub WidthUnseen : Type 0
 WidthUnseen =
     (s : Settings) (p : Places) (x : Node) (beat : ℕ) (bytes : List ℕ) →
     ((i : ℕ) → i < length bytes → getD bytes i 0 < 256) → wellFormed bytes ≡ true → packetOf bytes .kind < 2 →
-    receive s p x beat bytes ≡ receive s p x beat (packetBytes (wider (packetOf bytes)))
+    let wide = packetBytes (wider (packetOf bytes)) in
+    limitsOf (s .profile) .tooLong (length bytes) ≡ false → limitsOf (s .profile) .tooLong (length wide) ≡ false →
+    receive s p x beat bytes ≡ receive s p x beat wide

@@ -7,7 +7,7 @@ use lib.Dec.{leb, ltb}
 use Rattle.protocol.specs.declared.Settings.{Settings}
 use Rattle.protocol.specs.declared.Clock.{Clock}
 use Rattle.protocol.specs.Entry.{Block, Vote}
-use Rattle.protocol.specs.Limits.{limits}
+use Rattle.protocol.specs.Limits.{maxSlot, maxExpiry, maxDepth, Limits, limitsOf}
 use Rattle.protocol.specs.Lists.{any}
 use Rattle.protocol.specs.Chain.{genesis, find, foundWith, known}
 use Rattle.protocol.specs.Store.{Marked, entries, inView, sameBlock, sameVote, Places, Node}
@@ -19,15 +19,15 @@ between a b x = leb a x && leb x b
 
 unfoldable pub settingsSound : Settings → Bool
 settingsSound s =
-    between 1 (limits .nodes) (s .nodes)
-    && (ltb (s .own) (s .nodes) && (between 1 (limits .expiry) (s .expiry) && between 1 (limits .depth) (s .depth)))
+    between 1 (limitsOf (s .profile) .nodes) (s .nodes)
+    && (ltb (s .own) (s .nodes) && (between 1 maxExpiry (s .expiry) && between 1 maxDepth (s .depth)))
 
-unfoldable pub placesSound : Places → Bool
-placesSound p = between 1 (limits .blocks) (p .blocks) && between 1 (limits .votes) (p .votes)
+unfoldable pub placesSound : Limits → Places → Bool
+placesSound l p = between 1 (l .blocks) (p .blocks) && between 1 (l .votes) (p .votes)
 
 unfoldable pub clockSound : Clock → Bool
 clockSound c =
-    leb (c .seen / 3) (limits .slot)
+    leb (c .seen / 3) maxSlot
     && (leb (c .done) (c .seen) && (leb (c .merged * 3 + 2) (c .done) && leb (c .proposed) (c .seen / 3)))
 
 -- ---- blocks, no slot above `slot`
@@ -69,7 +69,7 @@ votesSound n slot bs (m ∷ ms) =
 unfoldable pub sound : Settings → Places → Node → Bool
 sound s p x =
     settingsSound s
-    && (placesSound p
+    && (placesSound (limitsOf (s .profile)) p
     && (leb (length (x .blocks)) (p .blocks)
     && (leb (length (x .votes)) (p .votes)
     && (clockSound (x .clock)

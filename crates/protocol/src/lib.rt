@@ -1,7 +1,14 @@
 // The records that code and definitions share. Assumes nothing.
 
+// Which set of limits a node keeps to: a loom controller's or a rack controller's.
+pub enum Profile {
+    Loom,
+    Rack,
+}
+
 // What a node is opened with.
 pub struct Settings {
+    pub profile: Profile,
     pub nodes: u64,
     pub own: u64,
     pub expiry: u64,

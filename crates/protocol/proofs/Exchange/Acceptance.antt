@@ -11,7 +11,7 @@ use lib.ListN.{length}
 use borrow.Author.Tests.{lt-ltb, le-leb, le-ltb}
 use Rattle.protocol.specs.Entry.{Block, Vote}
 use Rattle.protocol.specs.declared.Settings.{Settings}
-use Rattle.protocol.specs.Limits.{limits}
+use Rattle.protocol.specs.Limits.{maxSlot, limitsOf}
 use Rattle.protocol.specs.Chain.{genesis, Found, found, missing, find, foundWith}
 use Rattle.protocol.specs.Store.{entries, keptFrom, Places, Node}
 use Rattle.protocol.specs.Sound.{between, sound}
@@ -104,25 +104,26 @@ module _ (F : Block → Type 0) (one : (c d : Block) → F c → F d → c .numb
       has : (c : Block) → In c (genesis ∷ p .blocks) → In c (addBlocks (entries (x .blocks)) (p .blocks))
       has c m = ⊎-elim (λ q. rw q (blocks-keep (entries (x .blocks)) (p .blocks) genesis (S .start))) (A .has c) (List·Memᴰ·cases-cons m)
 
--- ---- a packet that meets all the rules is refused only for want of places
+-- ---- a packet that meets all the rules is refused only if it is too long, or for want of places
 
 abbrev pub lacking : Settings → Places → Node → Packet → Bool
 lacking s pl y p = ltb (pl .blocks) (length (blocksAfter y p)) || ltb (pl .votes) (length (votesAfter (keptFrom s (y .clock .merged)) y p))
 
 module _ (s : Settings) (pl : Places) (y : Node) (beat : ℕ) (bytes : List ℕ) (p : Packet)
-    (e : packetOf bytes ≡ p) (S : sound s pl y ≡ true) (l : y .clock .seen ≤ beat) (m : beat / 3 ≤ (limits .slot)) (W : wellFormed bytes ≡ true)
+    (e : packetOf bytes ≡ p) (S : sound s pl y ≡ true) (l : y .clock .seen ≤ beat) (m : beat / 3 ≤ maxSlot) (W : wellFormed bytes ≡ true)
     (A : Allowed (s .nodes) (beat / 3) y p) where
-  pub verdict : first (receiveTests s pl y beat bytes) ≡ cond (lacking s pl y p) (refuse (by 10)) pass
+  pub verdict : first (receiveTests s pl y beat bytes)
+      ≡ cond (limitsOf (s .profile) .tooLong (length bytes)) (refuse (by 24)) (cond (lacking s pl y p) (refuse (by 10)) pass)
   unfolding receiveTests first
-  verdict = rw (e, S, le-ltb beat (y .clock .seen) l, le-ltb (limits .slot) (beat / 3) m, W, A .blocks, A .votes, A .header, le-ltb (length (p .blocks)) (length (p .blocks)) (omega arith), le-ltb (length (p .votes)) (length (p .votes)) (omega arith))
+  verdict = rw (e, S, le-ltb beat (y .clock .seen) l, le-ltb maxSlot (beat / 3) m, W, A .blocks, A .votes, A .header, le-ltb (length (p .blocks)) (length (p .blocks)) (omega arith), le-ltb (length (p .votes)) (length (p .votes)) (omega arith))
 
-  pub accepted : length (blocksAfter y p) ≤ pl .blocks → length (votesAfter (keptFrom s (y .clock .merged)) y p) ≤ pl .votes
+  pub accepted : limitsOf (s .profile) .tooLong (length bytes) ≡ false → length (blocksAfter y p) ≤ pl .blocks → length (votesAfter (keptFrom s (y .clock .merged)) y p) ≤ pl .votes
       → receive s pl y beat bytes ≡ record {
         reply = done (receivedOf (keptFrom s (y .clock .merged)) y beat p);
         node = receiveInto (keptFrom s (y .clock .merged)) (brings y beat p) beat y p;
       }
   unfolding receive unless
-  accepted b v = rw (verdict, le-ltb (pl .blocks) (length (blocksAfter y p)) b, le-ltb (pl .votes) (length (votesAfter (keptFrom s (y .clock .merged)) y p)) v, e)
+  accepted short b v = rw (verdict, short, le-ltb (pl .blocks) (length (blocksAfter y p)) b, le-ltb (pl .votes) (length (votesAfter (keptFrom s (y .clock .merged)) y p)) v, e)
 
 -- ---- what can be sent, at a node that knows no other block by one of its numbers
 

@@ -77,10 +77,10 @@ narrow-fits {x = x} G N = none-wide (gossipOf Narrow x) (gossip-in-range G Narro
 
 pub old-stock-comes-back : OldStock
 unfolding OldStock RoundTrip packetOut
-old-stock-comes-back s p x N buffer n e s' p' old o same rb rv buffer' room =
+old-stock-comes-back s p x N buffer n e s' p' old o same rb rv short buffer' room =
     let G = wrote s p x false Wide buffer n e .good in
     let bytes = take n (write s p x false Wide buffer .buffer) in
-    let R = gossip-carries-the-store s p x (more-bits x N) Wide buffer n e s' p' old o same rb rv in
+    let R = gossip-carries-the-store s p x (more-bits x N) Wide buffer n e s' p' old o same rb rv short in
     let y = receive s' p' (openNode s' p' old .node) (x .clock .seen) bytes .node in
     let c : y ≡ copyOf x = ap (λ q. q .node) (R .0) in
     let b = ap (λ (q : Node). entries (q .blocks)) c ∙ R .1 in

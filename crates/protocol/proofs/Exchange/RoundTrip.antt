@@ -104,7 +104,7 @@ module _ {s : Settings} {pl : Places} {x : Node} (G : IsSound s pl x) (width : W
 -- the receiver may have another index, another period and depth, and other places
 pub gossip-carries-the-store : RoundTrip
 unfolding RoundTrip entries receivedOf sentOf
-gossip-carries-the-store s p x N width buffer n e s' p' old o same rb rv =
+gossip-carries-the-store s p x N width buffer n e s' p' old o same rb rv short =
     let G = wrote s p x false width buffer n e .good in
     let beat = x .clock .seen in
     let from = keptFrom s' 0 in
@@ -122,7 +122,7 @@ gossip-carries-the-store s p x N width buffer n e s' p' old o same rb rv =
       agree = fresh-agrees (entries (x .blocks)) (store-sound G);
     } in (
       (λ i. receive s' p' (opened s' p' old o i) beat (take n (write s p x false width buffer .buffer)))
-          ∙ sent-accepted s p x false width buffer n e s' p' fresh beat M (omega (arith, a, rb)) (omega (arith, c, rv))
+          ∙ sent-accepted s p x false width buffer n e s' p' fresh beat M short (omega (arith, a, rb)) (omega (arith, c, rv))
           ∙ λ i. record {
             reply = done (record { newBlocks = a i - 1; newVotes = d i; brought = brings-none beat width x i });
             node = gossip-into G width from z i;

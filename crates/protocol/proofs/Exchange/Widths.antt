@@ -1,13 +1,14 @@
 -- A narrow packet and the wide one of the same header and entries are taken alike. Assumes nothing.
 use Prim.Native.Nat.{ℕ, zero, suc, _+_, _/_, _^_, _<_}
 use mathlib.Core.Path.{_≡_, refl, sym, _∙_}
-use mathlib.Core.Bool.{true, not, _||_}
+use mathlib.Core.Bool.{true, false, not, _||_}
 use mathlib.Core.List.{List, [], _∷_}
 use native.Mathlib.Nat.{lt-of-lt-of-le}
 use native.Mathlib.Omega.{arith}
 use lib.Dec.{ltb, lit≤}
 use lib.ListN.{length}
 use Rattle.protocol.specs.declared.Settings.{Settings}
+use Rattle.protocol.specs.Limits.{limitsOf}
 use Rattle.protocol.specs.Store.{entries, keptFrom, Places, Node}
 use Rattle.protocol.specs.Packet.{Packet, packetBytes, packetOf, headerFormed, wellFormed}
 use Rattle.protocol.specs.Refusal.{Test, test, testSection, first, Outcome, unless, unsound, wrongBeat}
@@ -40,10 +41,15 @@ widened kind q k F = record {
 -- ---- Receive, by the packet that was read
 
 module _ (s : Settings) (pl : Places) (x : Node) (beat : ℕ) where
+  -- not too long for the node
+  abbrev Short : List ℕ → Type 0
+  Short bytes = limitsOf (s .profile) .tooLong (length bytes) ≡ false
+
   tests : Packet → List Test
   tests p =
       unsound s pl x
       ∷ wrongBeat x beat
+      ∷ test 24 false
       ∷ test 8 (not true)
       ∷ testSection 9 (firstBadBlock (beat / 3) (entries (x .blocks)) (p .blocks)) (p .blocks)
       ∷ testSection 20 (firstBadVote (s .nodes) (beat / 3) (blocksAfter x p) (p .votes)) (p .votes)
@@ -54,9 +60,9 @@ module _ (s : Settings) (pl : Places) (x : Node) (beat : ℕ) where
   taken : Packet → Outcome Received
   taken p = unless (first (tests p)) x (receivedOf (keptFrom s (x .clock .merged)) x beat p) (receiveInto (keptFrom s (x .clock .merged)) (brings x beat p) beat x p)
 
-  read-as : (bytes : List ℕ) (p : Packet) → packetOf bytes ≡ p → wellFormed bytes ≡ true → receive s pl x beat bytes ≡ taken p
+  read-as : (bytes : List ℕ) (p : Packet) → packetOf bytes ≡ p → Short bytes → wellFormed bytes ≡ true → receive s pl x beat bytes ≡ taken p
   unfolding receive receiveTests taken tests
-  read-as bytes p e f = rw (e, f)
+  read-as bytes p e short f = rw (e, short, f)
 
   -- gossip is gossip, and a proposal a proposal
   gossip-alike : (q : Packet) → taken (ofKind 0 q) ≡ taken (ofKind 2 q)
@@ -68,17 +74,17 @@ module _ (s : Settings) (pl : Places) (x : Node) (beat : ℕ) where
   proposal-alike q = refl
 
   -- written in either width, it is read back
-  written : (q : Packet) → InRange q → receive s pl x beat (packetBytes q) ≡ taken q
-  written q h = read-as (packetBytes q) q (round-trip q h) (written-well q h)
+  written : (q : Packet) → Short (packetBytes q) → InRange q → receive s pl x beat (packetBytes q) ≡ taken q
+  written q short h = read-as (packetBytes q) q (round-trip q h) short (written-well q h)
 
-  alike : (kind : ℕ) (q : Packet) → kind < 2 → InRange (ofKind kind q) → taken (ofKind kind q) ≡ receive s pl x beat (packetBytes (ofKind (kind + 2) q))
+  alike : (kind : ℕ) (q : Packet) → kind < 2 → InRange (ofKind kind q) → Short (packetBytes (ofKind (kind + 2) q)) → taken (ofKind kind q) ≡ receive s pl x beat (packetBytes (ofKind (kind + 2) q))
   unfolding headerFormed
-  alike zero q l h = gossip-alike q ∙ sym (written (ofKind 2 q) (record { fits = widened 2 (ofKind 0 q) (omega arith) (h .fits); headerFormed = h .headerFormed }))
-  alike (suc zero) q l h = proposal-alike q ∙ sym (written (ofKind 3 q) (record { fits = widened 3 (ofKind 1 q) (omega arith) (h .fits); headerFormed = refl }))
-  alike (suc (suc kind)) q l h = absurd (omega arith)
+  alike zero q l h short = gossip-alike q ∙ sym (written (ofKind 2 q) short (record { fits = widened 2 (ofKind 0 q) (omega arith) (h .fits); headerFormed = h .headerFormed }))
+  alike (suc zero) q l h short = proposal-alike q ∙ sym (written (ofKind 3 q) short (record { fits = widened 3 (ofKind 1 q) (omega arith) (h .fits); headerFormed = refl }))
+  alike (suc (suc kind)) q l h short = absurd (omega arith)
 
 pub width-unseen : WidthUnseen
 unfolding WidthUnseen
-width-unseen s p x beat bytes each formed narrow =
+width-unseen s p x beat bytes each formed narrow short long =
     let h = read-in-range bytes (bytes-by-index bytes each) formed in
-    read-as s p x beat bytes (packetOf bytes) refl formed ∙ alike s p x beat (packetOf bytes .kind) (packetOf bytes) narrow h
+    read-as s p x beat bytes (packetOf bytes) refl short formed ∙ alike s p x beat (packetOf bytes .kind) (packetOf bytes) narrow h long

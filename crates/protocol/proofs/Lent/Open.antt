@@ -6,6 +6,7 @@ use mathlib.Core.List.{[]}
 use native.Mathlib.Omega.{arith}
 use lib.ListN.{length, drop, replicate, length-append, length-replicate}
 use Rattle.protocol.specs.declared.Settings.{Settings}
+use Rattle.protocol.specs.Limits.{limitsOf}
 use Rattle.protocol.specs.Store.{fresh}
 use Rattle.protocol.specs.Sound.{between, placesSound}
 use Rattle.protocol.specs.Refusal.{Refusal, first, Verdict, pass, refuse, refused, done, unless, answer}
@@ -37,7 +38,7 @@ module _ (s : Settings) (m : Lent) where
     room : blockWords ≤ length (m .blocks)
     unfolding placesSound between placesOf
     room =
-        let e : placesSound (placesOf m) ≡ true = O .places in
+        let e : placesSound (limitsOf (s .profile)) (placesOf m) ≡ true = O .places in
         let h : 1 ≤ placesIn blockWords (m .blocks) = search facts in
         blocks-fit (m .blocks) 1 h
 

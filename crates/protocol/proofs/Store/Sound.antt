@@ -12,12 +12,13 @@ use borrow.Author.Tests.{leb-true, lt-ltb, le-leb}
 use Rattle.protocol.specs.Entry.{Block, Vote}
 use Rattle.protocol.specs.declared.Clock.{Clock}
 use Rattle.protocol.specs.declared.Settings.{Settings}
-use Rattle.protocol.specs.Limits.{limits}
+use Rattle.protocol.specs.Limits.{maxSlot, loom, limitsOf}
 use Rattle.protocol.specs.Lists.{any}
 use Rattle.protocol.specs.Chain.{genesis, find, foundWith}
 use Rattle.protocol.specs.Store.{Marked, entries, inView, sameVote, Places, Node, fresh}
 use Rattle.protocol.specs.Sound.{between, blocksSound, voteSound, votesSound, settingsSound, placesSound, clockSound, sound}
 use Rattle.protocol.specs.Calls.Receive.{voteAllowed}
+use Rattle.protocol.proofs.Limits.{within-loom}
 use Rattle.protocol.proofs.Basics.Tests.{facts, both, and-left, and-right}
 use Rattle.protocol.proofs.Chain.Relations.{In, Known, Sound}
 use Rattle.protocol.proofs.Filters.Relations.{Cast}
@@ -52,32 +53,41 @@ pub vote-later : {n slot later : ℕ} {bs cs : List Block} {a : Vote} → slot �
 vote-later l f v = let p = v .on in record { voter = v .voter; real = v .real; early = omega (arith, v .early); on = (p .0, f (p .0) (p .1), p .2, p .3) }
 
 pub record ClockSound (c : Clock) : Type 0 where
-  pub limited : c .seen / 3 ≤ 1000000000
+  pub limited : c .seen / 3 ≤ maxSlot
   pub done-seen : c .done ≤ c .seen
   pub merged-done : c .merged * 3 + 2 ≤ c .done
   pub proposed-seen : c .proposed ≤ c .seen / 3
 
 pub record Ranges (s : Settings) : Type 0 where
   pub some : 1 ≤ s .nodes
-  pub few : s .nodes ≤ 64
+  pub few : s .nodes ≤ loom .nodes
   pub own : s .own < s .nodes
   pub expiry : 1 ≤ s .expiry
   pub depth : 1 ≤ s .depth
 
 pub ranges : (s : Settings) → settingsSound s ≡ true → Ranges s
 unfolding settingsSound between
-ranges s e = record { some = search facts; few = search facts; own = search facts; expiry = search facts; depth = search facts }
+ranges s e =
+    let n : s .nodes ≤ limitsOf (s .profile) .nodes = search facts in
+    record {
+      some = search facts;
+      few = omega (arith, within-loom (s .profile) .nodes);
+      own = search facts;
+      expiry = search facts;
+      depth = search facts;
+    }
 
-pub places-few : (pl : Places) → placesSound pl ≡ true → (pl .blocks ≤ 2048) × (pl .votes ≤ 8192)
+pub places-few : (s : Settings) (pl : Places) → placesSound (limitsOf (s .profile)) pl ≡ true → (pl .blocks ≤ loom .blocks) × (pl .votes ≤ loom .votes)
 unfolding placesSound between
-places-few pl e =
-    let a : pl .blocks ≤ 2048 = search facts in
-    let b : pl .votes ≤ 8192 = search facts in
-    (a, b)
+places-few s pl e =
+    let a : pl .blocks ≤ limitsOf (s .profile) .blocks = search facts in
+    let b : pl .votes ≤ limitsOf (s .profile) .votes = search facts in
+    let w = within-loom (s .profile) in
+    (omega (arith, w .blocks), omega (arith, w .votes))
 
 pub record IsSound (s : Settings) (pl : Places) (x : Node) : Type 0 where
   pub settings : settingsSound s ≡ true
-  pub places : placesSound pl ≡ true
+  pub places : placesSound (limitsOf (s .profile)) pl ≡ true
   pub fit-blocks : length (x .blocks) ≤ pl .blocks
   pub fit-votes : length (x .votes) ≤ pl .votes
   pub time : ClockSound (x .clock)
@@ -94,7 +104,7 @@ time-true c e = record { limited = search facts; done-seen = search facts; merge
 time-holds : (c : Clock) → ClockSound c → clockSound c ≡ true
 unfolding clockSound
 time-holds c t =
-    both (le-leb (c .seen / 3) (limits .slot) (t .limited))
+    both (le-leb (c .seen / 3) maxSlot (t .limited))
     (both (le-leb (c .done) (c .seen) (t .done-seen)) (both (le-leb (c .merged * 3 + 2) (c .done) (t .merged-done)) (le-leb (c .proposed) (c .seen / 3) (t .proposed-seen))))
 
 -- the votes, with their marks
@@ -197,7 +207,7 @@ module _ {s : Settings} {pl : Places} {x : Node} (G : IsSound s pl x) where
       (votes-holds (s .nodes) (x .clock .seen / 3) (x .blocks) store-sound (x .votes) (record { each = G .votes; apart = G .apart; closed = G .closed-votes })))))))
 
 -- a fresh node is sound
-pub fresh-sound : (s : Settings) (pl : Places) → settingsSound s ≡ true → placesSound pl ≡ true → IsSound s pl fresh
+pub fresh-sound : (s : Settings) (pl : Places) → settingsSound s ≡ true → placesSound (limitsOf (s .profile)) pl ≡ true → IsSound s pl fresh
 unfolding placesSound between entries inView allFollow apart
 fresh-sound s pl a b =
     let x : 1 ≤ pl .blocks = search facts in

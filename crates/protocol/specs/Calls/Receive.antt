@@ -6,6 +6,7 @@ use lib.ListN.{length, drop}
 use lib.Dec.{eqb, leb, ltb}
 use Rattle.protocol.specs.declared.Settings.{Settings}
 use Rattle.protocol.specs.Entry.{Block, Vote}
+use Rattle.protocol.specs.Limits.{limitsOf}
 use Rattle.protocol.specs.Lists.{any, filter}
 use Rattle.protocol.specs.Chain.{Found, found, missing, find, foundWith, known, above}
 use Rattle.protocol.specs.Store.{entries, allWaiting, show, sameBlock, sameVote, keptFrom, since, Places, Node}
@@ -89,6 +90,7 @@ receiveTests s pl x beat bytes =
     let from = keptFrom s (x .clock .merged) in
     unsound s pl x
     ∷ wrongBeat x beat
+    ∷ test 24 (limitsOf (s .profile) .tooLong (length bytes))
     ∷ test 8 (not (wellFormed bytes))
     ∷ testSection 9 (firstBadBlock (beat / 3) (entries (x .blocks)) (p .blocks)) (p .blocks)
     ∷ testSection 20 (firstBadVote (s .nodes) (beat / 3) (blocksAfter x p) (p .votes)) (p .votes)

@@ -6,7 +6,7 @@ use mathlib.Core.List.{List, [], _∷_, List·Memᴰ·head}
 use native.Mathlib.Omega.{arith}
 use Rattle.protocol.specs.Entry.{Block, Vote}
 use Rattle.protocol.specs.declared.Width.the-variants.{Wide}
-use Rattle.protocol.specs.Limits.{limits}
+use Rattle.protocol.specs.Limits.{maxSlot}
 use Rattle.protocol.specs.Chain.{genesis}
 use Rattle.protocol.specs.Packet.{Packet, packetOf, packetBytes}
 use Rattle.protocol.specs.Refusal.{by, first, pass, refuse}
@@ -81,7 +81,7 @@ module _ {N : Network} (X : Execution N) where
   -- ---- they are accepted
 
   module _ (k : ℕ) (l : k < X .end) (j : ℕ) (slot : ℕ) (p : Packet) (O : Acceptable slot p) (is : X .steps k ≡ Receive j (packetBytes p))
-      (early : slot ≤ world X k .beat / 3) (within : world X k .beat / 3 ≤ limits .slot) where
+      (early : slot ≤ world X k .beat / 3) (within : world X k .beat / 3 ≤ maxSlot) where
     honest : isHonest N j ≡ true
     honest = receiver-honest X k l j (packetBytes p) is
 

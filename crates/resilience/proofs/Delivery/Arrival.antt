@@ -8,7 +8,7 @@ use mathlib.Core.List.{List, _∷_, _++_, List·Memᴰ·cases-cons, append-assoc
 use native.Mathlib.Omega.{arith}
 use Rattle.protocol.specs.Entry.{Block, Vote}
 use Rattle.protocol.specs.declared.Width.the-variants.{Wide}
-use Rattle.protocol.specs.Limits.{limits}
+use Rattle.protocol.specs.Limits.{maxSlot}
 use Rattle.protocol.specs.Chain.{genesis}
 use Rattle.protocol.specs.Store.{entries, Node}
 use Rattle.protocol.specs.Packet.{Packet, packetBytes}
@@ -73,8 +73,8 @@ module _ {N : Network} (X : Execution N) where
 
   -- an acceptable packet that arrives is in the store when j wakes
   module _ (g m j slot : ℕ) (p : Packet) (O : Acceptable X slot p) (lm : m < X .end) (A : Arrival g m j (packetBytes p))
-      (early : slot ≤ world X (A .when) .beat / 3) (within : world X m .beat / 3 ≤ limits .slot) where
-    soon : world X (A .when) .beat / 3 ≤ limits .slot
+      (early : slot ≤ world X (A .when) .beat / 3) (within : world X m .beat / 3 ≤ maxSlot) where
+    soon : world X (A .when) .beat / 3 ≤ maxSlot
     soon = omega (arith, A .early)
 
     receiver : isHonest N j ≡ true
@@ -107,7 +107,7 @@ module _ {N : Network} (X : Execution N) where
 
   module _ (at-beat : ℕ) (del : DeliveredAt at-beat (log X)) (a m i j : ℕ) (l : a ≤ m) (lm : m < X .end) (hi : isHonest N i ≡ true)
       (o : owesGossip (world X a .turn i) ≡ true)
-      (w : Woken m j) (f : world X a .beat ≡ at-beat) (b : world X a .beat < world X m .beat) (within : world X m .beat / 3 ≤ limits .slot) (ne : i ≡ j → ⊥) where
+      (w : Woken m j) (f : world X a .beat ≡ at-beat) (b : world X a .beat < world X m .beat) (within : world X m .beat / 3 ≤ maxSlot) (ne : i ≡ j → ⊥) where
     s : Sending X i hi false a o m
     s = sends-before X i hi false a o m (omega arith) b l
 

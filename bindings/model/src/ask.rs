@@ -1,6 +1,6 @@
 //! Program chainask.
 
-use crate::tables::{Block, Clock, Node, Settings, Vote};
+use crate::tables::{Block, Clock, Node, Profile, Settings, Vote};
 
 /// The program: from the bytes of its standard input to the text that it prints.
 pub fn chainask(input: &[u8]) -> String {
@@ -26,9 +26,9 @@ fn answers(input: &[u8]) -> Result<(u128, u128, Option<u128>), u32> {
     let expiry = u64::from(u16::from_le_bytes([e0, e1]));
     let depth = u64::from(u16::from_le_bytes([k0, k1]));
     let slot = u64::from(u32::from_le_bytes([s0, s1, s2, s3]));
-    // "opens node 0 with 512 block and 1,024 vote places"
+    // "opens node 0 with 512 block and 1,024 vote places", so many as a loom alone may have
     let mut node = Node {
-        settings: Settings { nodes: u64::from(n), own: 0, expiry, depth },
+        settings: Settings { profile: Profile::Loom, nodes: u64::from(n), own: 0, expiry, depth },
         clock: Clock { seen: 0, done: 0, merged: 0, proposed: 0 },
         blocks: vec![Block { number: 0, parent: 0, slot: 0, in_view: false }; 512],
         blocks_used: 0,

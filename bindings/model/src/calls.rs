@@ -1,9 +1,9 @@
 //! The calls on a node. A number in `Err` is the refusal's; a refused call changes nothing.
-//! Words of requests 1, 4 and 8 are marked so.
+//! Words of requests 1, 4, 8 and 9 are marked so.
 
 use crate::packet::{Packet, PacketBlock, PacketVote};
 use crate::tables::{phase_of, slot_of, Block, Node, Vote};
-use crate::tables::{BLOCK_PLACES, DEPTH, EXPIRY, FRESH, NODES, SLOT_LIMIT, START, VOTE_PLACES, ZERO_VOTE};
+use crate::tables::{DEPTH, EXPIRY, FRESH, SLOT_LIMIT, START, ZERO_VOTE};
 use crate::walks::View;
 use std::collections::{HashMap, HashSet};
 
@@ -53,11 +53,12 @@ impl Node {
     pub fn open(&mut self) -> Result<(), u32> {
         let settings = self.settings;
         // "1 n out of range; 2 own index; 3 E; 4 K; 5 a table's length out of range"
-        refuse_if(!NODES.contains(&settings.nodes), 1)?;
+        // Request 9: "1, 5 and 6 go by it", the set of limits
+        refuse_if(!settings.profile.limits().nodes.contains(&settings.nodes), 1)?;
         refuse_if(settings.own >= settings.nodes, 2)?;
         refuse_if(!EXPIRY.contains(&settings.expiry), 3)?;
         refuse_if(!DEPTH.contains(&settings.depth), 4)?;
-        refuse_if(!BLOCK_PLACES.contains(&self.blocks.len()) || !VOTE_PLACES.contains(&self.votes.len()), 5)?;
+        refuse_if(!self.lengths_are_in_range(), 5)?;
         // "sets the tables to block 0 alone, every other place to zero"
         self.blocks.fill(Block { number: 0, parent: 0, slot: 0, in_view: false });
         self.votes.fill(ZERO_VOTE);
@@ -73,6 +74,9 @@ impl Node {
     pub fn receive(&mut self, beat: u64, packet: &[u8]) -> Result<Received, Refused> {
         self.test_sound().map_err(Refused::whole)?;
         self.test_beat(beat).map_err(Refused::whole)?;
+        // Request 9: "24 when a packet to be read is longer than the node's limit, before 8"
+        let longest = self.settings.profile.limits().packet_bytes;
+        refuse_if(longest.is_some_and(|longest| packet.len() > longest), 24).map_err(Refused::whole)?;
         // "8 length, kind or zero fields wrong"
         let packet = Packet::decode(packet).ok_or(Refused::whole(8))?;
         // Request 1: "Blocks are tested in order, then votes, then the header"

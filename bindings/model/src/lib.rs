@@ -1,4 +1,5 @@
-//! An executable model of one node, written from document 01 with requests 1, 2, 4 and 8. Request 3 changes no answer.
+//! An executable model of one node, written from document 01 with requests 1, 2, 4, 8 and 9.
+//! Request 3 changes no answer.
 //!
 //! It says in the plainest way what each call answers and what it leaves behind. Comments in quotation marks are
 //! words of document 01. Where these leave something open, READINGS.md says what was taken.
@@ -16,4 +17,4 @@ mod walks;
 pub use ask::chainask;
 pub use calls::{Received, Refused};
 pub use packet::{Packet, PacketBlock, PacketVote};
-pub use tables::{Block, Clock, Node, Settings, Vote};
+pub use tables::{Block, Clock, Node, Profile, Settings, Vote};

@@ -1,18 +1,12 @@
-//! Settings, clock and lent tables, and when they are sound.
+//! Settings, clock and lent tables, and when they are sound. Words of requests 8 and 9 are marked so.
 
 use std::collections::{HashMap, HashSet};
 use std::ops::RangeInclusive;
 
-/// "nodes n, 1 to 64"
-pub(crate) const NODES: RangeInclusive<u64> = 1..=64;
 /// "expiry period E, 1 to 4,096 slots"
 pub(crate) const EXPIRY: RangeInclusive<u64> = 1..=4096;
 /// "depth K, 1 to 4,096 slots"
 pub(crate) const DEPTH: RangeInclusive<u64> = 1..=4096;
-/// "1 to 2,048 blocks (starting block included)"
-pub(crate) const BLOCK_PLACES: RangeInclusive<usize> = 1..=2048;
-/// "1 to 8,192 votes"
-pub(crate) const VOTE_PLACES: RangeInclusive<usize> = 1..=8192;
 /// "Slots run to 1,000,000,000."
 pub(crate) const SLOT_LIMIT: u64 = 1_000_000_000;
 
@@ -33,9 +27,65 @@ pub(crate) fn phase_of(beat: u64) -> u64 {
     beat % 3
 }
 
+/// Request 9: which "set of limits" a node goes by.
+#[derive(Debug, Clone, Copy, PartialEq, Eq)]
+pub enum Profile {
+    /// That of a loom controller.
+    Loom,
+    /// That of a rack controller.
+    Rack,
+}
+
+/// Request 9: a "set of limits".
+pub(crate) struct Limits {
+    /// The number n of nodes.
+    pub(crate) nodes: RangeInclusive<u64>,
+    /// The length of the block table.
+    pub(crate) block_places: RangeInclusive<usize>,
+    /// The length of the vote table.
+    pub(crate) vote_places: RangeInclusive<usize>,
+    /// The longest packet that is read; none if there is no longest.
+    pub(crate) packet_bytes: Option<usize>,
+}
+
+/// Request 9: "Loom controllers keep their own limits".
+const LOOM: Limits = Limits {
+    // "nodes n, 1 to 64"
+    nodes: 1..=64,
+    // "1 to 2,048 blocks (starting block included)"
+    block_places: 1..=2048,
+    // "1 to 8,192 votes"
+    vote_places: 1..=8192,
+    // Request 9: "and take a packet of any length"
+    packet_bytes: None,
+};
+
+/// Request 9: "The rack controller runs the same node".
+const RACK: Limits = Limits {
+    // Request 9: "in sheds of at most 16 nodes"
+    nodes: 1..=16,
+    // Request 9: "with 64 blocks"
+    block_places: 1..=64,
+    // Request 9: "256 votes"
+    vote_places: 1..=256,
+    // Request 9: "packets up to 4,096 bytes"
+    packet_bytes: Some(4096),
+};
+
+impl Profile {
+    pub(crate) fn limits(self) -> Limits {
+        match self {
+            Profile::Loom => LOOM,
+            Profile::Rack => RACK,
+        }
+    }
+}
+
 /// The settings of a node. Any value may stand in a field.
 #[derive(Debug, Clone, Copy, PartialEq, Eq)]
 pub struct Settings {
+    /// Request 9: the set of limits is kept "with the settings".
+    pub profile: Profile,
     /// The number n of nodes.
     pub nodes: u64,
     /// The node's own index.
@@ -121,11 +171,18 @@ impl Node {
 
     /// "settings and lengths are in range and the used counts fit"
     fn ranges_are_sound(&self) -> bool {
-        let Settings { nodes, own, expiry, depth } = self.settings;
-        let settings = NODES.contains(&nodes) && own < nodes && EXPIRY.contains(&expiry) && DEPTH.contains(&depth);
-        let lengths = BLOCK_PLACES.contains(&self.blocks.len()) && VOTE_PLACES.contains(&self.votes.len());
+        let Settings { profile, nodes, own, expiry, depth } = self.settings;
+        // Request 9: "1, 5 and 6 go by it", the set of limits
+        let nodes_right = profile.limits().nodes.contains(&nodes);
+        let settings = nodes_right && own < nodes && EXPIRY.contains(&expiry) && DEPTH.contains(&depth);
         let used = self.blocks_used <= self.blocks.len() && self.votes_used <= self.votes.len();
-        settings && lengths && used
+        settings && self.lengths_are_in_range() && used
+    }
+
+    /// "lengths are in range"
+    pub(crate) fn lengths_are_in_range(&self) -> bool {
+        let Limits { block_places, vote_places, .. } = self.settings.profile.limits();
+        block_places.contains(&self.blocks.len()) && vote_places.contains(&self.votes.len())
     }
 
     fn clock_is_sound(&self) -> bool {

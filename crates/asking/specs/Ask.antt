@@ -5,6 +5,7 @@ use mathlib.Core.List.{List, []}
 use lib.ListN.{length, drop}
 use lib.Dec.{ltb}
 use Rattle.protocol.specs.declared.Settings.{Settings}
+use Rattle.protocol.specs.declared.Profile.the-variants.{Loom}
 use Rattle.protocol.specs.Filters.{Choice}
 use Rattle.protocol.specs.Store.{Places, Node}
 use Rattle.protocol.specs.Packet.{field}
@@ -62,7 +63,7 @@ openAndAsk s slot bytes = andThen (openNode s) (receiveAndAsk s (3 * slot + 2) s
 -- ---- the input: n in 1 byte, E and K in 2 each, a slot in 4, and a packet
 
 unfoldable pub settingsIn : List ℕ → Settings
-settingsIn bs = record { nodes = field bs 0 1; own = 0; expiry = field bs 1 2; depth = field bs 3 2 }
+settingsIn bs = record { profile = Loom; nodes = field bs 0 1; own = 0; expiry = field bs 1 2; depth = field bs 3 2 }
 
 unfoldable pub askWith : List ℕ → Reply Findings
 askWith bs =

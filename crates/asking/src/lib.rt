@@ -5,6 +5,7 @@ use answers::Answer;
 use answers::Reply;
 use protocol::Clock;
 use protocol::Number;
+use protocol::Profile;
 use protocol::Settings;
 use verdicts::Refusal;
 use verdicts::Verdict;
@@ -250,6 +251,7 @@ pub fn asked(input: &[u8]) -> Answers
         return Answers::Refused(Refusal::Form);
     }
     let settings = Settings {
+        profile: Profile::Loom,
         nodes: packets::number_at(input, 0, 1),
         own: 0,
         expiry: packets::number_at(input, 1, 2),

@@ -8,6 +8,7 @@ use lib.Dec.{eqb, ltb, leb}
 use lib.ListN.{length, getD, set, replicate, getD-replicate}
 use lib.Seq.{getD-set-same, getD-set-other}
 use borrow.Author.Tests.{eqb-true, eqb-false, ne-eqb, ltb-true, ltb-false, lt-ltb, le-ltb, leb-true, le-leb}
+use Rattle.protocol.specs.Limits.{loom}
 use Rattle.protocol.specs.Entry.{Vote}
 use Rattle.protocol.specs.Filters.{window, Last, last, none, later, latest}
 use Rattle.protocol.proofs.Basics.Tests.{same-test, and-left, and-right}
@@ -145,7 +146,7 @@ unfolding lastAt latest rowsOf selected entries inView
 latest-none true ws numbers E t = record { each = λ v l. rw (getD-replicate {A = ℕ} 64 v 0 0 l) }
 latest-none false ws numbers E t = record { each = λ v l. rw (getD-replicate {A = ℕ} 64 v 0 0 l) }
 
-pub latest-zero : (w : Bool) (ws slots numbers : List ℕ) (E t : ℕ) → slots ≡ replicate 64 0 → Latest (votesIn w ws 0) E t slots numbers
+pub latest-zero : (w : Bool) (ws slots numbers : List ℕ) (E t : ℕ) → slots ≡ replicate (loom .nodes) 0 → Latest (votesIn w ws 0) E t slots numbers
 latest-zero w ws slots numbers E t e = rw e (latest-none w ws numbers E t)
 
 -- ---- the window, without a sum

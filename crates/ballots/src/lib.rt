@@ -5,6 +5,7 @@ ghost use mathlib.Core.Path.{_≡_};
 ghost use Prim.Native.Nat.{_+_, _<_, _≤_};
 ghost use lib.Dec.{leb, ltb};
 ghost use lib.ListN.{length, set, replicate};
+ghost use Rattle.protocol.specs.Limits.{loom};
 ghost use Rattle.protocol.specs.Filters.{window};
 ghost use Rattle.protocol.specs.Lent.{VotesFit};
 ghost use Rattle.index.specs.Index.{Room};
@@ -80,7 +81,7 @@ fn latest_next(
     slots: &mut [u64],
     numbers: &mut [u64],
 )
-    requires { ⌜ VotesFit (i + 1) (now votes) × VotersFit (now votes) (i + 1) × (length (now slots) ≡ 64) × NumbersFit 64 (now numbers)
+    requires { ⌜ VotesFit (i + 1) (now votes) × VotersFit (now votes) (i + 1) × (length (now slots) ≡ loom .nodes) × NumbersFit (loom .nodes) (now numbers)
         × Latest (votesIn whole (now votes) i) expiry t (now slots) (now numbers) ⌝ }
     ensures { λ r. ⌜ Latest (votesIn whole (now (votes .entry)) (i + 1)) expiry t (now (slots .exit)) (now (numbers .exit)) ⌝ }
 {
@@ -105,12 +106,12 @@ fn gather(
     slots: &mut [u64],
     numbers: &mut [u64],
 ) -> u64
-    requires { ⌜ VotesFit used (now votes) × (used ≤ 8192) × VotersFit (now votes) used × (length (now slots) ≡ 64) × NumbersFit 64 (now numbers)
+    requires { ⌜ VotesFit used (now votes) × (used ≤ loom .votes) × VotersFit (now votes) used × (length (now slots) ≡ loom .nodes) × NumbersFit (loom .nodes) (now numbers)
         × Latest (votesIn whole (now votes) 0) expiry t (now slots) (now numbers) ⌝ }
     ensures { λ r. ⌜ (r ≡ equivocatorsOf (votesIn whole (now (votes .entry)) used) expiry t)
         × Latest (votesIn whole (now (votes .entry)) used) expiry t (now (slots .exit)) (now (numbers .exit)) ⌝ }
 {
-    let mut links = [0u16; 40960];
+    let mut links = [0u16; index::VOTE_LINKS];
     let mut mask: u64 = 0;
     let mut i: usize = 0;
     while i < used {
@@ -123,7 +124,7 @@ fn gather(
 
 // One voter's vote is dropped, if the voter is in the set.
 fn drop_voter(dropped: u64, v: usize, slots: &mut [u64])
-    requires { ⌜ (v < 64) × (length (now slots) ≡ 64) ⌝ }
+    requires { ⌜ (v < 64) × (length (now slots) ≡ loom .nodes) ⌝ }
     ensures { λ r. ⌜ now (slots .exit) ≡ cond (bitOf dropped v) (set (now (slots .entry)) v 0) (now (slots .entry)) ⌝ }
 {
     if masks::has(dropped, v as u64) {
@@ -142,12 +143,12 @@ pub fn kept_votes(
     slots: &mut [u64],
     numbers: &mut [u64],
 )
-    requires { ⌜ VotesFit used (now votes) × (used ≤ 8192) × VotersFit (now votes) used × (now slots ≡ replicate 64 0) × NumbersFit 64 (now numbers) ⌝ }
+    requires { ⌜ VotesFit used (now votes) × (used ≤ loom .votes) × VotersFit (now votes) used × (now slots ≡ replicate (loom .nodes) 0) × NumbersFit (loom .nodes) (now numbers) ⌝ }
     ensures { λ r. ⌜ Kept (votesIn whole (now (votes .entry)) used) expiry t (now (slots .exit)) (now (numbers .exit)) ⌝ }
 {
     let dropped = gather(votes, used, whole, expiry, t, slots, numbers);
     let mut v: usize = 0;
-    while v < 64 {
+    while v < limits::LOOM_NODES {
         drop_voter(dropped, v, slots);
         v += 1;
     }

@@ -2,3 +2,4 @@
 pub mod Changes
 pub mod Questions
 pub mod Numbers
+pub mod Profiles

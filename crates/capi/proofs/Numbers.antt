@@ -11,6 +11,7 @@ use Rattle.verdicts.specs.declared.Refusal.the-variants.{
   Length,
   Unsound,
   Beat,
+  Long,
   Form,
   Block,
   Vote,
@@ -37,6 +38,7 @@ refusal-not-zero Depth = refl
 refusal-not-zero Length = refl
 refusal-not-zero Unsound = refl
 refusal-not-zero Beat = refl
+refusal-not-zero Long = refl
 refusal-not-zero Form = refl
 refusal-not-zero (Block i) = refl
 refusal-not-zero (Vote i) = refl

@@ -2,12 +2,18 @@
 -- `refusal` is 0 if the call was carried out, else document 01's number; `index` is the refused entry's; a field that the answer does not have is 0.
 -- Assumes nothing.
 use mathlib.Core.Path.{_≡_}
-use mathlib.Core.Bool.{Bool, cond}
+use Prim.Native.Nat.{ℕ}
+use mathlib.Core.Bool.{Bool, false, cond}
+use lib.Dec.{eqb}
+use Rattle.protocol.specs.declared.Profile.{Profile}
+use Rattle.protocol.specs.declared.Profile.the-variants.{Loom, Rack}
 use Rattle.protocol.specs.declared.Settings as protocolSettings
 use Rattle.protocol.specs.declared.Clock as protocolClock
 use Rattle.protocol.specs.declared.Number as protocolNumber
 use Rattle.protocol.specs.declared.Width.{Width}
 use Rattle.protocol.specs.declared.Width.the-variants.{Narrow, Wide}
+use Rattle.protocol.specs.Refusal.{by, refused}
+use Rattle.protocol.specs.Lent.{Lent, openLent, lentSound}
 use Rattle.verdicts.specs.Verdict.{numberOf, indexOf}
 use Rattle.answers.specs.declared.Reply.{Reply}
 use Rattle.answers.specs.declared.Reply.the-variants as reply
@@ -24,8 +30,20 @@ use Rattle.capi.specs.declared.Written.{Written}
 
 -- ---- settings and clock
 
-abbrev pub settingsIn : Settings → protocolSettings.Settings
-settingsIn s = record { nodes = s .nodes; own = s .own; expiry = s .expiry; depth = s .depth }
+abbrev pub settingsWith : Profile → ℕ → Settings → protocolSettings.Settings
+settingsWith profile nodes s = record { profile = profile; nodes = nodes; own = s .own; expiry = s .expiry; depth = s .depth }
+
+-- 1 names a loom and 2 a rack; with any other number the settings have no node
+unfoldable pub settingsIn : Settings → protocolSettings.Settings
+settingsIn s =
+    cond (eqb (s .profile) 1) (settingsWith Loom (s .nodes) s)
+    (cond (eqb (s .profile) 2) (settingsWith Rack (s .nodes) s) (settingsWith Loom 0 s))
+
+-- so a number that is neither is refused, by 1 at Open and by 6 later, whatever the memory is
+unfoldable pub UnnamedRefused : Type 0
+UnnamedRefused =
+    (s : Settings) → eqb (s .profile) 1 ≡ false → eqb (s .profile) 2 ≡ false → (m : Lent) →
+    (openLent (settingsIn s) m ≡ record { reply = refused (by 1); lent = m }) × (lentSound (settingsIn s) m ≡ false)
 
 abbrev pub clockIn : Clock → protocolClock.Clock
 clockIn k = record { seen = k .seen; done = k .done; merged = k .merged; proposed = k .proposed }

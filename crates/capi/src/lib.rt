@@ -2,16 +2,23 @@
 // An enum cannot be exported, so an answer is a struct of numbers; specs/Structs says which struct stands for which answer.
 // Every function takes any memory, any clock and any settings that a caller may pass.
 use answers::Reply;
+use protocol::Profile;
 use protocol::Width;
 ghost use mathlib.Core.Path.{_≡_};
 ghost use Rattle.protocol.specs.Words.{value};
 ghost use Rattle.verdicts.specs.Lent.{lent};
 ghost use Rattle.answers.specs.Promises.{Opens, Receives, Proposes, Votes, Merges, IsHead, IsDeep, IsFast, Writes};
-ghost use Rattle.capi.specs.Structs.{settingsIn, clockIn, clockOut, numberIn, widthIn, answerOf, foundOf, writtenOf, Stands};
+ghost use Rattle.capi.specs.Structs.{settingsWith, settingsIn, clockIn, clockOut, numberIn, widthIn, answerOf, foundOf, writtenOf, Stands};
+
+// The names of the profiles. Every other number, 0 too, names none.
+const LOOM: u64 = 1;
+
+const RACK: u64 = 2;
 
 // What a node is opened with.
 #[repr(C)]
 pub struct Settings {
+    pub profile: u64,
     pub nodes: u64,
     pub own: u64,
     pub expiry: u64,
@@ -63,15 +70,31 @@ pub struct Written {
 
 // ---- from the exported structs to the node's, and back
 
-fn settings_in(settings: Settings) -> protocol::Settings
-    ensures { λ r. ⌜ r ≡ settingsIn settings ⌝ }
+// The settings with these limits and so many nodes.
+fn settings_with(profile: Profile, nodes: u64, settings: Settings) -> protocol::Settings
+    ensures { λ r. ⌜ r ≡ settingsWith profile nodes settings ⌝ }
 {
     protocol::Settings {
-        nodes: settings.nodes,
+        profile,
+        nodes,
         own: settings.own,
         expiry: settings.expiry,
         depth: settings.depth,
     }
+}
+
+// A profile that is neither of the two is never taken for one: with no node the settings are out of range, so Open refuses by 1 and every other
+// call by 6.
+fn settings_in(settings: Settings) -> protocol::Settings
+    ensures { λ r. ⌜ r ≡ settingsIn settings ⌝ }
+{
+    if settings.profile == LOOM {
+        return settings_with(Profile::Loom, settings.nodes, settings);
+    }
+    if settings.profile == RACK {
+        return settings_with(Profile::Rack, settings.nodes, settings);
+    }
+    settings_with(Profile::Loom, 0, settings)
 }
 
 fn clock_in(clock: Clock) -> protocol::Clock

@@ -6,6 +6,7 @@ use native.Mathlib.Decide.{ℕ-discrete}
 use native.Mathlib.Omega.{arith}
 use lib.ListN.{length, getD, set, replicate, getD-replicate}
 use lib.Seq.{getD-set-same, getD-set-other}
+use Rattle.protocol.specs.Limits.{loom}
 use Rattle.choice.specs.Children.{NextChild, Linked}
 
 module _ (up : ℕ → ℕ) (n : ℕ) where
@@ -13,9 +14,9 @@ module _ (up : ℕ → ℕ) (n : ℕ) where
   none-past : (a c : ℕ) → c ≡ 0 → NextChild up n a n c
   none-past a c e = record { hit = λ f. absurd (f e); none = λ k l h q. absurd (omega arith) }
 
-  pub linked-none : {children siblings : List ℕ} → children ≡ replicate 2048 0 → n ≤ 2048 → Linked up n n children siblings
+  pub linked-none : {children siblings : List ℕ} → children ≡ replicate (loom .blocks) 0 → n ≤ loom .blocks → Linked up n n children siblings
   linked-none {children} e h = record {
-    first = λ a l. none-past a _ (ap (λ (s : List ℕ). getD s a 0) e ∙ getD-replicate {A = ℕ} 2048 a 0 0 (omega arith));
+    first = λ a l. none-past a _ (ap (λ (s : List ℕ). getD s a 0) e ∙ getD-replicate {A = ℕ} (loom .blocks) a 0 0 (omega arith));
     next = λ c l m. absurd (omega arith);
   }
 

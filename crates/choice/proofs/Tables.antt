@@ -6,6 +6,7 @@ use mathlib.Core.Path.{_≡_, refl, ap, sym, _∙_}
 use native.Mathlib.Numerals.{add-one}
 use native.Mathlib.Omega.{arith}
 use lib.ListN.{getD}
+use Rattle.protocol.specs.Limits.{loom}
 use Rattle.protocol.specs.declared.Settings.{Settings}
 use Rattle.protocol.specs.Entry.{Block, Vote}
 use Rattle.protocol.specs.Store.{entries, inView, Node}
@@ -50,19 +51,19 @@ module _ {s : Settings} {bw : List ℕ} {bu : ℕ} {vw : List ℕ} {vu : ℕ} (T
   pub blocks-held : (w : Bool) → Held w bw bu
   blocks-held w = held w bw bu blocks-sound
 
-  pub few : (bu ≤ 2048) × (s .nodes ≤ 64) × (1 ≤ s .nodes)
+  pub few : (bu ≤ loom .blocks) × (s .nodes ≤ loom .nodes) × (1 ≤ s .nodes)
   few =
       let r = ranges s (good .settings) in
-      let p = places-few (T .places) (good .places) in
+      let p = places-few (s .profile) (T .places) (good .places) in
       let l = good .fit-blocks in
       let e = length-rowsOf makeBlock bw bu in
       (omega (arith, p .0), r .few, r .some)
 
   -- ---- votes
 
-  pub few-votes : vu ≤ 8192
+  pub few-votes : vu ≤ loom .votes
   few-votes =
-      let p = places-few (T .places) (good .places) in
+      let p = places-few (s .profile) (T .places) (good .places) in
       let l = good .fit-votes in
       let e = length-rowsOf makeVote vw vu in
       omega (arith, p .1)

@@ -5,6 +5,7 @@ use protocol::Settings;
 ghost use mathlib.Core.Path.{_≡_};
 ghost use Prim.Native.Nat.{ℕ, _+_, _^_, _<_, _≤_};
 ghost use lib.ListN.{length, getD, set, replicate};
+ghost use Rattle.protocol.specs.Limits.{loom};
 ghost use Rattle.protocol.specs.Words.{value, blockOf};
 ghost use Rattle.protocol.specs.Store.{entries, inView};
 ghost use Rattle.protocol.specs.Lent.{BlocksFit, rowsOf, makeBlock, makeVote};
@@ -75,7 +76,7 @@ fn better_place(
 
 // Row i becomes the first child of its parent's row; the child that was first comes after it.
 fn link_child(parents: &[u16], i: usize, children: &mut [u16], siblings: &mut [u16])
-    requires { ⌜ (i < length (now parents)) × (getD (now parents) i 0 < length (now children)) × (i < length (now siblings)) × (i < 2048) ⌝ }
+    requires { ⌜ (i < length (now parents)) × (getD (now parents) i 0 < length (now children)) × (i < length (now siblings)) × (i < loom .blocks) ⌝ }
     ensures { λ r. ⌜ (now (siblings .exit) ≡ set (now (siblings .entry)) i (getD (now (children .entry)) (getD (now (parents .entry)) i 0) 0))
         × (now (children .exit) ≡ set (now (children .entry)) (getD (now (parents .entry)) i 0) i) ⌝ }
 {
@@ -86,8 +87,8 @@ fn link_child(parents: &[u16], i: usize, children: &mut [u16], siblings: &mut [u
 
 // The children of each row, linked in the order of their rows. One turn for each row.
 fn link_children(parents: &[u16], used: usize, children: &mut [u16], siblings: &mut [u16])
-    requires { ⌜ (0 < used) × (used ≤ 2048) × (length (now parents) ≡ 2048) × ((i : ℕ) → i < used → getD (now parents) i 0 < used)
-        × (now children ≡ replicate 2048 0) × (length (now siblings) ≡ 2048) ⌝ }
+    requires { ⌜ (0 < used) × (used ≤ loom .blocks) × (length (now parents) ≡ loom .blocks) × ((i : ℕ) → i < used → getD (now parents) i 0 < used)
+        × (now children ≡ replicate (loom .blocks) 0) × (length (now siblings) ≡ loom .blocks) ⌝ }
     ensures { λ r. ⌜ Linked (λ i. getD (now (parents .entry)) i 0) used 1 (now (children .exit)) (now (siblings .exit)) ⌝ }
 {
     let mut i: usize = used;
@@ -133,13 +134,13 @@ fn leaf(
     whole: bool,
     lim: u64,
 ) -> usize
-    requires { ⌜ BlocksFit used (now blocks) × (used ≤ 2048) × (used ≤ length (now weights)) × (length (now parents) ≡ 2048)
+    requires { ⌜ BlocksFit used (now blocks) × (used ≤ loom .blocks) × (used ≤ length (now weights)) × (length (now parents) ≡ loom .blocks)
         × BlocksSound (now blocks) used × Parents (now blocks) used (now parents) ⌝ }
     ensures { λ r. ⌜ (r < used) × (blockAt (now (blocks .entry)) r .number
         ≡ walk (weightIn (now (blocks .entry)) used (now (weights .entry))) (blocksIn whole (now (blocks .entry)) used) lim) ⌝ }
 {
-    let mut children = [0u16; 2048];
-    let mut siblings = [0u16; 2048];
+    let mut children = [0u16; limits::LOOM_BLOCKS];
+    let mut siblings = [0u16; limits::LOOM_BLOCKS];
     link_children(parents, used, &mut children, &mut siblings);
     let mut a: usize = 0;
     loop {
@@ -167,12 +168,12 @@ pub fn weigh(
     parents: &mut [u16],
     masks: &mut [u64],
 )
-    requires { ⌜ TablesSound settings (now blocks) «blocks_used» (now votes) «votes_used» × (length (now parents) ≡ 2048) × (now masks ≡ replicate 2048 0) ⌝ }
+    requires { ⌜ TablesSound settings (now blocks) «blocks_used» (now votes) «votes_used» × (length (now parents) ≡ loom .blocks) × (now masks ≡ replicate (loom .blocks) 0) ⌝ }
     ensures { λ r. ⌜ Parents (now (blocks .entry)) «blocks_used» (now (parents .exit))
         × Supporters whole (now (blocks .entry)) «blocks_used» (now (votes .entry)) «votes_used» expiry t (now (masks .exit)) ⌝ }
 {
-    let mut slots = [0u64; 64];
-    let mut numbers = [0u64; 128];
+    let mut slots = [0u64; limits::LOOM_NODES];
+    let mut numbers = [0u64; 2 * limits::LOOM_NODES];
     ballots::kept_votes(
         votes,
         votes_used,
@@ -210,12 +211,12 @@ pub fn heaviest_leaf(
     lim: u64,
     parents: &mut [u16],
 ) -> usize
-    requires { ⌜ TablesSound settings (now blocks) «blocks_used» (now votes) «votes_used» × (length (now parents) ≡ 2048) ⌝ }
+    requires { ⌜ TablesSound settings (now blocks) «blocks_used» (now votes) «votes_used» × (length (now parents) ≡ loom .blocks) ⌝ }
     ensures { λ r. ⌜ Parents (now (blocks .entry)) «blocks_used» (now (parents .exit)) × (r < «blocks_used») × (blockAt (now (blocks .entry)) r .number
         ≡ walk (weightAt (blocksIn whole (now (blocks .entry)) «blocks_used») (votesIn whole (now (votes .entry)) «votes_used») (settings .nodes) (settings .expiry) t)
         (blocksIn whole (now (blocks .entry)) «blocks_used») lim) ⌝ }
 {
-    let mut masks = [0u64; 2048];
+    let mut masks = [0u64; limits::LOOM_BLOCKS];
     weigh(
         settings,
         blocks,
@@ -228,7 +229,7 @@ pub fn heaviest_leaf(
         parents,
         &mut masks,
     );
-    let mut weights = [0u32; 2048];
+    let mut weights = [0u32; limits::LOOM_BLOCKS];
     count_voters(&masks, blocks_used, &mut weights);
     leaf(blocks, blocks_used, parents, &weights, whole, lim)
 }
@@ -248,7 +249,7 @@ fn heaviest(
     ensures { λ r. ⌜ value r ≡ walk (weightAt (blocksIn whole (now (blocks .entry)) «blocks_used») (votesIn whole (now (votes .entry)) «votes_used») (settings .nodes) (settings .expiry) t)
         (blocksIn whole (now (blocks .entry)) «blocks_used») lim ⌝ }
 {
-    let mut parents = [0u16; 2048];
+    let mut parents = [0u16; limits::LOOM_BLOCKS];
     let a = heaviest_leaf(
         settings,
         blocks,

@@ -62,7 +62,7 @@ pub fn deep(
     ensures { λ r. ⌜ value r ≡ deep (inView (rowsOf makeBlock (now (blocks .entry)) «blocks_used»)) (inView (rowsOf makeVote (now (votes .entry)) «votes_used»))
         (settings .nodes) (settings .expiry) (settings .depth) t ⌝ }
 {
-    let mut parents = [0u16; 2048];
+    let mut parents = [0u16; limits::LOOM_BLOCKS];
     let a = choice::heaviest_leaf(
         settings,
         blocks,
@@ -124,8 +124,8 @@ pub fn fast(
     ensures { λ r. ⌜ choiceIn r ≡ fast (inView (rowsOf makeBlock (now (blocks .entry)) «blocks_used»)) (inView (rowsOf makeVote (now (votes .entry)) «votes_used»))
         (settings .nodes) t ⌝ }
 {
-    let mut parents = [0u16; 2048];
-    let mut masks = [0u64; 2048];
+    let mut parents = [0u16; limits::LOOM_BLOCKS];
+    let mut masks = [0u64; limits::LOOM_BLOCKS];
     choice::weigh(
         settings,
         blocks,

@@ -1,4 +1,4 @@
--- Every run of the code is a run of `resilience`, and so reorg and asynchrony resilience hold of what the code answers. Assumes nothing.
+-- Every run of the code is a run of `resilience`, and so reorg resilience, under a flood too, and asynchrony resilience hold of what the code answers. Assumes nothing.
 use Prim.Native.Nat.{ℕ}
 use mathlib.Core.Path.{_≡_, refl, sym, subst}
 use mathlib.Core.Bool.{Bool, true, false, cond}
@@ -9,14 +9,17 @@ use Rattle.answers.specs.declared.Reply.the-variants as reply
 use Rattle.answers.specs.Promises.{Opens}
 use Rattle.resilience.specs.Run as model
 use Rattle.resilience.specs.Run.{World, Run, Onward, settings, isHonest}
-use Rattle.resilience.specs.Resilience.{Opened, Resilience}
+use Rattle.resilience.specs.Resilience.{Opened}
+use Rattle.resilience.specs.Flooding.{FloodResilience}
 use Rattle.resilience.specs.Asynchrony.{AsynchronyResilience, AsynchronyResilienceSince}
 use Rattle.resilience.proofs.Steps.Allowed.{is-true, truth}
 use Rattle.resilience.proofs.Asynchrony.{asynchrony-resilient, asynchrony-resilient-since}
-use Rattle.resilience.proofs.Resilient.{resilient}
+use Rattle.resilience.proofs.Runs.Premises.{enough-for-honest}
+use Rattle.resilience.proofs.Resilient.{flood-resilient}
 use Rattle.conformance.specs.State.{Deployment, State, network, decoded}
 use Rattle.conformance.specs.CodeRun.{CodeRun, opened, then, CodeOnward, now, next}
 use Rattle.conformance.specs.Conformance.{Conformance, CodeResilience}
+use Rattle.conformance.specs.CodeFlooding.{CodeFloodResilience}
 use Rattle.conformance.specs.CodeAsynchrony.{CodeAsynchronyResilience, CodeAsynchronyResilienceSince}
 use Rattle.conformance.proofs.Memory.{opened-done, opened-node, opened-healthy}
 use Rattle.conformance.proofs.Steps.{AllHealthy, follows}
@@ -81,9 +84,14 @@ pub conforms : Conformance
 unfolding Conformance
 conforms D w R = let C = conforming D w R in (C .opened, C .run)
 
+pub code-flood-resilient : CodeFloodResilience
+unfolding CodeFloodResilience FloodResilience
+code-flood-resilient D w R = let C = conforming D w R in flood-resilient (network D) (C .opened) (decoded D w) (C .run)
+
 pub code-resilient : CodeResilience
-unfolding CodeResilience Resilience
-code-resilient D w R = let C = conforming D w R in resilient (network D) (C .opened) (decoded D w) (C .run)
+unfolding CodeResilience CodeFloodResilience
+code-resilient D w R beat p B parent m del unforged oneBlock enough =
+    code-flood-resilient D w R beat p B parent m del unforged oneBlock (enough-for-honest enough)
 
 pub code-asynchrony-resilient : CodeAsynchronyResilience
 unfolding CodeAsynchronyResilience AsynchronyResilience

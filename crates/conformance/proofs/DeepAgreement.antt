@@ -18,14 +18,17 @@ use Rattle.answers.specs.declared.Answer.the-variants as answer
 use Rattle.resilience.specs.Run as model
 use Rattle.resilience.specs.Run.{settings, isHonest, Due}
 use Rattle.resilience.specs.Resilience.{Opened}
-use Rattle.resilience.specs.DeepAgreement.{HonestBlock, Agreed, JustVoted, DeepAfterVote, DeepAgreement, DeepAnswered, DeepWhileJoined}
+use Rattle.resilience.specs.DeepAgreement.{HonestBlock, Agreed, JustVoted, DeepAfterVote, DeepAnswered, DeepWhileJoined}
+use Rattle.resilience.specs.Flooding.{FloodAgreement}
 use Rattle.resilience.specs.Asynchrony.{Lasting, GoodSince, AsynchronyAgreement}
 use Rattle.resilience.proofs.Steps.Allowed.{is-true, due-honest}
-use Rattle.resilience.proofs.DeepAgreement.{asynchrony-agreement, agreed-by, deep-agreement}
+use Rattle.resilience.proofs.Runs.Premises.{enough-for-honest}
+use Rattle.resilience.proofs.DeepAgreement.{asynchrony-agreement, agreed-by, flood-agreement}
 use Rattle.resilience.proofs.JustVoted.{deep-answered, while-joined}
 use Rattle.conformance.specs.State.{Deployment, State, network, decoded}
 use Rattle.conformance.specs.CodeRun.{votes}
 use Rattle.conformance.specs.CodeDeepAgreement.{CodeJustVoted, CodeDeepAfterVote, CodeDeepAgreement, CodeDeepAnswered}
+use Rattle.conformance.specs.CodeFlooding.{CodeFloodAgreement}
 use Rattle.conformance.specs.CodeAsynchrony.{CodeAsynchronyAgreement}
 use Rattle.conformance.proofs.Answers.{done-mapped}
 use Rattle.conformance.proofs.Memory.{called}
@@ -111,10 +114,14 @@ by-decoded D w Block s claim =
     agreed-by (network D) (decoded D w) (CodeDeepAfterVote D w) (DeepAfterVote (network D) (decoded D w)) Block s (decoded-deep D w)
     (λ i a d H. claim (C D i a (H .state) (H .justVoted) .opened))
 
+pub code-flood-agreement : CodeFloodAgreement
+unfolding CodeFloodAgreement FloodAgreement
+code-flood-agreement D w s conditions unforged oneBlock enough =
+    by-decoded D w (HonestBlock (decoded D w)) s (λ opened. flood-agreement (network D) opened (decoded D w) s conditions unforged oneBlock enough)
+
 pub code-deep-agreement : CodeDeepAgreement
-unfolding CodeDeepAgreement DeepAgreement
-code-deep-agreement D w s conditions unforged oneBlock enough =
-    by-decoded D w (HonestBlock (decoded D w)) s (λ opened. deep-agreement (network D) opened (decoded D w) s conditions unforged oneBlock enough)
+unfolding CodeDeepAgreement CodeFloodAgreement
+code-deep-agreement D w s conditions unforged oneBlock enough = code-flood-agreement D w s conditions unforged oneBlock (enough-for-honest enough)
 
 pub code-asynchrony-agreement : CodeAsynchronyAgreement
 unfolding CodeAsynchronyAgreement AsynchronyAgreement

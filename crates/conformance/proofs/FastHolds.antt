@@ -9,9 +9,11 @@ use Rattle.resilience.specs.Run.{settings}
 use Rattle.resilience.specs.FastHolds.{HasFast, FastHoldsAlways}
 use Rattle.resilience.specs.Asynchrony.{AsynchronyFastHolds}
 use Rattle.resilience.proofs.Steps.Allowed.{is-true}
+use Rattle.resilience.proofs.Runs.Premises.{enough-for-honest}
 use Rattle.resilience.proofs.FastHolds.{asynchrony-fast-holds, fast-holds-always, stays-by}
 use Rattle.conformance.specs.State.{Deployment, State, network, decoded}
 use Rattle.conformance.specs.CodeFastHolds.{CodeHasFast, CodeFastHolds}
+use Rattle.conformance.specs.CodeFlooding.{CodeFloodFastHolds}
 use Rattle.conformance.specs.CodeAsynchrony.{CodeAsynchronyFastHolds}
 use Rattle.conformance.proofs.Conforms.{conforming, going}
 use Rattle.conformance.proofs.Questions.{asked}
@@ -31,11 +33,15 @@ decoded-fast D w i t F H =
       onward = going D u w (C .healthy) (H .onward) .onward;
     }
 
-pub code-fast-holds : CodeFastHolds
-unfolding CodeFastHolds FastHoldsAlways
-code-fast-holds D w few t del unforged oneBlock enough maj =
+pub code-flood-fast-holds : CodeFloodFastHolds
+unfolding CodeFloodFastHolds FastHoldsAlways
+code-flood-fast-holds D w few t del unforged oneBlock enough maj =
     stays-by (decoded D w) (CodeHasFast D w) (HasFast (network D) (decoded D w)) (decoded-fast D w) t
     (λ i F H. fast-holds-always (network D) (conforming D (H .state) (H .run) .opened) (decoded D w) few t del unforged oneBlock enough maj)
+
+pub code-fast-holds : CodeFastHolds
+unfolding CodeFastHolds CodeFloodFastHolds
+code-fast-holds D w few t del unforged oneBlock enough = code-flood-fast-holds D w few t del unforged oneBlock (enough-for-honest enough)
 
 pub code-asynchrony-fast-holds : CodeAsynchronyFastHolds
 unfolding CodeAsynchronyFastHolds AsynchronyFastHolds

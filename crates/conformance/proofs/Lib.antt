@@ -1,5 +1,5 @@
 -- That runs of the code are runs of `resilience`, and so demand 3 holds of them, deep blocks agree and fast blocks hold; and that the code's removing of
--- old votes changes no answer. Assumes nothing.
+-- old votes changes no answer, and its rack behaves as its loom. Assumes nothing.
 pub mod Answers
 pub mod Memory
 pub mod Steps
@@ -8,6 +8,7 @@ pub mod Promises
 pub mod Completes
 pub mod Contracts
 pub mod Removed
+pub mod Rack
 pub mod Questions
 pub mod DeepAgreement
 pub mod FastHolds

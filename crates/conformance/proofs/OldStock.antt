@@ -26,7 +26,7 @@ sound-by false w old n e = let z : _≡_ {A = ℕ} 0 1 = cc in absurd (omega ari
 
 pub code-old-stock-comes-back : CodeOldStock
 unfolding CodeOldStock OldStock writeLent nodeOf
-code-old-stock-comes-back s m N old new n W s' before m' O same rb rv y r R buffer room narrow own a b X Y =
+code-old-stock-comes-back s m N old new n W s' before m' O same rb rv short y r R buffer room narrow own a b X Y =
     let S : lentSound s m ≡ true = sound-by (lentSound s m) (write s (placesOf m) (nodeOf m) false Wide old) old n (W .length) in
     let H : Healthy s (placesOf m) m = record { places = refl; sound = S } in
     let w = wrote s (placesOf m) (nodeOf m) m H refl in
@@ -40,7 +40,7 @@ code-old-stock-comes-back s m N old new n W s' before m' O same rb rv y r R buff
     let v = wrote s' p' (receive s' p' x' (m .clock .seen) bytes .node) y (K .healthy) (sym c) false Narrow buffer in
     let back = old-stock-comes-back s (placesOf m) (nodeOf m) N old n (sym (W .length ∙ ap (λ q. q .reply) (w false Wide old))) s' p' (nodeOf before)
     (opened-done s' before m' O) same (omega (arith, rb, length-rowsOf makeBlock (m .blocks) (m .blocksUsed)))
-    (omega (arith, rv, length-rowsOf makeVote (m .votes) (m .votesUsed))) buffer room in
+    (omega (arith, rv, length-rowsOf makeVote (m .votes) (m .votesUsed))) short buffer room in
     let f = v ∙ back .0 in
     let g = w false Narrow buffer ∙ back .1 in (
       X .length ∙ ap (λ q. q .reply) f,

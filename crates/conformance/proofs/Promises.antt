@@ -38,7 +38,7 @@ use Rattle.answers.specs.Promises.{Leaves, Receives, Proposes, Votes, Merges, W
 -- those of the calls after Open that are not of an entry
 abbrev refusals : List Refusal
 refusals =
-    refusal.Unsound ∷ refusal.Beat ∷ refusal.Form ∷ refusal.Header ∷ refusal.Places ∷ refusal.Phase ∷ refusal.Done ∷ refusal.Joined
+    refusal.Unsound ∷ refusal.Beat ∷ refusal.Long ∷ refusal.Form ∷ refusal.Header ∷ refusal.Places ∷ refusal.Phase ∷ refusal.Done ∷ refusal.Joined
     ∷ refusal.Proposer ∷ refusal.Number ∷ refusal.Voted ∷ refusal.Buffer ∷ refusal.Proposal ∷ refusal.Wide ∷ []
 
 abbrev isBy : ℕ → rules.Refusal → Bool

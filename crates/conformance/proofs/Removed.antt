@@ -8,7 +8,7 @@ use Rattle.protocol.specs.Lists.{filter}
 use Rattle.protocol.specs.Filters.{Choice, chosen}
 use Rattle.protocol.specs.Store.{rowsSince, Places, Node}
 use Rattle.protocol.specs.Sound.{sound}
-use Rattle.protocol.specs.Refusal.{Reply, refused, done, Outcome}
+use Rattle.protocol.specs.Refusal.{Reply, done, Outcome}
 use Rattle.protocol.specs.Calls.Receive as receiving
 use Rattle.protocol.specs.Calls.Propose as proposing
 use Rattle.protocol.specs.Calls.Vote as voting
@@ -16,7 +16,8 @@ use Rattle.protocol.specs.Calls.Merge as merging
 use Rattle.protocol.specs.Calls.Vote.{headOf}
 use Rattle.protocol.specs.Calls.Query.{deepOf, fastOf, headQuery, deepQuery, fastQuery}
 use Rattle.protocol.specs.Lent.{Lent, placesOf, nodeOf, lentSound, callLent, askLent}
-use Rattle.protocol.specs.Removal.{Call, Receive, Propose, Vote, Merge, made, byTen, meetsTen, madeKeeping}
+use Rattle.protocol.specs.CallList.{Call, Receive, Propose, Vote, Merge, made, refusedBy, meets}
+use Rattle.protocol.specs.Removal.{byTen, madeKeeping}
 use Rattle.protocol.proofs.Calls.Open.{opened as opened-fresh}
 use Rattle.protocol.proofs.Lent.Memory.{lent-true}
 use Rattle.protocol.proofs.Lent.Calls.{Lawful, receive-lawful, propose-lawful, vote-lawful, merge-lawful, ask-lent}
@@ -24,18 +25,12 @@ use Rattle.protocol.proofs.Removal.Calls.{made-pruned}
 use Rattle.protocol.proofs.Removal.Pruned.{pruned, head-pruned, deep-pruned, fast-pruned}
 use Rattle.protocol.proofs.Removal.Unseen.{answered}
 use Rattle.answers.specs.declared.Reply as replies
-use Rattle.answers.specs.Answers.{Value, nothingMore, received, block, replyOf, mapReply}
+use Rattle.answers.specs.Answers.{Value, nothingMore, received, block, replyOf}
 use Rattle.answers.specs.Promises.{Leaves}
-use Rattle.conformance.specs.CodeRemoval.{promised, CodeCalls, opened, then, CodeRemovalUnseen}
-use Rattle.conformance.proofs.Answers.{done-mapped}
+use Rattle.conformance.specs.CodeCall.{promised}
+use Rattle.conformance.specs.CodeRemoval.{CodeCalls, opened, then, CodeRemovalUnseen}
+use Rattle.conformance.proofs.Answers.{done-mapped, refused-mapped}
 use Rattle.conformance.proofs.Memory.{opened-done, opened-node, opened-healthy, Called, called}
-
--- a reply with its value seen as another
-module _ {A B : Type 0} (value : A → B) where
-  ten-mapped : (o : Reply A) → byTen (mapReply value o) ≡ byTen o
-  unfolding byTen mapReply
-  ten-mapped (refused k) = refl
-  ten-mapped (done a) = refl
 
 module _ (s : Settings) where
   -- sound memory that holds y without its old votes
@@ -58,15 +53,15 @@ module _ (s : Settings) where
     told value call L next r P = called s pl (pruned s y) m (record { places = refl; sound = B .sound }) (B .holds) value call L next r P
 
     beside : {A : Type 0} (c : Call) (value : A → Value) (o : Outcome A) (next : Lent) (r : replies.Reply) → Called s pl value o next r
-        → o .node ≡ made s pl (pruned s y) c → byTen (o .reply) ≡ meetsTen s pl (pruned s y) c → byTen (replyOf r) ≡ false
+        → o .node ≡ made s pl (pruned s y) c → refusedBy byTen (o .reply) ≡ meets byTen s pl (pruned s y) c → refusedBy byTen (replyOf r) ≡ false
         → Beside next (madeKeeping s pl y c)
     beside c value o next r C n t ten = record {
       sound = C .healthy .sound;
-      holds = sym (C .node ∙ n ∙ made-pruned s pl y node-sound c (sym t ∙ sym (ten-mapped value (o .reply)) ∙ sym (ap byTen (C .reply)) ∙ ten));
+      holds = sym (C .node ∙ n ∙ made-pruned s pl y node-sound c (sym t ∙ sym (refused-mapped value byTen (o .reply)) ∙ sym (ap (refusedBy byTen) (C .reply)) ∙ ten));
     }
 
-    next-beside : (c : Call) (next : Lent) (r : replies.Reply) → promised s m c next r → byTen (replyOf r) ≡ false → Beside next (madeKeeping s pl y c)
-    unfolding made meetsTen
+    next-beside : (c : Call) (next : Lent) (r : replies.Reply) → promised s m c next r → refusedBy byTen (replyOf r) ≡ false → Beside next (madeKeeping s pl y c)
+    unfolding made meets
     next-beside (Receive beat bytes) next r P =
         beside (Receive beat bytes) received _ next r (told received (λ p x. receiving.receive s p x beat bytes) (receive-lawful s beat bytes) next r P) refl refl
     next-beside (Propose beat number) next r P =

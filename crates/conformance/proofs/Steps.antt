@@ -16,7 +16,7 @@ use Rattle.answers.specs.declared.Reply.{Reply}
 use Rattle.answers.specs.declared.Written.{Written}
 use Rattle.answers.specs.Promises.{Leaves, Writes}
 use Rattle.resilience.specs.Run as model
-use Rattle.resilience.specs.Run.{Network, World, Step, Due, Gossip, Proposal, Receive, Event, woke, voted, built, given, carried, said, sends, Turn, owes, afterGossip, afterProposal, settings, isHonest, update, allowed, dueAt, step}
+use Rattle.resilience.specs.Run.{Network, World, Step, Due, Gossip, Proposal, Receive, Event, woke, voted, built, given, lacked, turnedAway, carried, said, sends, Turn, owes, afterGossip, afterProposal, settings, isHonest, update, allowed, dueAt, step}
 use Rattle.resilience.proofs.Steps.Allowed.{due-honest, send-honest, receive-honest}
 use Rattle.conformance.specs.State.{Deployment, State, network, decoded}
 use Rattle.conformance.specs.CodeRun.{logged, carriedOut, packetSent, after, CodeStep, begins, proposes, waits, votes, merges, gossips, sendsProposal, receives}
@@ -65,20 +65,20 @@ module _ (D : Deployment) (w : State) (H : AllHealthy D w) where
         go true e = rw (eqb-true i j e) at G
         go false e = H j g
 
-    -- a call that changes the memory: its answer puts f in the log for a block, then come the events es, and u is the turn
+    -- a call that changes the memory: its answer puts f in the log for a block and `want` if it is refused for want, then come the events es, and u is the turn
     by-call : {A : Type 0} (value : A → Value) (call : Places → Node → Outcome A) → Lawful (settings N i) call
         → (m : Lent) (r : Reply) → Leaves value (callLent (settings N i) call (w .memory i)) m r
-        → (s : Step) (f : ℕ → List Event) (u : Bool → Turn) (es : Bool → List Event)
+        → (s : Step) (want : Event) (f : ℕ → List Event) (u : Bool → Turn) (es : Bool → List Event)
         → (let o = call (N .places i) (W .node i) in step N W s
-        ≡ model.after W i (o .node) (u (carried (o .reply))) (said (w .beat) i (λ a. ofBlock f (value a)) (o .reply) ++ es (carried (o .reply))))
-        → Follows D w s (after w i m (u (carriedOut r)) (logged (w .beat) i f r ++ es (carriedOut r)))
-    by-call value call L m r P s f u es e =
+        ≡ model.after W i (o .node) (u (carried (o .reply))) (said want (λ a. ofBlock f (value a)) (o .reply) ++ es (carried (o .reply))))
+        → Follows D w s (after w i m (u (carriedOut r)) (logged want f r ++ es (carriedOut r)))
+    by-call value call L m r P s want f u es e =
         let o = call (N .places i) (W .node i) in
         let C = called (settings N i) (N .places i) (W .node i) (w .memory i) (H i h) holds value call L m r P in
         let c : carriedOut r ≡ carried (o .reply) = same-carried value r (o .reply) (C .reply) in
         record {
           world = e ∙ moved m (o .node) (u (carriedOut r)) (u (carried (o .reply))) _ _ (C .node) (ap u c)
-              (λ k. same-events value r (o .reply) (C .reply) (w .beat) i f k ++ es (c k));
+              (λ k. same-events value r (o .reply) (C .reply) want f k ++ es (c k));
           healthy = healthy-after m (C .healthy);
         }
 
@@ -109,17 +109,17 @@ module _ (D : Deployment) (w : State) (H : AllHealthy D w) where
   follows s v a begins = record { world = refl; healthy = H }
   follows s v a (proposes i number m r e own P) =
       by-call i (due-honest N W i number a .0) block _ (propose-lawful (settings N i) (w .beat) number) m r P
-      (Due i number) (λ p. built (w .beat) i number p ∷ []) (λ b. owes true b) (λ b. woke (w .beat) i ∷ [])
+      (Due i number) (lacked (w .beat) i) (λ p. built (w .beat) i number p ∷ []) (λ b. owes true b) (λ b. woke (w .beat) i ∷ [])
       (in-phase 0 e i number ∙ rw (eq-eqb (w .beat / 3 % D .nodes) i own))
   follows s v a (waits i number e other) =
       by-reading i (due-honest N W i number a .0) (Due i number) (owes true false) (woke (w .beat) i ∷ []) (woke (w .beat) i ∷ []) refl
       (in-phase 0 e i number ∙ rw (ne-eqb (w .beat / 3 % D .nodes) i other))
   follows s v a (votes i number m r e P) =
       by-call i (due-honest N W i number a .0) block _ (vote-lawful (settings N i) (w .beat)) m r P
-      (Due i number) (λ x. voted (w .beat) i x ∷ []) (λ b. owes true false) (λ b. woke (w .beat) i ∷ []) (in-phase 1 e i number)
+      (Due i number) (lacked (w .beat) i) (λ x. voted (w .beat) i x ∷ []) (λ b. owes true false) (λ b. woke (w .beat) i ∷ []) (in-phase 1 e i number)
   follows s v a (merges i number m r e P) =
       by-call i (due-honest N W i number a .0) (λ t. nothingMore) _ (merge-lawful (settings N i) (w .beat)) m r P
-      (Due i number) (λ x. []) (λ b. owes true false) (λ b. woke (w .beat) i ∷ []) (in-phase 2 e i number)
+      (Due i number) (lacked (w .beat) i) (λ x. []) (λ b. owes true false) (λ b. woke (w .beat) i ∷ []) (in-phase 2 e i number)
   follows s v a (gossips i old new r P) =
       let h = send-honest N W false i old a in
       by-reading i h (Gossip i old) (afterGossip (w .turn i)) _ _ (written i h false old new r P) refl
@@ -128,4 +128,4 @@ module _ (D : Deployment) (w : State) (H : AllHealthy D w) where
       by-reading i h (Proposal i old) (afterProposal (w .turn i)) _ _ (written i h true old new r P) refl
   follows s v a (receives i bytes m r P) =
       by-call i (receive-honest N W i bytes a) received _ (receive-lawful (settings N i) (w .beat) bytes) m r P
-      (Receive i bytes) (λ x. []) (λ b. w .turn i) (λ b. given (w .beat) i bytes b ∷ []) refl
+      (Receive i bytes) (turnedAway (w .beat) i bytes) (λ x. []) (λ b. w .turn i) (λ b. given (w .beat) i bytes b ∷ []) refl

@@ -7,7 +7,7 @@ use Rattle.protocol.specs.Words.{join}
 use Rattle.protocol.specs.Store.{freshClock}
 use Rattle.protocol.specs.Lent.{rowsOf, placesIn, placesOf, nodeOf}
 use Rattle.protocol.proofs.Basics.Tests.{and-left}
-use Rattle.resilience.proofs.Witness.Acts.{butOne}
+use Rattle.resilience.proofs.Witness.Acts.{butOne, oddRacks}
 use Rattle.resilience.proofs.Witness.Premises.{proposedTest, proposed-true, meetsTest}
 use Rattle.resilience.proofs.Witness.FiveNodes.{five, acts, twin, end, met}
 use Rattle.conformance.specs.State.{Deployment, State, decoded}
@@ -15,7 +15,7 @@ use Rattle.conformance.specs.CodeRun.{CodeRun}
 use Rattle.conformance.specs.Conformance.{Completeness}
 use Rattle.conformance.proofs.Completes.{completes}
 
--- each is lent ten places for blocks and thirty for votes; node 1 is dishonest
+-- each is lent ten places for blocks and thirty for votes; node 1 is dishonest, and node 3 a rack
 abbrev pub deployment : Deployment
 deployment =
     record {
@@ -23,6 +23,7 @@ deployment =
       expiry = 2;
       depth = 2;
       honest = butOne;
+      profile = oddRacks;
       lent = λ i.
           record { blocks = 0 ∷ 0 ∷ 0 ∷ 0 ∷ 0 ∷ 1 ∷ replicate 54 0; votes = replicate 150 0; blocksUsed = 1; votesUsed = 0; clock = freshClock };
     }

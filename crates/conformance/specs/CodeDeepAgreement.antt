@@ -13,6 +13,7 @@ use Rattle.answers.specs.declared.Answer.{Answer}
 use Rattle.answers.specs.declared.Answer.the-variants as answer
 use Rattle.answers.specs.Promises.{Votes, IsDeep}
 use Rattle.resilience.specs.Run.{Due, woke, voted, owes, settings, allowed}
+use Rattle.resilience.specs.Resilience.{Enough}
 use Rattle.resilience.specs.DeepAgreement.{Agree}
 use Rattle.conformance.specs.State.{Deployment, State, network, decoded}
 use Rattle.conformance.specs.CodeRun.{CodeRun, CodeOnward, after}
@@ -39,7 +40,7 @@ pub record CodeDeepAfterVote (D : Deployment) (w : State) (i a d : ℕ) : Type 0
   pub onward : CodeOnward D state w
 
 unfoldable pub CodeDeepAgreement : Type 0
-CodeDeepAgreement = (D : Deployment) (w : State) → Agree (network D) (decoded D w) (CodeDeepAfterVote D w)
+CodeDeepAgreement = (D : Deployment) (w : State) → Agree Enough (network D) (decoded D w) (CodeDeepAfterVote D w)
 
 -- whatever Deep for a answers there, it is a block
 unfoldable pub CodeDeepAnswered : Type 0

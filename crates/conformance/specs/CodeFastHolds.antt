@@ -8,6 +8,7 @@ use Rattle.protocol.specs.Words.{value}
 use Rattle.answers.specs.declared.Answer.the-variants as answer
 use Rattle.answers.specs.Promises.{IsFast}
 use Rattle.resilience.specs.Run.{settings, isHonest}
+use Rattle.resilience.specs.Resilience.{Enough}
 use Rattle.resilience.specs.FastHolds.{Hold}
 use Rattle.conformance.specs.State.{Deployment, State, network, decoded}
 use Rattle.conformance.specs.CodeRun.{CodeRun, CodeOnward}
@@ -24,4 +25,4 @@ pub record CodeHasFast (D : Deployment) (w : State) (i t F : ℕ) : Type 0 where
   pub onward : CodeOnward D state w
 
 unfoldable pub CodeFastHolds : Type 0
-CodeFastHolds = (D : Deployment) (w : State) → Hold (network D) (decoded D w) (CodeHasFast D w)
+CodeFastHolds = (D : Deployment) (w : State) → Hold Enough (network D) (decoded D w) (CodeHasFast D w)

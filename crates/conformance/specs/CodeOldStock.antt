@@ -7,6 +7,7 @@ use mathlib.Core.List.{List}
 use lib.ListN.{length, take}
 use Rattle.protocol.specs.declared.Settings.{Settings}
 use Rattle.protocol.specs.declared.Width.the-variants.{Narrow, Wide}
+use Rattle.protocol.specs.Limits.{limitsOf}
 use Rattle.protocol.specs.Refusal.{done}
 use Rattle.protocol.specs.Calls.Write.{packetOut, over}
 use Rattle.protocol.specs.Lent.{Lent, placesOf, nodeOf}
@@ -25,10 +26,10 @@ CodeOldStock =
     NumbersBelow (2 ^ 64) (nodeOf m) →
     -- "written wide": a Write answered n and left the buffer so
     (old new : List ℕ) (n : ℕ) → Writes s m false Wide old new (written.Length n) →
-    -- "received as in the second demand": by a fresh node of the same n with places enough, at the sender's beat
+    -- "received as in the second demand": by a fresh node of the same n with places enough and a limit that the packet keeps to, at the sender's beat
     (s' : Settings) (before m' : Lent) → Opens s' before m' reply.Done →
     s' .nodes ≡ s .nodes →
-    m .blocksUsed ≤ placesOf before .blocks → m .votesUsed ≤ placesOf before .votes →
+    m .blocksUsed ≤ placesOf before .blocks → m .votesUsed ≤ placesOf before .votes → limitsOf (s' .profile) .tooLong n ≡ false →
     (y : Lent) (r : Reply) → Receives s' m' (m .clock .seen) (take n new) y r →
     let bytes = packetOut false Narrow (nodeOf m) in
     -- "and then written narrow", to any buffer that has room, as its sender would write it

@@ -10,26 +10,21 @@ use Rattle.protocol.specs.Refusal.{done}
 use Rattle.protocol.specs.Calls.Vote.{headOf}
 use Rattle.protocol.specs.Calls.Query.{deepOf, fastOf}
 use Rattle.protocol.specs.Lent.{Lent, placesOf}
-use Rattle.protocol.specs.Removal.{Call, Receive, Propose, Vote, Merge, byTen, madeKeeping}
+use Rattle.protocol.specs.CallList.{Call, refusedBy}
+use Rattle.protocol.specs.Removal.{byTen, madeKeeping}
 use Rattle.answers.specs.declared.Answer.{Answer}
 use Rattle.answers.specs.declared.Reply.{Reply}
 use Rattle.answers.specs.declared.Reply.the-variants as reply
 use Rattle.answers.specs.Answers.{replyOf, answerOf}
-use Rattle.answers.specs.Promises.{Opens, Receives, Proposes, Votes, Merges, IsHead, IsDeep, IsFast}
-
--- what the code promises of a call, on the memory m
-abbrev pub promised : Settings → Lent → Call → Lent → Reply → Type 0
-promised s m (Receive beat bytes) = Receives s m beat bytes
-promised s m (Propose beat number) = Proposes s m beat number
-promised s m (Vote beat) = Votes s m beat
-promised s m (Merge beat) = Merges s m beat
+use Rattle.answers.specs.Promises.{Opens, IsHead, IsDeep, IsFast}
+use Rattle.conformance.specs.CodeCall.{promised}
 
 -- The memory that an Open and then calls of the code left, none of which answered 10; and the node that the same calls leave where no vote
 -- is ever removed.
 pub data CodeCalls (s : Settings) : Lent → Node → Type 0 where
   opened : (old m : Lent) → Opens s old m reply.Done → CodeCalls s m fresh
   then : {m : Lent} {y : Node} → CodeCalls s m y → (c : Call) (next : Lent) (r : Reply) → promised s m c next r →
-      byTen (replyOf r) ≡ false → CodeCalls s next (madeKeeping s (placesOf m) y c)
+      refusedBy byTen (replyOf r) ≡ false → CodeCalls s next (madeKeeping s (placesOf m) y c)
 
 -- What Head, Deep and Fast answer of a slot, where they are not refused, that node finds.
 unfoldable pub CodeRemovalUnseen : Type 0

@@ -2,35 +2,35 @@
 -- and the log of what the code answered. Assumes nothing.
 use mathlib.Core.Path.{_≡_}
 use Prim.Native.Nat.{ℕ, _+_, _/_, _%_}
-use mathlib.Core.Bool.{Bool, true, false, _||_, cond}
+use mathlib.Core.Bool.{Bool, true, false, cond}
 use mathlib.Core.List.{List, [], _∷_, _++_}
 use lib.ListN.{take}
-use lib.Dec.{eqb, T}
+use lib.Dec.{T}
 use Rattle.protocol.specs.declared.Width.the-variants.{Wide}
 use Rattle.protocol.specs.Words.{value}
 use Rattle.protocol.specs.Lent.{Lent}
 use Rattle.verdicts.specs.declared.Refusal.{Refusal}
-use Rattle.verdicts.specs.Verdict.{numberOf}
+use Rattle.verdicts.specs.Verdict.{refusalOf}
 use Rattle.answers.specs.declared.Reply.{Reply}
 use Rattle.answers.specs.declared.Reply.the-variants as reply
 use Rattle.answers.specs.declared.Written.{Written}
 use Rattle.answers.specs.declared.Written.the-variants as written
 use Rattle.answers.specs.Promises.{Opens, Receives, Proposes, Votes, Merges, Writes}
-use Rattle.resilience.specs.Run.{Step, Begin, Due, Gossip, Proposal, Receive, Event, woke, voted, built, sent, given, lacked, Turn, ahead, owes, afterGossip, afterProposal, update, settings, isHonest, allowed}
+use Rattle.resilience.specs.Run.{Step, Begin, Due, Gossip, Proposal, Receive, Event, woke, voted, built, sent, given, lacked, turnedAway, Turn, ahead, owes, afterGossip, afterProposal, update, forWant, settings, isHonest, allowed}
 use Rattle.conformance.specs.State.{Deployment, State, network, decoded}
 
 -- ---- what an answer puts in the log
 
--- "Want of places or buffer is refusal 10 or 18"
-abbrev pub want : ℕ → ℕ → Refusal → List Event
-want beat i e = cond (eqb (numberOf e) 10 || eqb (numberOf e) 18) (lacked beat i ∷ []) []
+-- of a refusal: `want`, if it is for want of places, buffer or length
+abbrev pub refusedFor : Event → Refusal → List Event
+refusedFor want e = cond (forWant (refusalOf e)) (want ∷ []) []
 
 -- of a Propose, Vote, Merge or Receive; `f` says what a block that is answered stands for
-abbrev pub logged : ℕ → ℕ → (ℕ → List Event) → Reply → List Event
-logged beat i f (reply.Block x) = f (value x)
-logged beat i f reply.Done = []
-logged beat i f (reply.Received t) = []
-logged beat i f (reply.Refused e) = want beat i e
+abbrev pub logged : Event → (ℕ → List Event) → Reply → List Event
+logged want f (reply.Block x) = f (value x)
+logged want f reply.Done = []
+logged want f (reply.Received t) = []
+logged want f (reply.Refused e) = refusedFor want e
 
 abbrev pub carriedOut : Reply → Bool
 carriedOut (reply.Block x) = true
@@ -41,7 +41,7 @@ carriedOut (reply.Refused e) = false
 -- of a Write that left this buffer: "a sent packet is the bytes as Write left them, of the length it answered"
 abbrev pub packetSent : ℕ → ℕ → List ℕ → Written → List Event
 packetSent beat i buffer (written.Length n) = sent beat i (take n buffer) ∷ []
-packetSent beat i buffer (written.Refused e) = want beat i e
+packetSent beat i buffer (written.Refused e) = refusedFor (lacked beat i) e
 
 -- ---- the steps
 
@@ -58,19 +58,19 @@ pub data CodeStep (D : Deployment) (w : State) : Step → State → Type 0 where
   proposes : (i number : ℕ) (m : Lent) (r : Reply) → w .beat % 3 ≡ 0 → w .beat / 3 % D .nodes ≡ i →
       Proposes (settings (network D) i) (w .memory i) (w .beat) number m r →
       CodeStep D w (Due i number)
-      (after w i m (owes true (carriedOut r)) (logged (w .beat) i (λ p. built (w .beat) i number p ∷ []) r ++ (woke (w .beat) i ∷ [])))
+      (after w i m (owes true (carriedOut r)) (logged (lacked (w .beat) i) (λ p. built (w .beat) i number p ∷ []) r ++ (woke (w .beat) i ∷ [])))
   waits : (i number : ℕ) → w .beat % 3 ≡ 0 → (w .beat / 3 % D .nodes ≡ i → ⊥) →
       CodeStep D w (Due i number) (after w i (w .memory i) (owes true false) (woke (w .beat) i ∷ []))
   -- "phase 1: Vote"
   votes : (i number : ℕ) (m : Lent) (r : Reply) → w .beat % 3 ≡ 1 →
       Votes (settings (network D) i) (w .memory i) (w .beat) m r →
       CodeStep D w (Due i number)
-      (after w i m (owes true false) (logged (w .beat) i (λ x. voted (w .beat) i x ∷ []) r ++ (woke (w .beat) i ∷ [])))
+      (after w i m (owes true false) (logged (lacked (w .beat) i) (λ x. voted (w .beat) i x ∷ []) r ++ (woke (w .beat) i ∷ [])))
   -- "phase 2: Merge"
   merges : (i number : ℕ) (m : Lent) (r : Reply) → w .beat % 3 ≡ 2 →
       Merges (settings (network D) i) (w .memory i) (w .beat) m r →
       CodeStep D w (Due i number)
-      (after w i m (owes true false) (logged (w .beat) i (λ x. []) r ++ (woke (w .beat) i ∷ [])))
+      (after w i m (owes true false) (logged (lacked (w .beat) i) (λ x. []) r ++ (woke (w .beat) i ∷ [])))
   -- "sends its stock, and its proposal if it made one, both by Write", "in the run .. wide": the memory is only read; the buffer before and after
   gossips : (i : ℕ) (old new : List ℕ) (r : Written) →
       Writes (settings (network D) i) (w .memory i) false Wide old new r →
@@ -82,7 +82,7 @@ pub data CodeStep (D : Deployment) (w : State) : Step → State → Type 0 where
   receives : (i : ℕ) (bytes : List ℕ) (m : Lent) (r : Reply) →
       Receives (settings (network D) i) (w .memory i) (w .beat) bytes m r →
       CodeStep D w (Receive i bytes)
-      (after w i m (w .turn i) (logged (w .beat) i (λ x. []) r ++ (given (w .beat) i bytes (carriedOut r) ∷ [])))
+      (after w i m (w .turn i) (logged (turnedAway (w .beat) i bytes) (λ x. []) r ++ (given (w .beat) i bytes (carriedOut r) ∷ [])))
 
 -- ---- the runs
 

@@ -1,9 +1,7 @@
 -- The tie between the theorem and the code, and demand 3 said of runs of the code. Assumes nothing.
 use mathlib.Core.Path.{_≡_}
-use Prim.Native.Nat.{ℕ, _-_, _/_}
-use mathlib.Core.List.{List·Memᴰ}
-use Rattle.resilience.specs.Run.{World, Run, built}
-use Rattle.resilience.specs.Resilience.{Opened, OneBlock, Unforged, Enough, Delivered, Majority, Stays}
+use Rattle.resilience.specs.Run.{World, Run}
+use Rattle.resilience.specs.Resilience.{Opened, Enough, BlockStays}
 use Rattle.conformance.specs.State.{Deployment, State, network, decoded}
 use Rattle.conformance.specs.CodeRun.{CodeRun}
 
@@ -16,12 +14,6 @@ unfoldable pub Completeness : Type 0
 Completeness =
     (D : Deployment) → Opened (network D) → (v : World) → Run (network D) v → (w : State) × CodeRun D w × (decoded D w ≡ v)
 
--- Demand 3 of runs of the code: let a Propose that was carried out have built the block B at this beat. With the premises of `resilience` on
--- the log of what the code answered, B stays.
+-- Demand 3 of runs of the code: with the premises of `resilience` on the log of what the code answered, a block that a Propose built stays.
 unfoldable pub CodeResilience : Type 0
-CodeResilience =
-    (D : Deployment) (w : State) → CodeRun D w →
-    (beat p B parent : ℕ) → List·Memᴰ (built beat p B parent) (w .log) →
-    Delivered (beat - 1) (w .log) → Unforged (network D) (w .log) → OneBlock (w .log) → Enough (w .log) →
-    Majority (network D) (beat / 3) (decoded D w) →
-    Stays beat B (decoded D w)
+CodeResilience = (D : Deployment) (w : State) → CodeRun D w → BlockStays Enough (network D) (decoded D w)

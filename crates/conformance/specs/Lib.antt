@@ -2,8 +2,11 @@
 pub mod State
 pub mod CodeRun
 pub mod Conformance
+pub mod CodeCall
 pub mod CodeRemoval
+pub mod CodeRack
 pub mod CodeDeepAgreement
 pub mod CodeFastHolds
+pub mod CodeFlooding
 pub mod CodeAsynchrony
 pub mod CodeOldStock

@@ -3,16 +3,18 @@
 use Prim.Native.Nat.{ℕ}
 use mathlib.Core.Bool.{Bool, cond}
 use mathlib.Core.List.{List}
+use Rattle.protocol.specs.declared.Profile.{Profile}
 use Rattle.protocol.specs.Lent.{Lent, placesOf, nodeOf}
 use Rattle.resilience.specs.Run.{Network, World, Event, Turn, start, isHonest}
 
 -- "All nodes start fresh, with the same n, E and K and each its own index": how many nodes, the expiry period and the depth,
--- which nodes are honest, and the memory that each is lent, as it stands before Open.
+-- which nodes are honest, and of each the limits that it keeps to and the memory that it is lent, as it stands before Open.
 pub record Deployment : Type 0 where
   pub nodes : ℕ
   pub expiry : ℕ
   pub depth : ℕ
   pub honest : ℕ → Bool
+  pub profile : ℕ → Profile
   pub lent : ℕ → Lent
 
 pub record State : Type 0 where
@@ -30,6 +32,7 @@ network D =
       expiry = D .expiry;
       depth = D .depth;
       honest = D .honest;
+      profile = D .profile;
       places = λ i. placesOf (D .lent i);
       before = λ i. nodeOf (D .lent i);
     }

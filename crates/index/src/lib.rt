@@ -24,6 +24,13 @@ ghost use Rattle.index.specs.Index.{offsetsOf, rowKey, packetKey, keyAt,
 ghost use Rattle.index.specs.Places.{placeOfNumber, numbersDiffer, votesDiffer, BlockIndex, VoteIndex, SlotIndex, slotKey, knownBlocks, knownVotes};
 ghost use Rattle.index.specs.Firsts.{firstPlace};
 
+// The links of an index: its roots, and four for each row. Those of the largest tables.
+pub const ROOTS: usize = 8192;
+
+pub const BLOCK_LINKS: usize = ROOTS + 4 * limits::LOOM_BLOCKS;
+
+pub const VOTE_LINKS: usize = ROOTS + 4 * limits::LOOM_VOTES;
+
 // What an index goes by: four words, of which d is the upper half of a number. Its root is chosen by b, c and d, and digits of all four part those
 // that share a root.
 pub struct Key {
@@ -313,7 +320,7 @@ fn descend(
                 place: link,
             };
         }
-        at = 8192 + 4 * place + (digits.low % 4) as usize;
+        at = ROOTS + 4 * place + (digits.low % 4) as usize;
         digits = rest(digits);
         link = search_tree::link_at(links, at);
     }

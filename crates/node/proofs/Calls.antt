@@ -15,6 +15,7 @@ use Rattle.protocol.specs.declared.Clock.{Clock}
 use Rattle.protocol.specs.Entry.{Block, Vote}
 use Rattle.protocol.specs.Lists.{any}
 use Rattle.protocol.specs.Walk as walk
+use Rattle.protocol.specs.Limits.{loom, limitsOf}
 use Rattle.protocol.specs.Store.{Marked, entries, inView, waiting, visible, showAll, sameVote, keptFrom, rowsSince, Node}
 use Rattle.protocol.specs.Sound.{between, placesSound}
 use Rattle.protocol.specs.Packet.{Packet, packetOf, isProposal}
@@ -71,7 +72,7 @@ pub open-room : (s : Settings) (bw vw : List ℕ) {v : Verdict} → verdictOf v 
 unfolding placesSound between
 open-room s bw vw h e =
     let o = opens s _ (said Pass h e) .places in
-    blocks-fit bw 1 (leb-true 1 (placesIn blockWords bw) (and-left (leb 1 (placesIn blockWords bw)) _ (and-left _ (between 1 8192 (placesIn voteWords vw)) o)))
+    blocks-fit bw 1 (leb-true 1 (placesIn blockWords bw) (and-left (leb 1 (placesIn blockWords bw)) _ (and-left _ (between 1 (limitsOf (s .profile) .votes) (placesIn voteWords vw)) o)))
 
 -- ---- Receive
 
@@ -114,7 +115,7 @@ module _ (s : Settings) (m : Lent) (beat : ℕ) (bytes : List ℕ) {v : Verdict}
   pub receive-block-room : v ≡ Pass → BlocksFit (length (addBlocks (entries (rowsOf makeBlock (m .blocks) (m .blocksUsed))) (packetOf bytes .blocks))) (m .blocks)
   receive-block-room e = receive-room-blocks s m beat bytes (said Pass h e)
 
-  pub receive-few : v ≡ Pass → length (addBlocks (entries (rowsOf makeBlock (m .blocks) (m .blocksUsed))) (packetOf bytes .blocks)) ≤ 2048
+  pub receive-few : v ≡ Pass → length (addBlocks (entries (rowsOf makeBlock (m .blocks) (m .blocksUsed))) (packetOf bytes .blocks)) ≤ loom .blocks
   receive-few e = receive-few-blocks s m beat bytes (said Pass h e)
 
   pub receive-vote-room : {from : ℕ} → v ≡ Pass → from ≡ keptFrom s (m .clock .merged) → VotesFit (length (addSince from (entries (rowsOf makeVote (m .votes) (m .votesUsed))) (packetOf bytes .votes))) (m .votes)

@@ -99,8 +99,8 @@ pub fn receive(
 {
     let block_rows = *blocks_used;
     let vote_rows = *votes_used;
-    let mut block_firsts = [0u64; 1056];
-    let mut vote_firsts = [0u64; 1152];
+    let mut block_firsts = [0u64; verdicts::BLOCK_FIRSTS];
+    let mut vote_firsts = [0u64; verdicts::VOTE_FIRSTS];
     let verdict = verdicts::receive_verdict(
         settings,
         clock,

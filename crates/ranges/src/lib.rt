@@ -1,11 +1,13 @@
 // The rules of sound tables that look at numbers alone: settings, clock, places, and the marks, voters and slots of rows.
 // No function keeps an array: the largest call takes less than 1 KB of stack.
 use protocol::Clock;
+use protocol::Profile;
 use protocol::Settings;
 ghost use mathlib.Core.Bool.{_&&_};
 ghost use mathlib.Core.Path.{_≡_};
 ghost use Prim.Native.Nat.{_*_, _<_};
 ghost use lib.Dec.{leb};
+ghost use Rattle.protocol.specs.Limits.{limitsOf};
 ghost use Rattle.protocol.specs.Lists.{all};
 ghost use Rattle.protocol.specs.Sound.{settingsSound, clockSound, placesSound, between};
 ghost use Rattle.protocol.specs.Lent.{BlocksFit, VotesFit, blockWords, voteWords, placesIn, marksSound, rowsOf, makeBlock, makeVote};
@@ -17,19 +19,28 @@ pub fn within(low: u64, high: u64, x: u64) -> bool
     low <= x && x <= high
 }
 
+// Whether the profile allows so many nodes.
+pub fn nodes_sound(profile: Profile, nodes: u64) -> bool
+    ensures { λ r. ⌜ r ≡ between 1 (limitsOf profile .nodes) nodes ⌝ }
+{
+    let most = limits::limits_of(profile);
+    within(1, most.nodes, nodes)
+}
+
 pub fn settings_sound(settings: Settings) -> bool
     ensures { λ r. ⌜ r ≡ settingsSound settings ⌝ }
 {
-    if !within(1, 64, settings.nodes) {
+    let profile = settings.profile;
+    if !nodes_sound(profile, settings.nodes) {
         return false;
     }
     if settings.own >= settings.nodes {
         return false;
     }
-    if !within(1, 4096, settings.expiry) {
+    if !within(1, limits::MAX_EXPIRY, settings.expiry) {
         return false;
     }
-    within(1, 4096, settings.depth)
+    within(1, limits::MAX_DEPTH, settings.depth)
 }
 
 // No product is formed that could pass the width of a word.
@@ -37,7 +48,7 @@ pub fn clock_sound(clock: Clock) -> bool
     ensures { λ r. ⌜ r ≡ clockSound clock ⌝ }
 {
     let slot = clock.seen / 3;
-    if slot > 1000000000 {
+    if slot > limits::MAX_SLOT {
         return false;
     }
     if clock.done > clock.seen {
@@ -64,16 +75,17 @@ pub fn places_in(width: usize, words: &[u64]) -> usize
     0
 }
 
-// Whether both tables have a number of places that is allowed.
-pub fn places_sound(blocks: &[u64], votes: &[u64]) -> bool
-    ensures { λ r. ⌜ r ≡ placesSound (record { blocks = placesIn blockWords (now (blocks .entry)); votes = placesIn voteWords (now (votes .entry)) }) ⌝ }
+// Whether both tables have a number of places that the profile allows.
+pub fn places_sound(profile: Profile, blocks: &[u64], votes: &[u64]) -> bool
+    ensures { λ r. ⌜ r ≡ placesSound (limitsOf profile) (record { blocks = placesIn blockWords (now (blocks .entry)); votes = placesIn voteWords (now (votes .entry)) }) ⌝ }
 {
+    let most = limits::limits_of(profile);
     let block_places = places_in(6, blocks) as u64;
-    if !within(1, 2048, block_places) {
+    if !within(1, most.blocks, block_places) {
         return false;
     }
     let vote_places = places_in(5, votes) as u64;
-    within(1, 8192, vote_places)
+    within(1, most.votes, vote_places)
 }
 
 // Whether as many rows as are used can stand in the words.

@@ -8,6 +8,7 @@ ghost use mathlib.Core.Bool.{true};
 ghost use mathlib.Core.Path.{_≡_};
 ghost use Prim.Native.Nat.{_+_, _*_, _≤_};
 ghost use lib.ListN.{length};
+ghost use Rattle.protocol.specs.Limits.{loom};
 ghost use Rattle.protocol.specs.Entry.{Block, Vote};
 ghost use Rattle.protocol.specs.Store.{Marked, entries, show};
 ghost use Rattle.protocol.specs.Packet.{packetOf};
@@ -39,11 +40,11 @@ pub fn brings(clock: Clock, beat: u64, bytes: &[u8]) -> bool
 // at place `before` or later, or are in `firsts`. Stack: 32 KiB of links.
 fn show_stood_on(blocks: &mut [u64], before: usize, used: usize, bytes: &[u8], firsts: &[u64])
     requires { ⌜ BlocksFit used (now blocks) × (marksSound makeBlock (now blocks) used ≡ true) × Carried (rowsOf makeBlock (now blocks) used) (packetOf (now bytes))
-        × (before ≤ used) × (before ≤ 64 * length (now firsts)) × (used ≤ 2048) × Agrees Block makeBlock (now blocks) used (namedAt before (now firsts)) (named (packetOf (now bytes))) ⌝ }
+        × (before ≤ used) × (before ≤ 64 * length (now firsts)) × (used ≤ loom .blocks) × Agrees Block makeBlock (now blocks) used (namedAt before (now firsts)) (named (packetOf (now bytes))) ⌝ }
     ensures { λ r. ⌜ now (blocks .exit) ≡ stored blockRow (show (λ b. stoodOn (entries (rowsOf makeBlock (now (blocks .entry)) used)) (packetOf (now (bytes .entry))) b) (rowsOf makeBlock (now (blocks .entry)) used)) (now (blocks .entry)) ⌝ }
 {
     views::show_named_blocks(blocks, before, used, firsts);
-    let mut links = [0u16; 16384];
+    let mut links = [0u16; index::BLOCK_LINKS];
     index::build_blocks(blocks, used, &mut links);
     views::show_ancestors(blocks, used, &links);
 }
@@ -62,7 +63,7 @@ pub fn receive_blocks(
 )
     requires { ⌜ BlocksFit (length (addBlocks (entries (rowsOf makeBlock (now blocks) (now used))) (packetOf (now bytes) .blocks))) (now blocks) × (marksSound makeBlock (now blocks) (now used) ≡ true) × Accepted (rowsOf makeBlock (now blocks) (now used)) (packetOf (now bytes))
         × (now used + length (packetOf (now bytes) .blocks) ≤ 64 * length (now firsts)) × BlocksNew (now blocks) (now used) (now bytes) (now firsts) × BlocksNamed (now blocks) (now used) (now bytes) (now firsts)
-        × (length (addBlocks (entries (rowsOf makeBlock (now blocks) (now used))) (packetOf (now bytes) .blocks)) ≤ 2048) ⌝ }
+        × (length (addBlocks (entries (rowsOf makeBlock (now blocks) (now used))) (packetOf (now bytes) .blocks)) ≤ loom .blocks) ⌝ }
     ensures { λ r. ⌜ Holds (Marked Block) blockRow (receiveInto 0 brought 0 (onlyBlocks (rowsOf makeBlock (now (blocks .entry)) (now (used .entry)))) (packetOf (now (bytes .entry))) .blocks) (now (blocks .entry)) (now (blocks .exit)) (now (used .exit)) ⌝ }
 {
     let before = *used;

@@ -20,12 +20,14 @@ use Rattle.protocol.proofs.Store.Sound.{view-sound, ranges}
 use Rattle.protocol.proofs.Store.Views.{view-stored}
 use Rattle.protocol.proofs.Calls.Passed.{votes}
 use Rattle.resilience.specs.Run.{Network, World, settings, isHonest, built}
-use Rattle.resilience.specs.Resilience.{Opened, Gives, by-proposer, OneBlock, AtOrAbove, here, Unforged, Enough, Delivered, Majority}
+use Rattle.resilience.specs.Resilience.{Opened, Gives, by-proposer, OneBlock, AtOrAbove, here, Unforged, EnoughForHonest, Delivered, Majority}
 use Rattle.resilience.specs.DeepAgreement.{ConditionsFrom, OneOfEvery, HonestBlock, BlockEvery, Agreed, DeepAfterVote, DeepAgreement, DeepWhileJoined, JoinedAgreement}
+use Rattle.resilience.specs.Flooding.{FloodAgreement}
 use Rattle.resilience.specs.Asynchrony.{Good, Lasting, GoodSince, AsynchronyAgreement}
 use Rattle.resilience.proofs.Steps.Allowed.{is-true}
 use Rattle.resilience.proofs.Runs.Execution.{Execution, world, log, settings-sound, opened-ranges, by-passage}
 use Rattle.resilience.proofs.Runs.History.{beat-mono}
+use Rattle.resilience.proofs.Runs.Premises.{enough-for-honest}
 use Rattle.resilience.proofs.Invariants.Soundness.{sound-tables}
 use Rattle.resilience.proofs.Invariants.Clock.{seen-beat}
 use Rattle.resilience.proofs.Invariants.Blocks.{OfRun, one-block, stored-of-run}
@@ -178,7 +180,7 @@ module _ {N : Network} (X : Execution N) (k : ℕ) (l : k ≤ X .end) (i : ℕ) 
 
 -- ---- in a run: what holds at every such point holds of a deep block that a node had while it was joined
 
-module _ {N : Network} (opened : Opened N) (w : World) (unforged : Unforged N (w .log)) (oneBlock : OneBlock (w .log)) (enough : Enough (w .log)) where
+module _ {N : Network} (opened : Opened N) (w : World) (unforged : Unforged N (w .log)) (oneBlock : OneBlock (w .log)) (enough : EnoughForHonest (w .log)) where
   at-point : {i a d : ℕ} → DeepWhileJoined N w i a d → (P : World → ℕ → Type 0)
       → ((X : Execution N) (k : ℕ) → k ≤ X .end → isHonest N i ≡ true → a ≤ world X k .node i .clock .merged + 1 → world X k .node i .clock .merged ≤ a
       → P (world X (X .end)) (deepOf (settings N i) (world X k .node i) a))
@@ -284,8 +286,12 @@ agreed-by N w Had More Block s f claim = (
   ),
 )
 
-pub deep-agreement : DeepAgreement
-unfolding DeepAgreement JoinedAgreement
-deep-agreement N opened w s conditions unforged oneBlock enough =
+pub flood-agreement : FloodAgreement
+unfolding FloodAgreement JoinedAgreement
+flood-agreement N opened w s conditions unforged oneBlock enough =
     agreed-by N w (DeepAfterVote N w) (DeepWhileJoined N w) (HonestBlock w) s (while-joined N w)
     (λ i a d H. joined-agreement N opened w s conditions unforged oneBlock enough)
+
+pub deep-agreement : DeepAgreement
+unfolding DeepAgreement FloodAgreement
+deep-agreement N opened w s conditions unforged oneBlock enough = flood-agreement N opened w s conditions unforged oneBlock (enough-for-honest enough)

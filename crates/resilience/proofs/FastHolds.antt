@@ -27,10 +27,12 @@ use Rattle.resilience.specs.Run.{Network, World, settings, isHonest}
 use Rattle.resilience.specs.Resilience.{AtOrAbove, DeliveredAt, Delivered, Majority, StaysAfter}
 use Rattle.resilience.specs.DeepAgreement.{OneOfEvery}
 use Rattle.resilience.specs.FastHolds.{dishonest, FoundStays, FoundAfterMerge, FastHolds, HasFast, FastHoldsAlways}
+use Rattle.resilience.specs.Flooding.{FloodFastHolds}
 use Rattle.resilience.specs.Asynchrony.{Good, AsynchronyFastHolds}
 use Rattle.resilience.proofs.Steps.Allowed.{is-true, truth}
 use Rattle.resilience.proofs.Runs.Onward.{run-on, carried-honest, carried-run}
 use Rattle.resilience.proofs.Runs.Execution.{Execution, world, log, opened-ranges, by-passage}
+use Rattle.resilience.proofs.Runs.Premises.{enough-for-honest}
 use Rattle.resilience.proofs.Invariants.Soundness.{sound-tables}
 use Rattle.resilience.proofs.Invariants.Blocks.{OfRun, stored-of-run}
 use Rattle.resilience.proofs.Invariants.Chains.{above-in-log}
@@ -153,8 +155,12 @@ has-fast N w i t F H = record {
   onward = H .onward;
 }
 
-pub fast-holds : FastHolds
-unfolding FastHolds FastHoldsAlways
-fast-holds N opened w few t del unforged oneBlock enough maj =
+pub flood-fast-holds : FloodFastHolds
+unfolding FloodFastHolds FastHoldsAlways
+flood-fast-holds N opened w few t del unforged oneBlock enough maj =
     stays-by w (FoundAfterMerge N w) (HasFast N w) (has-fast N w) t
     (λ i F H. fast-holds-always N opened w (omega arith) t del unforged oneBlock enough maj)
+
+pub fast-holds : FastHolds
+unfolding FastHolds FloodFastHolds
+fast-holds N opened w few t del unforged oneBlock enough = flood-fast-holds N opened w (omega arith) t del unforged oneBlock (enough-for-honest enough)

@@ -5,7 +5,7 @@ use mathlib.Core.Bool.{Bool, _&&_, _||_, not}
 use mathlib.Core.List.{List}
 use Rattle.protocol.specs.Walk.{count}
 use Rattle.resilience.specs.Run.{Network, World, Run, Event}
-use Rattle.resilience.specs.Resilience.{Opened, Unforged, OneBlock, Enough, DeliveredAt, votesIn, votesBefore, voters, MoreVote, Stays}
+use Rattle.resilience.specs.Resilience.{Opened, Unforged, OneBlock, EnoughForHonest, DeliveredAt, votesIn, votesBefore, voters, MoreVote, Stays}
 use Rattle.resilience.specs.DeepAgreement.{OneOfEvery, HonestBlock, Agreed, DeepWhileJoined}
 use Rattle.resilience.specs.FastHolds.{dishonest, FoundStays, HasFast}
 
@@ -41,10 +41,11 @@ pub record Lasting (N : Network) (w : World) (GoodFor : ℕ → ℕ → Type 0) 
   -- and so is one of any E consecutive slots from t on whose vote beats are over: a fault may last E - 1 slots, and there may be any number of faults
   pub every : OneOfEvery (N .expiry) (GoodFor (beat / 3)) (beat / 3) w
 
--- Nobody forges, a number names one block and nobody refuses for want, as in demand 3. Then such a block stays, as in demand 3.
+-- Nobody forges and a number names one block, as in demand 3, and neither a call of an honest node nor a packet that an honest node sent is refused for want.
+-- Then such a block stays, as in demand 3.
 abbrev pub LastingStays : Network → World → (ℕ → ℕ → Type 0) → Type 0
 LastingStays N w GoodFor =
-    Unforged N (w .log) → OneBlock (w .log) → Enough (w .log) →
+    Unforged N (w .log) → OneBlock (w .log) → EnoughForHonest (w .log) →
     (beat B : ℕ) → Lasting N w GoodFor beat B → Stays beat B w
 
 unfoldable pub AsynchronyResilience : Type 0
@@ -73,7 +74,7 @@ AsynchronyResilienceSince = (N : Network) → Opened N → (w : World) → Run N
 -- Deep blocks agree, if of every K consecutive slots one has an honest block that lasts in this sense. Nothing is asked of the other slots.
 abbrev pub AgreeByLasting : Network → World → (ℕ → ℕ → ℕ → Type 0) → Type 0
 AgreeByLasting N w Had =
-    Unforged N (w .log) → OneBlock (w .log) → Enough (w .log) →
+    Unforged N (w .log) → OneBlock (w .log) → EnoughForHonest (w .log) →
     (s : ℕ) → Agreed N w Had (Lasting N w (GoodSince N w)) s
 
 unfoldable pub AsynchronyAgreement : Type 0
@@ -83,7 +84,7 @@ AsynchronyAgreement = (N : Network) → Opened N → (w : World) → AgreeByLast
 abbrev pub HoldByGood : Network → World → (ℕ → ℕ → ℕ → Type 0) → Type 0
 HoldByGood N w Found =
     4 * dishonest N < N .nodes →
-    (t : ℕ) → DeliveredAt (3 * t + 1) (w .log) → Unforged N (w .log) → OneBlock (w .log) → Enough (w .log) →
+    (t : ℕ) → DeliveredAt (3 * t + 1) (w .log) → Unforged N (w .log) → OneBlock (w .log) → EnoughForHonest (w .log) →
     OneOfEvery (N .expiry) (Good N w) (suc t) w →
     FoundStays w Found t
 

@@ -2,13 +2,13 @@
 -- quotes the customer's words that it stands for. Assumes nothing.
 use mathlib.Core.Path.{_≡_}
 use Prim.Native.Nat.{ℕ, _+_, _*_, _/_, _≤_, _<_}
-use mathlib.Core.List.{List·Memᴰ}
+use mathlib.Core.List.{List, List·Memᴰ}
 use lib.Dec.{T}
 use Rattle.protocol.specs.Refusal.{done}
 use Rattle.protocol.specs.Calls.Vote.{vote}
 use Rattle.protocol.specs.Calls.Query.{deepOf, deepQuery}
-use Rattle.resilience.specs.Run.{Network, World, Run, Onward, CarriedOut, built, isHonest, settings}
-use Rattle.resilience.specs.Resilience.{Opened, OneBlock, Unforged, Enough, DeliveredAt, MoreVote, AtOrAbove}
+use Rattle.resilience.specs.Run.{Network, World, Run, Onward, CarriedOut, Event, built, isHonest, settings}
+use Rattle.resilience.specs.Resilience.{Opened, OneBlock, Unforged, Enough, EnoughForHonest, DeliveredAt, MoreVote, AtOrAbove}
 
 -- ---- "let every slot from a slot s on whose vote beat is over meet the conditions that let an honest block last"
 
@@ -53,10 +53,11 @@ Agreed N w Had Block s =
     -- a block in every K slots
     × ((beat B b j e : ℕ) → Block beat B → s ≤ beat / 3 → beat / 3 + N .depth ≤ b → Had j b e → AtOrAbove (w .log) B e))
 
-abbrev pub Agree : Network → World → (ℕ → ℕ → ℕ → Type 0) → Type 0
-Agree N w Had =
+-- `Ample` is the premise on places, buffers and lengths.
+abbrev pub Agree : (List Event → Type 0) → Network → World → (ℕ → ℕ → ℕ → Type 0) → Type 0
+Agree Ample N w Had =
     -- "let every slot from a slot s on whose vote beat is over meet the conditions that let an honest block last"
-    (s : ℕ) → ConditionsFrom N s w → Unforged N (w .log) → OneBlock (w .log) → Enough (w .log) →
+    (s : ℕ) → ConditionsFrom N s w → Unforged N (w .log) → OneBlock (w .log) → Ample (w .log) →
     Agreed N w Had (HonestBlock w) s
 
 -- "right after its vote in slot a"
@@ -73,7 +74,7 @@ pub record DeepAfterVote (N : Network) (w : World) (i a d : ℕ) : Type 0 where
 
 -- "At whatever point a run stands": in w
 unfoldable pub DeepAgreement : Type 0
-DeepAgreement = (N : Network) → Opened N → (w : World) → Agree N w (DeepAfterVote N w)
+DeepAgreement = (N : Network) → Opened N → (w : World) → Agree Enough N w (DeepAfterVote N w)
 
 -- It has one there: Deep for a is answered.
 unfoldable pub DeepAnswered : Type 0
@@ -95,4 +96,4 @@ pub record DeepWhileJoined (N : Network) (w : World) (i a d : ℕ) : Type 0 wher
   pub onward : Onward N world w
 
 unfoldable pub JoinedAgreement : Type 0
-JoinedAgreement = (N : Network) → Opened N → (w : World) → Agree N w (DeepWhileJoined N w)
+JoinedAgreement = (N : Network) → Opened N → (w : World) → Agree EnoughForHonest N w (DeepWhileJoined N w)

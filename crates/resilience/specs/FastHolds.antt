@@ -4,15 +4,15 @@ use mathlib.Core.Path.{_≡_}
 use Prim.Native.Nat.{ℕ, suc, _+_, _*_, _≤_, _<_}
 use mathlib.Core.Logic.{_⊎_}
 use mathlib.Core.Bool.{not}
-use mathlib.Core.List.{List·Memᴰ}
+use mathlib.Core.List.{List, List·Memᴰ}
 use lib.Dec.{T}
 use Rattle.protocol.specs.Filters.{chosen}
 use Rattle.protocol.specs.Walk.{count}
 use Rattle.protocol.specs.Refusal.{done}
 use Rattle.protocol.specs.Calls.Merge.{merge}
 use Rattle.protocol.specs.Calls.Query.{fastOf, fastQuery}
-use Rattle.resilience.specs.Run.{Network, World, Run, Onward, CarriedOut, woke, isHonest, settings}
-use Rattle.resilience.specs.Resilience.{Opened, OneBlock, AtOrAbove, Unforged, Enough, Delivered, Majority, StaysAfter}
+use Rattle.resilience.specs.Run.{Network, World, Run, Onward, CarriedOut, Event, woke, isHonest, settings}
+use Rattle.resilience.specs.Resilience.{Opened, OneBlock, AtOrAbove, Unforged, Enough, EnoughForHonest, Delivered, Majority, StaysAfter}
 
 -- ---- the claim
 
@@ -29,14 +29,15 @@ FoundStays w Found t =
     -- and it is on one chain with every fast block of this slot or a later one: two foremen never cut on different branches
     × ((s j G : ℕ) → t ≤ s → Found j s G → AtOrAbove (w .log) F G ⊎ AtOrAbove (w .log) G F)
 
-abbrev pub Hold : Network → World → (ℕ → ℕ → ℕ → Type 0) → Type 0
-Hold N w Found =
+-- `Ample` is the premise on places, buffers and lengths.
+abbrev pub Hold : (List Event → Type 0) → Network → World → (ℕ → ℕ → ℕ → Type 0) → Type 0
+Hold Ample N w Found =
     -- "When 4 × the dishonest nodes is below n"
     4 * dishonest N < N .nodes →
     -- "and packets sent from the vote beat of slot t on arrive as in the third demand"
     (t : ℕ) → Delivered (3 * t + 1) (w .log) →
     -- "with its premises on forging, numbers and places"
-    Unforged N (w .log) → OneBlock (w .log) → Enough (w .log) →
+    Unforged N (w .log) → OneBlock (w .log) → Ample (w .log) →
     -- "and its count of voters holds from slot t + 1 on"
     Majority N (suc t) w →
     FoundStays w Found t
@@ -53,7 +54,7 @@ pub record FoundAfterMerge (N : Network) (w : World) (i t F : ℕ) : Type 0 wher
   pub onward : Onward N world w
 
 unfoldable pub FastHolds : Type 0
-FastHolds = (N : Network) → Opened N → (w : World) → Hold N w (FoundAfterMerge N w)
+FastHolds = (N : Network) → Opened N → (w : World) → Hold Enough N w (FoundAfterMerge N w)
 
 -- ---- wider
 
@@ -66,4 +67,4 @@ pub record HasFast (N : Network) (w : World) (i t F : ℕ) : Type 0 where
   pub onward : Onward N world w
 
 unfoldable pub FastHoldsAlways : Type 0
-FastHoldsAlways = (N : Network) → Opened N → (w : World) → Hold N w (HasFast N w)
+FastHoldsAlways = (N : Network) → Opened N → (w : World) → Hold EnoughForHonest N w (HasFast N w)

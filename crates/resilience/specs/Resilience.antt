@@ -11,7 +11,7 @@ use Rattle.protocol.specs.Walk.{count}
 use Rattle.protocol.specs.Packet.{Packet, packetOf, isProposal}
 use Rattle.protocol.specs.Refusal.{done}
 use Rattle.protocol.specs.Calls.Open.{openNode}
-use Rattle.resilience.specs.Run.{Network, World, Run, Event, woke, voted, built, sent, given, lacked, isHonest, settings}
+use Rattle.resilience.specs.Run.{Network, World, Run, Event, woke, voted, built, sent, given, lacked, turnedAway, isHonest, settings}
 
 -- "freshly opened honest nodes": the Open of each was carried out.
 unfoldable pub Opened : Network → Type 0
@@ -53,10 +53,18 @@ Unforged N log =
     (newer older : List Event) (beat i : ℕ) (bytes : List ℕ) → log ≡ newer ++ (given beat i bytes true ∷ older) →
     Genuine N older (packetOf bytes)
 
--- ---- "that no honest node refuses for want of places or buffer"
+-- ---- "that no honest node refuses for want of places or buffer"; since request 9 this "then includes a packet too long"
 
-unfoldable pub Enough : List Event → Type 0
-Enough log = (beat i : ℕ) → List·Memᴰ (lacked beat i) log → ⊥
+pub record Enough (log : List Event) : Type 0 where
+  pub own : (beat i : ℕ) → List·Memᴰ (lacked beat i) log → ⊥
+  pub packets : (beat j : ℕ) (bytes : List ℕ) → List·Memᴰ (turnedAway beat j bytes) log → ⊥
+
+-- Less, and still enough: of packets only those count that an honest node had sent before they were turned away. A refused Receive changes nothing, so a
+-- packet of a dishonest node that is turned away does no harm.
+pub record EnoughForHonest (log : List Event) : Type 0 where
+  pub own : (beat i : ℕ) → List·Memᴰ (lacked beat i) log → ⊥
+  pub packets : (newer older : List Event) (beat j : ℕ) (bytes : List ℕ) → log ≡ newer ++ (turnedAway beat j bytes ∷ older) →
+      (b i : ℕ) → List·Memᴰ (sent b i bytes) older → ⊥
 
 -- ---- "that honest packets sent from the merge beat of slot t-1 on reach every other honest node before its next waking beat"
 
@@ -84,6 +92,7 @@ votesIn (woke beat j ∷ log) slot i = votesIn log slot i
 votesIn (built beat j x y ∷ log) slot i = votesIn log slot i
 votesIn (sent beat j bytes ∷ log) slot i = votesIn log slot i
 votesIn (lacked beat j ∷ log) slot i = votesIn log slot i
+votesIn (turnedAway beat j bytes ∷ log) slot i = votesIn log slot i
 
 -- node i votes in any of the k slots before this one; "slots below 1 have no votes"
 unfoldable pub votesBefore : ℕ → List Event → ℕ → ℕ → Bool
@@ -122,13 +131,16 @@ Stays beat B w =
     -- "and in every later slot .."
     × StaysAfter (beat / 3) B w
 
-unfoldable pub Resilience : Type 0
-Resilience =
-    -- "For every run .. on freshly opened honest nodes .. whatever the dishonest nodes send, in any order, and at whatever point the run stands"
-    (N : Network) → Opened N → (w : World) → Run N w →
+-- `Ample` is the premise on places, buffers and lengths.
+abbrev pub BlockStays : (List Event → Type 0) → Network → World → Type 0
+BlockStays Ample N w =
     -- "let B be the block of an honest joined proposer in slot t": a Propose that was carried out at beat 3 t, so p was joined
     (beat p B parent : ℕ) → List·Memᴰ (built beat p B parent) (w .log) →
     -- "Assume .."
-    Delivered (beat - 1) (w .log) → Unforged N (w .log) → OneBlock (w .log) → Enough (w .log) → Majority N (beat / 3) w →
+    Delivered (beat - 1) (w .log) → Unforged N (w .log) → OneBlock (w .log) → Ample (w .log) → Majority N (beat / 3) w →
     -- "Then .."
     Stays beat B w
+
+-- "For every run .. on freshly opened honest nodes .. whatever the dishonest nodes send, in any order, and at whatever point the run stands"
+unfoldable pub Resilience : Type 0
+Resilience = (N : Network) → Opened N → (w : World) → Run N w → BlockStays Enough N w

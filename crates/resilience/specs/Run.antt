@@ -7,10 +7,11 @@ use mathlib.Core.List.{List, [], _∷_, _++_}
 use lib.ListN.{take}
 use lib.Dec.{eqb, leb, ltb, T}
 use Rattle.protocol.specs.declared.Settings.{Settings}
+use Rattle.protocol.specs.declared.Profile.{Profile}
 use Rattle.protocol.specs.declared.Width.the-variants.{Wide}
 use Rattle.protocol.specs.Lists.{all}
 use Rattle.protocol.specs.Store.{Places, Node}
-use Rattle.protocol.specs.Refusal.{refusalNumber, Reply, refused, done, Outcome}
+use Rattle.protocol.specs.Refusal.{Refusal, refusalNumber, Reply, refused, done, Outcome}
 use Rattle.protocol.specs.Calls.Open.{openNode}
 use Rattle.protocol.specs.Calls.Receive.{receive}
 use Rattle.protocol.specs.Calls.Propose.{propose}
@@ -18,18 +19,19 @@ use Rattle.protocol.specs.Calls.Vote.{vote}
 use Rattle.protocol.specs.Calls.Merge.{merge}
 use Rattle.protocol.specs.Calls.Write.{Written, write}
 
--- The nodes of a run (document 01: a shed): how many, with the same expiry period and depth; which are honest, a fixed set;
--- and of each the places that it is lent and what stood there before it was opened.
+-- The nodes of a run (document 01: a shed): how many, with the same expiry period and depth; of each the set of limits that it keeps to, so that looms
+-- and racks may stand in one run; which are honest, a fixed set; and of each the places that it is lent and what stood there before it was opened.
 pub record Network : Type 0 where
   pub nodes : ℕ
   pub expiry : ℕ
   pub depth : ℕ
+  pub profile : ℕ → Profile
   pub honest : ℕ → Bool
   pub places : ℕ → Places
   pub before : ℕ → Node
 
 abbrev pub settings : Network → ℕ → Settings
-settings N i = record { nodes = N .nodes; own = i; expiry = N .expiry; depth = N .depth }
+settings N i = record { profile = N .profile i; nodes = N .nodes; own = i; expiry = N .expiry; depth = N .depth }
 
 abbrev pub isHonest : Network → ℕ → Bool
 isHonest N i = ltb i (N .nodes) && N .honest i
@@ -50,7 +52,8 @@ pub data Event : Type 0 where
   built : ℕ → ℕ → ℕ → ℕ → Event  -- its block of the beat's slot: number and parent
   sent : ℕ → ℕ → List ℕ → Event  -- these bytes
   given : ℕ → ℕ → List ℕ → Bool → Event  -- its Receive was given these bytes, and accepted them or not
-  lacked : ℕ → ℕ → Event  -- it refused for want of places or buffer
+  lacked : ℕ → ℕ → Event  -- a call of its own, Propose, Vote, Merge or a Write, was refused for want of places or buffer
+  turnedAway : ℕ → ℕ → List ℕ → Event  -- its Receive refused these bytes, for want of places or as too long
 
 -- Where a node stands in a beat: it has not made its call, or it has, and owes its gossip, its proposal, both or neither.
 pub data Turn : Type 0 where
@@ -87,10 +90,14 @@ abbrev pub carried : {A : Type 0} → Reply A → Bool
 carried (refused k) = false
 carried (done a) = true
 
--- what a reply puts in the log: "want of places or buffer is refusal 10 or 18"
-abbrev pub said : {A : Type 0} → ℕ → ℕ → (A → List Event) → Reply A → List Event
-said b i f (refused k) = cond (eqb (refusalNumber k) 10 || eqb (refusalNumber k) 18) (lacked b i ∷ []) []
-said b i f (done a) = f a
+-- "want of places or buffer is refusal 10 or 18"; since request 9 it "includes a packet too long", 24
+abbrev pub forWant : Refusal → Bool
+forWant k = eqb (refusalNumber k) 10 || (eqb (refusalNumber k) 18 || eqb (refusalNumber k) 24)
+
+-- what a reply puts in the log: `want` if it is a refusal for want
+abbrev pub said : {A : Type 0} → Event → (A → List Event) → Reply A → List Event
+said want f (refused k) = cond (forWant k) (want ∷ []) []
+said want f (done a) = f a
 
 -- "phase 0: Propose if the slot is its own, else none; phase 1: Vote; phase 2: Merge"
 unfoldable pub dueAt : ℕ → Network → World → ℕ → ℕ → World
@@ -98,14 +105,14 @@ dueAt zero N w i number =
     cond (eqb (w .beat / 3 % N .nodes) i)
     (let o = propose (settings N i) (N .places i) (w .node i) (w .beat) number in
     after w i (o .node) (owes true (carried (o .reply)))
-    (said (w .beat) i (λ p. built (w .beat) i number p ∷ []) (o .reply) ++ (woke (w .beat) i ∷ [])))
+    (said (lacked (w .beat) i) (λ p. built (w .beat) i number p ∷ []) (o .reply) ++ (woke (w .beat) i ∷ [])))
     (after w i (w .node i) (owes true false) (woke (w .beat) i ∷ []))
 dueAt (suc zero) N w i number =
     let o = vote (settings N i) (N .places i) (w .node i) (w .beat) in
-    after w i (o .node) (owes true false) (said (w .beat) i (λ h. voted (w .beat) i h ∷ []) (o .reply) ++ (woke (w .beat) i ∷ []))
+    after w i (o .node) (owes true false) (said (lacked (w .beat) i) (λ h. voted (w .beat) i h ∷ []) (o .reply) ++ (woke (w .beat) i ∷ []))
 dueAt (suc (suc k)) N w i number =
     let o = merge (settings N i) (N .places i) (w .node i) (w .beat) in
-    after w i (o .node) (owes true false) (said (w .beat) i (λ h. []) (o .reply) ++ (woke (w .beat) i ∷ []))
+    after w i (o .node) (owes true false) (said (lacked (w .beat) i) (λ h. []) (o .reply) ++ (woke (w .beat) i ∷ []))
 
 abbrev pub afterGossip : Turn → Turn
 afterGossip ahead = ahead
@@ -117,7 +124,7 @@ afterProposal (owes g p) = owes g false
 
 -- "a sent packet is the bytes as Write left them, of the length it answered"; "in the run .. honest nodes write wide"
 abbrev pub sends : ℕ → ℕ → Written → List Event
-sends b i o = said b i (λ n. sent b i (take n (o .buffer)) ∷ []) (o .reply)
+sends b i o = said (lacked b i) (λ n. sent b i (take n (o .buffer)) ∷ []) (o .reply)
 
 unfoldable pub step : Network → World → Step → World
 step N w Begin = record { beat = w .beat + 1; node = w .node; turn = λ i. ahead; log = w .log }
@@ -130,7 +137,8 @@ step N w (Proposal i buffer) =
     (sends (w .beat) i (write (settings N i) (N .places i) (w .node i) true Wide buffer))
 step N w (Receive i bytes) =
     let o = receive (settings N i) (N .places i) (w .node i) (w .beat) bytes in
-    after w i (o .node) (w .turn i) (said (w .beat) i (λ r. []) (o .reply) ++ (given (w .beat) i bytes (carried (o .reply)) ∷ []))
+    after w i (o .node) (w .turn i)
+    (said (turnedAway (w .beat) i bytes) (λ r. []) (o .reply) ++ (given (w .beat) i bytes (carried (o .reply)) ∷ []))
 
 -- ---- which steps document 01 allows
 

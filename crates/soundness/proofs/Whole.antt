@@ -7,6 +7,7 @@ use lib.Dec.{leb}
 use Rattle.protocol.specs.declared.Settings.{Settings}
 use Rattle.protocol.specs.declared.Clock.{Clock}
 use Rattle.protocol.specs.Lists.{all}
+use Rattle.protocol.specs.Limits.{limitsOf}
 use Rattle.protocol.specs.Store.{Places}
 use Rattle.protocol.specs.Sound.{settingsSound, placesSound, clockSound, sound}
 use Rattle.protocol.specs.Lent.{blockWords, voteWords, Lent, rowsOf, makeBlock, makeVote, placesIn, placesOf, nodeOf, marksSound, lentSound}
@@ -34,14 +35,14 @@ module _ (s : Settings) (clock : Clock) (bw : List ℕ) (bu : ℕ) (vw : List �
 
   whole : lentSound s lent
       ≡ (settingsSound s
-      && (placesSound places && (leb bu (placesIn blockWords bw) && (leb vu (placesIn voteWords vw) && (clockSound clock && (blockRanges && (voteRanges && tables)))))))
+      && (placesSound (limitsOf (s .profile)) places && (leb bu (placesIn blockWords bw) && (leb vu (placesIn voteWords vw) && (clockSound clock && (blockRanges && (voteRanges && tables)))))))
   unfolding lentSound sound placesOf nodeOf tablesSound
   whole =
       let bs = rowsOf makeBlock bw bu in
       let vs = rowsOf makeVote vw vu in
       let slot = clock .seen / 3 in
       rw (length-rowsOf makeBlock bw bu, length-rowsOf makeVote vw vu, blocks-split slot bs, votes-split (s .nodes) slot bs vs)
-      (order (marksSound makeBlock bw bu) (marksSound makeVote vw vu) (settingsSound s) (placesSound places) (leb bu (placesIn blockWords bw)) (leb vu (placesIn voteWords vw)) (clockSound clock)
+      (order (marksSound makeBlock bw bu) (marksSound makeVote vw vu) (settingsSound s) (placesSound (limitsOf (s .profile)) places) (leb bu (placesIn blockWords bw)) (leb vu (placesIn voteWords vw)) (clockSound clock)
       (all (blockInRange slot) bs) (numbersDiffer bs) (chainSound bs) (all (voteInRange (s .nodes) slot) vs) (all (votedSound bs) vs && votesDiffer vs))
     where
       inner : (r d k v w : Bool) → ((r && (d && k)) && (v && w)) ≡ (r && (v && (d && (k && w))))
@@ -60,7 +61,7 @@ module _ (s : Settings) (clock : Clock) (bw : List ℕ) (bu : ℕ) (vw : List �
   pub no-settings : settingsSound s ≡ false → false ≡ lentSound s lent
   no-settings e = sym (whole ∙ rw e)
 
-  pub no-places : placesSound places ≡ false → false ≡ lentSound s lent
+  pub no-places : placesSound (limitsOf (s .profile)) places ≡ false → false ≡ lentSound s lent
   no-places e = sym (whole ∙ simp (e, and-false))
 
   pub no-blocks-fit : leb bu (placesIn blockWords bw) ≡ false → false ≡ lentSound s lent
@@ -79,6 +80,6 @@ module _ (s : Settings) (clock : Clock) (bw : List ℕ) (bu : ℕ) (vw : List �
   no-vote-ranges e = sym (whole ∙ simp (e, and-false))
 
   -- all others pass: what looks at several rows decides
-  pub tables-left : settingsSound s ≡ true → placesSound places ≡ true → leb bu (placesIn blockWords bw) ≡ true → leb vu (placesIn voteWords vw) ≡ true
+  pub tables-left : settingsSound s ≡ true → placesSound (limitsOf (s .profile)) places ≡ true → leb bu (placesIn blockWords bw) ≡ true → leb vu (placesIn voteWords vw) ≡ true
       → clockSound clock ≡ true → blockRanges ≡ true → voteRanges ≡ true → tables ≡ lentSound s lent
   tables-left a b c d e f g = sym (whole ∙ rw (a, b, c, d, e, f, g))

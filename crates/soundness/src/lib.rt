@@ -15,6 +15,7 @@ use rows::VoteRow;
 ghost use mathlib.Core.Bool.{true, _&&_};
 ghost use mathlib.Core.Path.{_≡_};
 ghost use Prim.Native.Nat.{_≤_};
+ghost use Rattle.protocol.specs.Limits.{loom};
 ghost use Rattle.protocol.specs.Words.{value, blockOf};
 ghost use Rattle.protocol.specs.Lists.{all};
 ghost use Rattle.protocol.specs.Chain.{genesis, known};
@@ -175,7 +176,7 @@ pub fn sound_indexed(
     block_links: &mut [u16],
     vote_links: &mut [u16],
 ) -> bool
-    requires { ⌜ Room 2048 (now «block_links») × Blank (now «block_links») × Room 8192 (now «vote_links») × Blank (now «vote_links») ⌝ }
+    requires { ⌜ Room (loom .blocks) (now «block_links») × Blank (now «block_links») × Room (loom .votes) (now «vote_links») × Blank (now «vote_links») ⌝ }
     ensures { λ r. ⌜ (r ≡ lentSound settings (record {
       blocks = now (blocks .entry);
       votes = now (votes .entry);
@@ -187,7 +188,8 @@ pub fn sound_indexed(
     if !ranges::settings_sound(settings) {
         return false;
     }
-    if !ranges::places_sound(blocks, votes) {
+    let profile = settings.profile;
+    if !ranges::places_sound(profile, blocks, votes) {
         return false;
     }
     if !ranges::fits(6, blocks, blocks_used) {
@@ -233,8 +235,8 @@ pub fn lent_sound(
       clock = clock;
     }) ⌝ }
 {
-    let mut block_links = [0u16; 16384];
-    let mut vote_links = [0u16; 40960];
+    let mut block_links = [0u16; index::BLOCK_LINKS];
+    let mut vote_links = [0u16; index::VOTE_LINKS];
     sound_indexed(
         settings,
         clock,

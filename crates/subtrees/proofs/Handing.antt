@@ -9,6 +9,7 @@ use lib.Dec.{eqb, ltb}
 use lib.ListN.{length, getD, set, replicate, getD-replicate}
 use lib.Seq.{getD-set-same, getD-set-other}
 use borrow.Author.Tests.{eqb-true, eqb-false, lt-ltb, le-ltb}
+use Rattle.protocol.specs.Limits.{loom}
 use Rattle.numbers.specs.Kept.{numberIn}
 use Rattle.masks.specs.Masks.{bitOf, maskOf, added}
 use Rattle.masks.proofs.Masks.{mask-none, mask-ext, bit-mask, or-mask, below-more}
@@ -34,12 +35,12 @@ pub record VotersPlaced (ws : List ℕ) (n : ℕ) (slots numbers : List ℕ) (k 
   pub each : (j : ℕ) → j < n → getD masks j 0 ≡ maskOf 64 (λ v. ltb v k && votesAt ws n slots numbers j v)
 
 module _ (ws : List ℕ) (n : ℕ) (slots numbers : List ℕ) where
-  pub placed-none : {masks : List ℕ} → masks ≡ replicate 2048 0 → n ≤ 2048 → VotersPlaced ws n slots numbers 0 masks
+  pub placed-none : {masks : List ℕ} → masks ≡ replicate (loom .blocks) 0 → n ≤ loom .blocks → VotersPlaced ws n slots numbers 0 masks
   placed-none {masks} e h = record { each = λ j l. go j l }
     where
       go : (j : ℕ) → j < n → getD masks j 0 ≡ maskOf 64 (λ v. ltb v 0 && votesAt ws n slots numbers j v)
       go j l =
-          ap (λ (m : List ℕ). getD m j 0) e ∙ getD-replicate {A = ℕ} 2048 j 0 0 (omega arith) ∙ sym (mask-none 64)
+          ap (λ (m : List ℕ). getD m j 0) e ∙ getD-replicate {A = ℕ} (loom .blocks) j 0 0 (omega arith) ∙ sym (mask-none 64)
           ∙ mask-ext 64 (λ v. false) (λ v. ltb v 0 && votesAt ws n slots numbers j v) (λ v q. sym (ap (λ (b : Bool). b && votesAt ws n slots numbers j v) (le-ltb v 0 (omega arith))))
 
   -- a voter more

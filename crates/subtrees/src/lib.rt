@@ -5,6 +5,7 @@ ghost use mathlib.Core.Path.{_≡_};
 ghost use Prim.Native.Nat.{_<_, _≤_};
 ghost use lib.Bits.{bitOr};
 ghost use lib.ListN.{length, getD, set, replicate};
+ghost use Rattle.protocol.specs.Limits.{loom};
 ghost use Rattle.protocol.specs.Words.{value};
 ghost use Rattle.protocol.specs.Lent.{BlocksFit};
 ghost use Rattle.numbers.specs.Kept.{NumbersFit, numberIn};
@@ -29,7 +30,7 @@ fn place_in(blocks: &[u64], n: usize, links: &[u16], x: Number) -> usize
 
 // The place of each row's parent, each looked up once among the rows before it; and the index of all rows. The cost is two descents for each row.
 fn parent_places(blocks: &[u64], used: usize, links: &mut [u16], parents: &mut [u16])
-    requires { ⌜ BlocksFit used (now blocks) × (used ≤ 2048) × Room used (now links) × Blank (now links) × (length (now parents) ≡ 2048) ⌝ }
+    requires { ⌜ BlocksFit used (now blocks) × (used ≤ loom .blocks) × Room used (now links) × Blank (now links) × (length (now parents) ≡ loom .blocks) ⌝ }
     ensures { λ r. ⌜ BlockIndex (now (blocks .entry)) used (now (links .exit)) × Parents (now (blocks .entry)) used (now (parents .exit)) ⌝ }
 {
     let mut i: usize = 0;
@@ -53,7 +54,7 @@ fn place_voter(
     masks: &mut [u64],
 )
     requires { ⌜ BlocksFit used (now blocks) × BlockIndex (now blocks) used (now links) × (0 < used) × (used ≤ length (now masks))
-        × (length (now slots) ≡ 64) × NumbersFit 64 (now numbers) × (v < 64) ⌝ }
+        × (length (now slots) ≡ loom .nodes) × NumbersFit (loom .nodes) (now numbers) × (v < 64) ⌝ }
     ensures { λ r. ⌜ now (masks .exit) ≡ cond (voted (now (slots .entry)) v)
         (set (now (masks .entry)) (placeIn (now (blocks .entry)) used (numberIn (now (numbers .entry)) v))
         (maskOf 64 (added (bitOf (getD (now (masks .entry)) (placeIn (now (blocks .entry)) used (numberIn (now (numbers .entry)) v)) 0)) v)))
@@ -75,12 +76,12 @@ fn place_voters(
     numbers: &[u64],
     masks: &mut [u64],
 )
-    requires { ⌜ BlocksFit used (now blocks) × BlockIndex (now blocks) used (now links) × (0 < used) × (used ≤ 2048)
-        × (length (now slots) ≡ 64) × NumbersFit 64 (now numbers) × (now masks ≡ replicate 2048 0) ⌝ }
+    requires { ⌜ BlocksFit used (now blocks) × BlockIndex (now blocks) used (now links) × (0 < used) × (used ≤ loom .blocks)
+        × (length (now slots) ≡ loom .nodes) × NumbersFit (loom .nodes) (now numbers) × (now masks ≡ replicate (loom .blocks) 0) ⌝ }
     ensures { λ r. ⌜ Subtrees (now (blocks .entry)) used (now (slots .entry)) (now (numbers .entry)) used (now (masks .exit)) ⌝ }
 {
     let mut v: usize = 0;
-    while v < 64 {
+    while v < limits::LOOM_NODES {
         place_voter(blocks, used, links, slots, numbers, v, masks);
         v += 1;
     }
@@ -106,12 +107,12 @@ pub fn supporters(
     parents: &mut [u16],
     masks: &mut [u64],
 )
-    requires { ⌜ BlocksFit used (now blocks) × (0 < used) × (used ≤ 2048) × (length (now slots) ≡ 64) × NumbersFit 64 (now numbers)
-        × (length (now parents) ≡ 2048) × (now masks ≡ replicate 2048 0) ⌝ }
+    requires { ⌜ BlocksFit used (now blocks) × (0 < used) × (used ≤ loom .blocks) × (length (now slots) ≡ loom .nodes) × NumbersFit (loom .nodes) (now numbers)
+        × (length (now parents) ≡ loom .blocks) × (now masks ≡ replicate (loom .blocks) 0) ⌝ }
     ensures { λ r. ⌜ Parents (now (blocks .entry)) used (now (parents .exit))
         × Subtrees (now (blocks .entry)) used (now (slots .entry)) (now (numbers .entry)) 1 (now (masks .exit)) ⌝ }
 {
-    let mut links = [0u16; 16384];
+    let mut links = [0u16; index::BLOCK_LINKS];
     parent_places(blocks, used, &mut links, parents);
     place_voters(blocks, used, &links, slots, numbers, masks);
     let mut i: usize = used;

@@ -5,6 +5,7 @@ use answers::Taken;
 use answers::Written;
 use protocol::Clock;
 use protocol::Number;
+use protocol::Profile;
 use protocol::Settings;
 use protocol::Width;
 ghost use Prim.Native.Nat.{_+_, _≤_};
@@ -106,13 +107,22 @@ pub fn size(words: &[u64], i: usize) -> usize {
     at(words, i) as usize
 }
 
+// A fifth number of 1 is a rack's; else they are a loom's.
 pub fn settings(words: &[u64]) -> Settings {
     Settings {
+        profile: profile(at(words, 4)),
         nodes: at(words, 0),
         own: at(words, 1),
         expiry: at(words, 2),
         depth: at(words, 3),
     }
+}
+
+fn profile(n: u64) -> Profile {
+    if n == 1 {
+        return Profile::Rack;
+    }
+    Profile::Loom
 }
 
 pub fn clock(words: &[u64]) -> Clock {
@@ -291,6 +301,40 @@ fn packet(words: &[u64], bytes: &mut [u8]) -> usize {
     place
 }
 
+// Writes a section of equal entries, at most 255, into bytes that are zero, and answers where it ends: so many times the block 5 of slot 1 on
+// block 0, or the vote of node 0 in slot 1 for it. An entry has `size` bytes; its number and its slot stand at these.
+fn repeat(
+    bytes: &mut [u8],
+    start: usize,
+    count: usize,
+    size: usize,
+    number: usize,
+    slot: usize,
+) -> usize
+    requires { ⌜ (start ≤ 10000) × (size ≤ 36) × (number ≤ 36) × (slot ≤ 36) ⌝ }
+    ensures { λ r. ⌜ r ≤ start + 9182 ⌝ }
+{
+    put(bytes, start, count as u64);
+    let mut place = start + 2;
+    let mut i = 0;
+    while i < 255 && i < count {
+        put(bytes, place + number, 5);
+        put(bytes, place + slot, 1);
+        place += size;
+        i += 1;
+    }
+    place
+}
+
+// A packet of as many such blocks and votes as the line says, by its kind.
+fn long(words: &[u64], bytes: &mut [u8]) -> usize {
+    let kind = at(words, 1);
+    let wide = number_bytes(kind);
+    put(bytes, 0, kind);
+    let votes = repeat(bytes, 5 + wide, size(words, 2), 2 * wide + 4, 0, 2 * wide);
+    repeat(bytes, votes, size(words, 3), wide + 5, 5, 1)
+}
+
 // Bytes that are zero but for the first, the kind.
 fn empty(words: &[u64], bytes: &mut [u8]) -> usize {
     put(bytes, 0, at(words, 2));
@@ -301,6 +345,7 @@ fn empty(words: &[u64], bytes: &mut [u8]) -> usize {
 pub fn length(letter: u8, words: &[u64], bytes: &mut [u8]) -> usize {
     match letter {
         b'r' => packet(words, bytes),
+        b'l' => long(words, bytes),
         b'b' => empty(words, bytes),
         _ => 0,
     }

@@ -5,6 +5,7 @@ use mathlib.Core.Bool.{Bool, true, false, cond, false≢true}
 use mathlib.Core.List.{List}
 use native.Mathlib.Omega.{arith}
 use Rattle.protocol.specs.declared.Settings.{Settings}
+use Rattle.protocol.specs.Limits.{loom}
 use Rattle.protocol.specs.Chain.{genesis}
 use Rattle.protocol.specs.Store.{sameBlock, Places, Node}
 use Rattle.protocol.specs.Sound.{blocksSound, sound}
@@ -25,8 +26,8 @@ pub record Ready (s : Settings) (m : Lent) : Type 0 where
   pub clock : ClockSound (m .clock)
   pub fit-blocks : m .blocksUsed ≤ placesIn blockWords (m .blocks)
   pub fit-votes : m .votesUsed ≤ placesIn voteWords (m .votes)
-  pub few-blocks : m .blocksUsed ≤ 2048
-  pub few-votes : m .votesUsed ≤ 8192
+  pub few-blocks : m .blocksUsed ≤ loom .blocks
+  pub few-votes : m .votesUsed ≤ loom .votes
   -- block 0 is there, in view
   pub some-blocks : 1 ≤ m .blocksUsed
   pub first-mark : makeBlock .of (m .blocks) .shown ≡ true
@@ -47,7 +48,7 @@ ready s m e =
     let N = M .node in
     let o = first-row (m .clock .seen / 3) (m .blocks) (m .blocksUsed) (sound-blocks s (placesOf m) (nodeOf m) (lent-true s m e .node)) in
     let u = lent-used s m e in
-    let f = places-few (placesOf m) (N .places) in
+    let f = places-few (s .profile) (placesOf m) (N .places) in
     record {
       memory = M;
       settings = ranges s (N .settings);

@@ -9,6 +9,7 @@ use lib.ListN.{length}
 use borrow.Author.Tests.{lt-ltb, le-ltb}
 use Rattle.protocol.specs.declared.Settings.{Settings}
 use Rattle.protocol.specs.Entry.{Block}
+use Rattle.protocol.specs.Limits.{limitsOf}
 use Rattle.protocol.specs.Store.{entries, keptFrom}
 use Rattle.protocol.specs.Packet.{packetOf, wellFormed}
 use Rattle.protocol.specs.Refusal as rules
@@ -50,11 +51,12 @@ module _ (s : Settings) (m : Lent) (beat : ℕ) (bytes : List ℕ) where
   abbrev pub Left : Bool → Type 0
   Left u = decided ≡ first (test 21 (not u) ∷ test 10 (ltb (placesIn blockWords (m .blocks)) blockCount || ltb (placesIn voteWords (m .votes)) voteCount) ∷ [])
 
-  -- what code knows: the tests of every call with a beat passed; then its answers t, i, j
-  module _ {v : Verdict} (told : verdictOf v ≡ lentVerdict s (beatTests s beat) m) (is : v ≡ Pass) where
+  -- what code knows: the tests of every call with a beat passed; then its answers l, t, i, j
+  module _ {v : Verdict} (told : verdictOf v ≡ lentVerdict s (beatTests s beat) m) (is : v ≡ Pass) {l : Bool} (long : l ≡ limitsOf (s .profile) .tooLong (length bytes)) where
     rest : decided
         ≡ first (
-        test 8 (not (wellFormed bytes))
+        test 24 l
+        ∷ test 8 (not (wellFormed bytes))
         ∷ testSection 9 badBlock (packetOf bytes .blocks)
         ∷ testSection 20 badVote (packetOf bytes .votes)
         ∷ test 21 (not (headerAllowed (packetOf bytes)))
@@ -62,22 +64,26 @@ module _ (s : Settings) (m : Lent) (beat : ℕ) (bytes : List ℕ) where
         ∷ []
         )
     unfolding receiveTests blocksAfter votesAfter nodeOf placesOf
-    rest = passed-before s (beatTests s beat) (λ p x. receiveTests s p x beat bytes) 2 (λ p x. receive-front s p x beat bytes) m told is
+    rest = passed-before s (beatTests s beat) (λ p x. receiveTests s p x beat bytes) 2 (λ p x. receive-front s p x beat bytes) m told is ∙ rw (sym long)
 
-    pub misformed : {t : Bool} → t ≡ wellFormed bytes → t ≡ false → refuse (by 8) ≡ decided
-    misformed f e = sym (rest ∙ unfold first in (rw (sym f ∙ e)))
+    pub too-long : l ≡ true → refuse (by 24) ≡ decided
+    too-long e = sym (rest ∙ unfold first in (rw e))
 
-    module _ {t : Bool} (f : t ≡ wellFormed bytes) (formed : t ≡ true) {b : ℕ} (counted : b ≡ length (packetOf bytes .blocks)) {i : ℕ} (bad : i ≡ badBlock) where
-      pub block-refused : i < b → refuse (byEntry 9 i) ≡ decided
-      block-refused h = sym (rest ∙ unfold first in (rw (sym f ∙ formed, sym bad, sym counted, lt-ltb i b h)))
+    module _ (short : l ≡ false) {t : Bool} (f : t ≡ wellFormed bytes) where
+      pub misformed : t ≡ false → refuse (by 8) ≡ decided
+      misformed e = sym (rest ∙ unfold first in (rw (short, sym f ∙ e)))
 
-      module _ (good : b ≤ i) {a : ℕ} (counted-votes : a ≡ length (packetOf bytes .votes)) {j : ℕ} (bad-vote : j ≡ badVote) where
-        pub vote-refused : j < a → refuse (byEntry 20 j) ≡ decided
-        vote-refused h = sym (rest ∙ unfold first in (rw (sym f ∙ formed, sym bad, sym counted, le-ltb i b good, sym bad-vote, sym counted-votes, lt-ltb j a h)))
+      module _ (formed : t ≡ true) {b : ℕ} (counted : b ≡ length (packetOf bytes .blocks)) {i : ℕ} (bad : i ≡ badBlock) where
+        pub block-refused : i < b → refuse (byEntry 9 i) ≡ decided
+        block-refused h = sym (rest ∙ unfold first in (rw (short, sym f ∙ formed, sym bad, sym counted, lt-ltb i b h)))
 
-        pub entries-passed : a ≤ j → {u : Bool} → u ≡ headerAllowed (packetOf bytes) → Left u
-        entries-passed good-votes g =
-            rest ∙ unfold first in (rw (sym f ∙ formed, sym bad, sym counted, le-ltb i b good, sym bad-vote, sym counted-votes, le-ltb j a good-votes, sym g))
+        module _ (good : b ≤ i) {a : ℕ} (counted-votes : a ≡ length (packetOf bytes .votes)) {j : ℕ} (bad-vote : j ≡ badVote) where
+          pub vote-refused : j < a → refuse (byEntry 20 j) ≡ decided
+          vote-refused h = sym (rest ∙ unfold first in (rw (short, sym f ∙ formed, sym bad, sym counted, le-ltb i b good, sym bad-vote, sym counted-votes, lt-ltb j a h)))
+
+          pub entries-passed : a ≤ j → {u : Bool} → u ≡ headerAllowed (packetOf bytes) → Left u
+          entries-passed good-votes g =
+              rest ∙ unfold first in (rw (short, sym f ∙ formed, sym bad, sym counted, le-ltb i b good, sym bad-vote, sym counted-votes, le-ltb j a good-votes, sym g))
 
   -- the memory is sound; then the counts
   module _ (R : Ready s m) (u : Bool) (left : Left u) where

@@ -6,6 +6,7 @@ use mathlib.Core.List.{List}
 use native.Mathlib.Omega.{arith}
 use lib.ListN.{length}
 use borrow.Author.Tests.{ltb-false}
+use Rattle.protocol.specs.Limits.{loom}
 use Rattle.protocol.specs.declared.Settings.{Settings}
 use Rattle.protocol.specs.declared.Width.{Width}
 use Rattle.protocol.specs.Store.{entries, keptFrom}
@@ -31,11 +32,11 @@ module _ (s : Settings) (m : Lent) where
     unfolding nodeOf placesOf blocksAfter
     receive-room-blocks = blocks-fit (m .blocks) _ (receives s (placesOf m) (nodeOf m) beat bytes (passes s _ m e .1) .room-blocks)
 
-    pub receive-few-blocks : length (addBlocks (entries (rowsOf makeBlock (m .blocks) (m .blocksUsed))) (packetOf bytes .blocks)) ≤ 2048
+    pub receive-few-blocks : length (addBlocks (entries (rowsOf makeBlock (m .blocks) (m .blocksUsed))) (packetOf bytes .blocks)) ≤ loom .blocks
     unfolding nodeOf placesOf blocksAfter
     receive-few-blocks =
         let p = passes s _ m e in
-        omega (arith, receives s (placesOf m) (nodeOf m) beat bytes (p .1) .room-blocks, places-few (placesOf m) (sound-memory s m (p .0) .node .places) .0)
+        omega (arith, receives s (placesOf m) (nodeOf m) beat bytes (p .1) .room-blocks, places-few (s .profile) (placesOf m) (sound-memory s m (p .0) .node .places) .0)
 
     pub receive-room-votes : VotesFit (length (addSince (keptFrom s (m .clock .merged)) (entries (rowsOf makeVote (m .votes) (m .votesUsed))) (packetOf bytes .votes))) (m .votes)
     unfolding nodeOf placesOf votesAfter

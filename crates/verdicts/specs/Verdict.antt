@@ -10,6 +10,7 @@ use Rattle.verdicts.specs.declared.Refusal.the-variants.{
   Length,
   Unsound,
   Beat,
+  Long,
   Form,
   Block,
   Vote,
@@ -37,6 +38,7 @@ refusalOf Depth = rules.by 4
 refusalOf Length = rules.by 5
 refusalOf Unsound = rules.by 6
 refusalOf Beat = rules.by 7
+refusalOf Long = rules.by 24
 refusalOf Form = rules.by 8
 refusalOf (Block i) = rules.byEntry 9 i
 refusalOf (Vote i) = rules.byEntry 20 i

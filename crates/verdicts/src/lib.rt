@@ -7,6 +7,7 @@ use protocol::Settings;
 use protocol::Width;
 ghost use mathlib.Core.Path.{_≡_};
 ghost use lib.ListN.{replicate};
+ghost use Rattle.protocol.specs.Limits.{loom};
 ghost use Rattle.protocol.specs.Words.{value};
 ghost use Rattle.protocol.specs.Refusal.{first};
 ghost use Rattle.protocol.specs.Lent.{blockWords, voteWords, placesIn};
@@ -25,6 +26,16 @@ ghost use Rattle.verdicts.specs.Firsts.{FirstsNoted};
 ghost use Rattle.verdicts.specs.Verdict.{numberOf, indexOf, verdictOf};
 ghost use Rattle.verdicts.specs.Lent.{lent, lentVerdict, beatTests, dueTests};
 
+// As many entries of table and packet together as Receive keeps an index of.
+const INDEXED_BLOCKS: usize = 2 * limits::LOOM_BLOCKS;
+
+const INDEXED_VOTES: usize = 2 * limits::LOOM_VOTES;
+
+// The words of a set with a place for each row of the largest table and each entry of a packet, whose counts have two bytes.
+pub const BLOCK_FIRSTS: usize = (limits::LOOM_BLOCKS + 65536) / 64;
+
+pub const VOTE_FIRSTS: usize = (limits::LOOM_VOTES + 65536) / 64;
+
 // Why a call is refused, by document 01's numbers; 9 and 20 with the index of the entry in its section, from 0.
 pub enum Refusal {
     // the settings are out of range, or a table's length
@@ -37,7 +48,9 @@ pub enum Refusal {
     Unsound,
     // the beat is below the one seen, or its slot above the limit
     Beat,
-    // a packet's length, kind or zero fields
+    // a packet is longer than the node's limit
+    Long,
+    // a packet's form: its length by its counts, kind or zero fields
     Form,
     // a block of a packet, a vote or a proposal's header breaks a rule: 9, 20, 21
     Block(usize),
@@ -84,6 +97,7 @@ pub fn number(refusal: Refusal) -> u64
         Refusal::Length => 5,
         Refusal::Unsound => 6,
         Refusal::Beat => 7,
+        Refusal::Long => 24,
         Refusal::Form => 8,
         Refusal::Block(_) => 9,
         Refusal::Vote(_) => 20,
@@ -114,6 +128,7 @@ pub fn index(refusal: Refusal) -> usize
         Refusal::Length => 0,
         Refusal::Unsound => 0,
         Refusal::Beat => 0,
+        Refusal::Long => 0,
         Refusal::Form => 0,
         Refusal::Block(i) => i,
         Refusal::Vote(i) => i,
@@ -136,19 +151,20 @@ pub fn index(refusal: Refusal) -> usize
 pub fn open_verdict(settings: Settings, blocks: &[u64], votes: &[u64]) -> Verdict
     ensures { λ r. ⌜ verdictOf r ≡ first (openTests settings (record { blocks = placesIn blockWords (now (blocks .entry)); votes = placesIn voteWords (now (votes .entry)) })) ⌝ }
 {
-    if !ranges::within(1, 64, settings.nodes) {
+    let profile = settings.profile;
+    if !ranges::nodes_sound(profile, settings.nodes) {
         return Verdict::Refuse(Refusal::Nodes);
     }
     if settings.own >= settings.nodes {
         return Verdict::Refuse(Refusal::Own);
     }
-    if !ranges::within(1, 4096, settings.expiry) {
+    if !ranges::within(1, limits::MAX_EXPIRY, settings.expiry) {
         return Verdict::Refuse(Refusal::Expiry);
     }
-    if !ranges::within(1, 4096, settings.depth) {
+    if !ranges::within(1, limits::MAX_DEPTH, settings.depth) {
         return Verdict::Refuse(Refusal::Depth);
     }
-    if !ranges::places_sound(blocks, votes) {
+    if !ranges::places_sound(profile, blocks, votes) {
         return Verdict::Refuse(Refusal::Length);
     }
     Verdict::Pass
@@ -169,7 +185,7 @@ fn indexed_verdict(
     block_links: &mut [u16],
     vote_links: &mut [u16],
 ) -> Verdict
-    requires { ⌜ Room 2048 (now «block_links») × Blank (now «block_links») × Room 8192 (now «vote_links») × Blank (now «vote_links») ⌝ }
+    requires { ⌜ Room (loom .blocks) (now «block_links») × Blank (now «block_links») × Room (loom .votes) (now «vote_links») × Blank (now «vote_links») ⌝ }
     ensures { λ r. ⌜ (verdictOf r ≡ lentVerdict settings (beatTests settings beat) (lent (now (blocks .entry)) (now (votes .entry)) «blocks_used» «votes_used» clock))
         × (r ≡ Pass → TablesIndexed (now (blocks .entry)) «blocks_used» (now («block_links» .exit)) (now (votes .entry)) «votes_used» (now («vote_links» .exit))) ⌝ }
 {
@@ -188,7 +204,7 @@ fn indexed_verdict(
     if beat < clock.seen {
         return Verdict::Refuse(Refusal::Beat);
     }
-    if beat / 3 > 1000000000 {
+    if beat / 3 > limits::MAX_SLOT {
         return Verdict::Refuse(Refusal::Beat);
     }
     Verdict::Pass
@@ -206,8 +222,8 @@ fn beat_verdict(
 ) -> Verdict
     ensures { λ r. ⌜ verdictOf r ≡ lentVerdict settings (beatTests settings beat) (lent (now (blocks .entry)) (now (votes .entry)) «blocks_used» «votes_used» clock) ⌝ }
 {
-    let mut block_links = [0u16; 16384];
-    let mut vote_links = [0u16; 40960];
+    let mut block_links = [0u16; index::BLOCK_LINKS];
+    let mut vote_links = [0u16; index::VOTE_LINKS];
     indexed_verdict(
         settings,
         clock,
@@ -277,8 +293,8 @@ pub fn receive_verdict(
     ensures { λ r. ⌜ (verdictOf r ≡ lentVerdict settings (λ p x. receiveTests settings p x beat (now (bytes .entry))) (lent (now (blocks .entry)) (now (votes .entry)) «blocks_used» «votes_used» clock))
         × (r ≡ Pass → FirstsNoted (now (blocks .entry)) «blocks_used» (now (votes .entry)) «votes_used» (now (bytes .entry)) (now («block_firsts» .exit)) (now («vote_firsts» .exit))) ⌝ }
 {
-    let mut block_links = [0u16; 24576];
-    let mut vote_links = [0u16; 73728];
+    let mut block_links = [0u16; index::ROOTS + 4 * INDEXED_BLOCKS];
+    let mut vote_links = [0u16; index::ROOTS + 4 * INDEXED_VOTES];
     let begun = indexed_verdict(
         settings,
         clock,
@@ -293,13 +309,19 @@ pub fn receive_verdict(
     if let Verdict::Refuse(_) = begun {
         return begun;
     }
-    if !packets::well_formed(bytes) {
+    let profile = settings.profile;
+    let long = limits::too_long(profile, bytes.len());
+    let formed = packets::well_formed(bytes);
+    if long {
+        return Verdict::Refuse(Refusal::Long);
+    }
+    if !formed {
         return Verdict::Refuse(Refusal::Form);
     }
     let header = packets::header_of(bytes);
     let block_count = header.blocks as usize;
     let slot = beat / 3;
-    let blocks_fit = packets::fits(blocks_used, block_count, 4096);
+    let blocks_fit = packets::fits(blocks_used, block_count, INDEXED_BLOCKS);
     let admitted = admission::admit_blocks(
         slot,
         blocks,
@@ -333,7 +355,7 @@ pub fn receive_verdict(
         return Verdict::Refuse(Refusal::Places);
     }
     let from = own::kept_from(settings, clock.merged);
-    let votes_fit = packets::fits(votes_used, vote_count, 16384);
+    let votes_fit = packets::fits(votes_used, vote_count, INDEXED_VOTES);
     let new_votes = admission::new_votes(
         votes,
         votes_used,

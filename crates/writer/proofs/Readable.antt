@@ -6,10 +6,12 @@ use mathlib.Core.List.{List}
 use native.Mathlib.Omega.{arith}
 use Rattle.protocol.specs.declared.Settings.{Settings}
 use Rattle.protocol.specs.declared.Width.{Width}
-use Rattle.protocol.specs.Sound.{between, placesSound, blocksSound, sound}
+use Rattle.protocol.specs.Limits.{limitsOf}
+use Rattle.protocol.specs.Sound.{placesSound, blocksSound, sound}
 use Rattle.protocol.specs.Calls.Write.{gossipOf, proposalOf, sentOf, packetOut}
 use Rattle.protocol.specs.Lent.{blockWords, voteWords, Lent, rowsOf, makeBlock, placesIn, placesOf, nodeOf, lentSound}
-use Rattle.protocol.proofs.Basics.Tests.{facts, and-left, and-right}
+use Rattle.protocol.proofs.Basics.Tests.{and-left, and-right}
+use Rattle.protocol.proofs.Store.Sound.{places-few}
 use Rattle.protocol.proofs.Lent.Memory.{lent-used}
 use Rattle.protocol.proofs.Lent.Rows.{blocks-fit, votes-fit}
 use Rattle.writer.specs.Sent.{nodeIn, Readable}
@@ -20,16 +22,16 @@ first-shown slot ws zero e = absurd (false≢true e)
 first-shown slot ws (suc n) e = search (and-left, and-right)
 
 pub sound-readable : (s : Settings) (m : Lent) → lentSound s m ≡ true → Readable (m .blocks) (m .blocksUsed) (m .votes) (m .votesUsed)
-unfolding lentSound sound placesSound between placesOf nodeOf
+unfolding lentSound sound placesOf nodeOf
 sound-readable s m e =
     let u = lent-used s m e in
-    let most : placesIn blockWords (m .blocks) ≤ 2048 = search facts depth 14 in
-    let most′ : placesIn voteWords (m .votes) ≤ 8192 = search facts depth 14 in
+    let p : placesSound (limitsOf (s .profile)) (placesOf m) ≡ true = search (and-left, and-right) depth 14 in
+    let few = places-few (s .profile) (placesOf m) p in
     record {
       blockRows = blocks-fit (m .blocks) (m .blocksUsed) (u .0);
       voteRows = votes-fit (m .votes) (m .votesUsed) (u .1);
-      blockCount = omega (arith, u .0, most);
-      voteCount = omega (arith, u .1, most′);
+      blockCount = omega (arith, u .0, few .0);
+      voteCount = omega (arith, u .1, few .1);
       first = first-shown (m .clock .seen / 3) (m .blocks) (m .blocksUsed) (search (and-left, and-right) depth 14);
     }
 

@@ -56,16 +56,17 @@ fn try_calls(node: &Node, beat: u64, slot: u64, number: u128, bytes: &[u8]) -> [
 #[test]
 fn nonsense() {
     let mut draw = Draw(1);
-    let mut refusals = [0; 24];
+    let mut refusals = [0; 25];
     for round in 0..12_000 {
         let mut node = fresh(3, 0, 2, 1);
-        node.settings = Settings { nodes: 3, own: draw.next() % 3, expiry: 2, depth: 1 };
+        let profile = draw.of(&[Profile::Loom, Profile::Rack]);
+        node.settings = Settings { profile, nodes: 3, own: draw.next() % 3, expiry: 2, depth: 1 };
         node.clock.seen = 3 + draw.next() % 9;
         node.clock.done = node.clock.seen - draw.next() % 2;
         node.clock.merged = (node.clock.done.max(2) - 2) / 3;
         if round % 4 == 0 {
-            node.settings =
-                Settings { nodes: draw.value(), own: draw.value(), expiry: draw.value(), depth: draw.value() };
+            let (nodes, own, expiry, depth) = (draw.value(), draw.value(), draw.value(), draw.value());
+            node.settings = Settings { profile, nodes, own, expiry, depth };
             node.clock = Clock { seen: draw.value(), done: draw.value(), merged: draw.value(), proposed: draw.value() };
         }
         node.blocks.truncate(1 + draw.next() as usize % 5);
@@ -92,7 +93,10 @@ fn nonsense() {
         let slot = if kind % 2 == 0 { 0 } else { blocks[0].2 };
         let number = if kind % 2 == 0 { 0 } else { blocks[0].0 ^ draw.of(&[0, 1, UP]) };
         let count = draw.next() as usize % 2;
-        let bytes = packet(kind, slot, number, &blocks, &votes[..count]);
+        let mut bytes = packet(kind, slot, number, &blocks, &votes[..count]);
+        if draw.next() % 16 == 0 {
+            bytes.resize(draw.of(&[4096, 4097]), 0);
+        }
         let question = draw.value();
         let proposed = draw.number();
         for refusal in try_calls(&node, beat, question, proposed, &bytes) {
@@ -100,14 +104,20 @@ fn nonsense() {
         }
     }
     // Calls were carried out, and every refusal was met but 5. There is no 22.
-    let met: Vec<usize> = (0..24).filter(|&number| refusals[number] > 0).collect();
-    assert_eq!(met, [0, 1, 2, 3, 4, 6, 7, 8, 9, 10, 11, 12, 13, 14, 15, 16, 17, 18, 19, 20, 21, 23]);
+    let met: Vec<usize> = (0..25).filter(|&number| refusals[number] > 0).collect();
+    assert_eq!(met, [0, 1, 2, 3, 4, 6, 7, 8, 9, 10, 11, 12, 13, 14, 15, 16, 17, 18, 19, 20, 21, 23, 24]);
 }
 
 #[test]
 fn huge_values_alone() {
-    let huge = Node {
-        settings: Settings { nodes: u64::MAX, own: u64::MAX, expiry: u64::MAX, depth: u64::MAX },
+    let mut huge = Node {
+        settings: Settings {
+            profile: Profile::Loom,
+            nodes: u64::MAX,
+            own: u64::MAX,
+            expiry: u64::MAX,
+            depth: u64::MAX,
+        },
         clock: Clock { seen: u64::MAX, done: u64::MAX, merged: u64::MAX, proposed: u64::MAX },
         blocks: vec![block(u128::MAX, u128::MAX, u64::MAX); 3],
         blocks_used: usize::MAX,
@@ -117,6 +127,8 @@ fn huge_values_alone() {
     let six = Some(6);
     let refusals = [six, six, six, six, six, six, six, six, six, six, six, Some(1)];
     assert_eq!(try_calls(&huge, u64::MAX, u64::MAX, u128::MAX, &[255; 17]), refusals);
+    huge.settings.profile = Profile::Rack;
+    assert_eq!(try_calls(&huge, u64::MAX, u64::MAX, u128::MAX, &[255; 4097]), refusals);
     let mut node = fresh(64, 0, 4096, 4096);
     let (seven, no_slot, no_proposal) = (Some(7), Some(17), Some(19));
     let refusals = [seven, seven, seven, seven, no_slot, no_slot, no_slot, no_proposal, no_proposal, None, None, None];

@@ -7,6 +7,7 @@ mod packets;
 mod pairs;
 mod places;
 mod program;
+mod racks;
 mod receive;
 mod refusals;
 mod run;
@@ -15,22 +16,27 @@ mod shortcuts;
 mod soundness;
 mod wide;
 
-use crate::{Block, Clock, Node, Packet, PacketBlock, PacketVote, Received, Refused, Settings, Vote};
+use crate::{Block, Clock, Node, Packet, PacketBlock, PacketVote, Profile, Received, Refused, Settings, Vote};
 
 pub const NO_BLOCK: Block = Block { number: 0, parent: 0, slot: 0, in_view: false };
 pub const NO_VOTE: Vote = Vote { voter: 0, slot: 0, number: 0, in_view: false };
 /// The smallest number whose upper half is not zero.
 pub const UP: u128 = 1 << 64;
 
-/// A fresh node with 16 places in each table.
+/// A fresh loom with 16 places in each table.
 pub fn fresh(nodes: u64, own: u64, expiry: u64, depth: u64) -> Node {
     places(nodes, own, expiry, depth, 16, 16)
 }
 
-/// A fresh node with so many places.
+/// A fresh loom with so many places.
 pub fn places(nodes: u64, own: u64, expiry: u64, depth: u64, blocks: usize, votes: usize) -> Node {
+    opened(Settings { profile: Profile::Loom, nodes, own, expiry, depth }, blocks, votes)
+}
+
+/// A fresh node with these settings and so many places.
+pub fn opened(settings: Settings, blocks: usize, votes: usize) -> Node {
     let mut node = Node {
-        settings: Settings { nodes, own, expiry, depth },
+        settings,
         clock: Clock { seen: 77, done: 78, merged: 79, proposed: 80 },
         blocks: vec![block(9, 9, 9); blocks],
         blocks_used: 99,

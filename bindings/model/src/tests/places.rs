@@ -4,12 +4,15 @@ use super::*;
 
 #[test]
 fn open_sets_every_place() {
-    let node = places(5, 4, 2, 3, 3, 2);
-    assert_eq!(node.blocks, [block(0, 0, 0), NO_BLOCK, NO_BLOCK]);
-    assert_eq!(node.votes, [NO_VOTE, NO_VOTE]);
-    assert_eq!((node.blocks_used, node.votes_used), (1, 0));
-    assert_eq!(node.clock, Clock { seen: 2, done: 2, merged: 0, proposed: 0 });
-    assert_eq!(node.settings, Settings { nodes: 5, own: 4, expiry: 2, depth: 3 });
+    for profile in [Profile::Loom, Profile::Rack] {
+        let settings = Settings { profile, nodes: 5, own: 4, expiry: 2, depth: 3 };
+        let node = opened(settings, 3, 2);
+        assert_eq!(node.blocks, [block(0, 0, 0), NO_BLOCK, NO_BLOCK]);
+        assert_eq!(node.votes, [NO_VOTE, NO_VOTE]);
+        assert_eq!((node.blocks_used, node.votes_used), (1, 0));
+        assert_eq!(node.clock, Clock { seen: 2, done: 2, merged: 0, proposed: 0 });
+        assert_eq!(node.settings, settings);
+    }
 }
 
 #[test]

@@ -66,6 +66,21 @@ fn refusals() {
 }
 
 #[test]
+fn it_opens_a_loom() {
+    // Of all these a rack has less: nodes, places of each table, bytes of a packet.
+    let blocks: Vec<(u128, u128, u32)> = (1..=64).map(|number| (number, 0, 1)).collect();
+    let votes: Vec<(u8, u32, u128)> = (0..257).map(|at| ((63 - at % 64) as u8, 1 + at / 64, 0)).collect();
+    let bytes = gossip(&blocks, &votes);
+    assert_eq!(bytes.len(), 17 + 64 * 20 + 257 * 13);
+    assert_eq!(chainask(&input(64, 9, 1, 5, &bytes)), "head 1\ndeep 1\nfast none\n");
+    assert_eq!(chainask(&input(17, 9, 1, 5, &gossip(&[], &[]))), "head 0\ndeep 0\nfast none\n");
+    // A packet of 4,097 bytes or more is refused as 8 where it is wrong, never as 24.
+    for length in [4096, 4097, 32_759] {
+        assert_eq!(chainask(&input(5, 2, 3, 4, &vec![0; length])), "refused 8\n");
+    }
+}
+
+#[test]
 fn its_places() {
     let blocks = |count: u128| (1..=count).map(|number| (number, 0, 1)).collect::<Vec<_>>();
     let votes = |count: u32| (1..=count).map(|slot| (0, slot, 0)).collect::<Vec<_>>();

@@ -20,42 +20,45 @@ fn full_shed() -> Node {
 
 #[test]
 fn open() {
-    let mut node = full_shed();
-    node.settings = Settings { nodes: 0, own: 64, expiry: 0, depth: 0 };
-    node.blocks.clear();
-    for nodes in [0, 65, u64::MAX] {
+    // Request 9: "1, 5 and 6 go by" the set of limits; 2, 3 and 4 do not.
+    for (profile, nodes, blocks, votes) in [(Profile::Loom, 64, 2048, 8192), (Profile::Rack, 16, 64, 256)] {
+        let mut node = full_shed();
+        node.settings = Settings { profile, nodes: 0, own: nodes, expiry: 0, depth: 0 };
+        node.blocks.clear();
+        for wrong in [0, nodes + 1, u64::MAX] {
+            node.settings.nodes = wrong;
+            refused(&node, Node::open, 1);
+        }
         node.settings.nodes = nodes;
-        refused(&node, Node::open, 1);
-    }
-    node.settings.nodes = 64;
-    for own in [64, u64::MAX] {
-        node.settings.own = own;
-        refused(&node, Node::open, 2);
-    }
-    node.settings.own = 63;
-    for expiry in [0, 4097, u64::MAX] {
-        node.settings.expiry = expiry;
-        refused(&node, Node::open, 3);
-    }
-    node.settings.expiry = 4096;
-    for depth in [0, 4097, u64::MAX] {
-        node.settings.depth = depth;
-        refused(&node, Node::open, 4);
-    }
-    node.settings.depth = 4096;
-    for (blocks, votes) in [(0, 1), (2049, 1), (1, 0), (1, 8193)] {
-        node.blocks = vec![block(7, 7, 7); blocks];
-        node.votes = vec![vote(7, 7, 7); votes];
-        refused(&node, Node::open, 5);
-    }
-    for (blocks, votes) in [(1, 1), (2048, 8192)] {
-        node.blocks = vec![block(7, 7, 7); blocks];
-        node.votes = vec![vote(7, 7, 7); votes];
+        for own in [nodes, u64::MAX] {
+            node.settings.own = own;
+            refused(&node, Node::open, 2);
+        }
+        node.settings.own = nodes - 1;
+        for expiry in [0, 4097, u64::MAX] {
+            node.settings.expiry = expiry;
+            refused(&node, Node::open, 3);
+        }
+        node.settings.expiry = 4096;
+        for depth in [0, 4097, u64::MAX] {
+            node.settings.depth = depth;
+            refused(&node, Node::open, 4);
+        }
+        node.settings.depth = 4096;
+        for (wrong_blocks, wrong_votes) in [(0, 1), (blocks + 1, 1), (1, 0), (1, votes + 1)] {
+            node.blocks = vec![block(7, 7, 7); wrong_blocks];
+            node.votes = vec![vote(7, 7, 7); wrong_votes];
+            refused(&node, Node::open, 5);
+        }
+        for (right_blocks, right_votes) in [(1, 1), (blocks, votes)] {
+            node.blocks = vec![block(7, 7, 7); right_blocks];
+            node.votes = vec![vote(7, 7, 7); right_votes];
+            assert_eq!(node.open(), Ok(()));
+            assert_eq!(node.head(1), Err(17));
+        }
+        node.settings = Settings { profile, nodes: 1, own: 0, expiry: 1, depth: 1 };
         assert_eq!(node.open(), Ok(()));
-        assert_eq!(node.head(1), Err(17));
     }
-    node.settings = Settings { nodes: 1, own: 0, expiry: 1, depth: 1 };
-    assert_eq!(node.open(), Ok(()));
 }
 
 #[test]
@@ -65,13 +68,19 @@ fn receive() {
         assert_eq!(after.receive(beat, bytes), refusal);
         assert_eq!(&after, node);
     };
+    // The packet is too long for a rack, and wrong.
+    let long = [2; 4097];
     let mut node = full_shed();
+    node.settings.profile = Profile::Rack;
     node.blocks[0].in_view = false;
-    refused(&node, 13, &[2], whole(6));
+    refused(&node, 13, &long, whole(6));
     node.blocks[0].in_view = true;
-    refused(&node, 13, &[2], whole(7));
-    refused(&node, 3_000_000_003, &[2], whole(7));
-    refused(&node, u64::MAX, &[2], whole(7));
+    refused(&node, 13, &long, whole(7));
+    refused(&node, 3_000_000_003, &long, whole(7));
+    refused(&node, u64::MAX, &long, whole(7));
+    // Request 9: 24 "before 8".
+    refused(&node, 14, &long, whole(24));
+    refused(&node, 14, &long[1..], whole(8));
     refused(&node, 14, &[2], whole(8));
     // Wrong are a block, a vote and the header, and there is no free place.
     let (good, bad) = ((41, 31, 4), (42, 31, 3));

@@ -8,8 +8,9 @@ struct Run {
 }
 
 impl Run {
-    fn new() -> Run {
-        Run { nodes: (0..3).map(|own| fresh(3, own, 2, 1)).collect() }
+    fn new(profiles: [Profile; 3]) -> Run {
+        let settings = |(own, profile)| Settings { profile, nodes: 3, own, expiry: 2, depth: 1 };
+        Run { nodes: (0..).zip(profiles).map(|node| opened(settings(node), 16, 16)).collect() }
     }
 
     /// Packets of the senders reach the receivers.
@@ -43,7 +44,18 @@ impl Run {
 
 #[test]
 fn three_nodes() {
-    let mut run = Run::new();
+    three_nodes_are([Profile::Loom; 3]);
+}
+
+#[test]
+fn racks_among_looms() {
+    three_nodes_are([Profile::Rack, Profile::Loom, Profile::Loom]);
+    three_nodes_are([Profile::Loom, Profile::Rack, Profile::Rack]);
+    three_nodes_are([Profile::Rack; 3]);
+}
+
+fn three_nodes_are(profiles: [Profile; 3]) {
+    let mut run = Run::new(profiles);
     let all = [0, 1, 2];
     run.slot(1, &all, Some((101, 0)), &[Ok(101); 3]);
     for node in &run.nodes {
@@ -78,7 +90,7 @@ fn three_nodes() {
 #[test]
 fn two_proposals_of_one_slot() {
     // Node 1 is dishonest in slot 1: it sends 111 to node 0 and 112 to node 2.
-    let mut run = Run::new();
+    let mut run = Run::new([Profile::Loom; 3]);
     let one = packet(1, 1, 111, &[(111, 0, 1)], &[]);
     let other = packet(1, 1, 112, &[(112, 0, 1)], &[]);
     assert!(run.nodes[0].receive(3, &one).unwrap().brought);

@@ -66,6 +66,48 @@ fn settings_and_lengths_in_range() {
     });
 }
 
+/// The change on a rack.
+fn on_a_rack(change: impl Fn(&mut Node)) -> impl Fn(&mut Node) {
+    move |n| {
+        n.settings.profile = Profile::Rack;
+        change(n);
+    }
+}
+
+#[test]
+fn limits_of_a_rack() {
+    // Request 9: "1, 5 and 6 go by" the set of limits. On a loom each of these is sound.
+    let changes: [fn(&mut Node); 8] = [
+        |n| n.settings.nodes = 17,
+        |n| n.settings.nodes = 64,
+        |n| (n.settings.nodes, n.settings.own) = (17, 16),
+        |n| n.blocks.resize(65, NO_BLOCK),
+        |n| n.blocks.resize(2048, NO_BLOCK),
+        |n| n.votes.resize(257, NO_VOTE),
+        |n| n.votes.resize(8192, NO_VOTE),
+        |n| (n.settings.nodes, n.blocks, n.votes) = (17, n.blocks.repeat(5), n.votes.repeat(17)),
+    ];
+    for change in changes {
+        still_sound(change);
+        unsound(on_a_rack(change));
+    }
+    still_sound(on_a_rack(|_| ()));
+    still_sound(on_a_rack(|n| n.settings.nodes = 16));
+    still_sound(on_a_rack(|n| n.blocks.resize(64, NO_BLOCK)));
+    still_sound(on_a_rack(|n| n.votes.resize(256, NO_VOTE)));
+    // E and K have the range of a loom.
+    still_sound(on_a_rack(|n| (n.settings.expiry, n.settings.depth) = (4096, 4096)));
+    unsound(on_a_rack(|n| n.settings.expiry = 4097));
+    unsound(on_a_rack(|n| n.settings.depth = 4097));
+    // All other rules hold on a rack too.
+    unsound(on_a_rack(|n| n.settings.nodes = 0));
+    unsound(on_a_rack(|n| n.settings.own = 5));
+    unsound(on_a_rack(|n| n.blocks_used = 17));
+    unsound(on_a_rack(|n| n.blocks[0].slot = 1));
+    unsound(on_a_rack(|n| add_vote(n, vote(5, 4, 11))));
+    unsound(on_a_rack(|n| n.clock.proposed = 5));
+}
+
 #[test]
 fn used_counts_fit() {
     unsound(|n| n.blocks_used = 17);

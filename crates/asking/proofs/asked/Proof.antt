@@ -3,6 +3,7 @@ use borrow.Author.Needs.{needs}
 use mathlib.Core.Path.{refl}
 use native.Mathlib.Omega.{arith}
 use borrow.Author.Tests.{le-ltb, lt-ltb}
+use Rattle.protocol.specs.declared.Profile.the-variants.{Loom}
 use Rattle.protocol.specs.Lent.{placesIn}
 use Rattle.asking.specs.Ask.{settingsIn, askWith}
 use Rattle.asking.proofs.Steps.{ask-within}
@@ -28,7 +29,7 @@ returns-3 c =
     let n = c .before .before .before .before .before .before .before .before .before .number-at .ensures .0 in
     let e = c .before .before .before .before .before .before .before .before .number-at2 .ensures .0 in
     let k = c .before .before .before .before .before .before .before .number-at3 .ensures .0 in
-    ask-within _ (c .before .before .before .before .before .before .before .before .before .before .before .if1 .left) (c .before .before .before .before .before .before .before .before .before .before .if2 .left) (λ i. record { nodes = n i; own = 0; expiry = e i; depth = k i }) (c .before .before .before .before .before .before .number-at4 .ensures .0) (c .before .before .opened .ensures)
+    ask-within _ (c .before .before .before .before .before .before .before .before .before .before .before .if1 .left) (c .before .before .before .before .before .before .before .before .before .before .if2 .left) (λ i. record { profile = Loom; nodes = n i; own = 0; expiry = e i; depth = k i }) (c .before .before .before .before .before .before .number-at4 .ensures .0) (c .before .before .opened .ensures)
 
 pub asked-spec : {M : Type 1} → statement M
 asked-spec {M} =

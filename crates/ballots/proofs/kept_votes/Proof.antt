@@ -5,6 +5,7 @@ use Prim.Native.Nat.{ℕ, _-_, _≤_}
 use mathlib.Core.Path.{_≡_, ap, sym, _∙_}
 use lib.ListN.{length, length-replicate}
 use denote.Ref.{now}
+use Rattle.protocol.specs.Limits.{loom}
 use Rattle.ballots.specs.Latest.{votesIn}
 use Rattle.ballots.proofs.Kept.{Dropped, dropped-none, dropped-more, dropped-all}
 use Rattle.ballots.proofs.Latest.{latest-zero}
@@ -13,7 +14,7 @@ use Rattle.ballots.proofs.kept_votes.Tie as tie
 
 abbrev Inv-loop : tie.InvT-loop
 Inv-loop votes used whole expiry t slots₀ numbers dropped v₀ slots v =
-    (v ≤ 64) × (length slots ≡ 64) × Dropped (votesIn whole votes used) expiry t dropped v slots numbers
+    (v ≤ 64) × (length slots ≡ loom .nodes) × Dropped (votesIn whole votes used) expiry t dropped v slots numbers
 
 abbrev μ-loop : tie.MeasureT-loop
 μ-loop votes used whole expiry t slots₀ numbers dropped v₀ slots v = 64 - v

@@ -4,6 +4,7 @@ use native.Mathlib.Omega.{arith}
 use Prim.Native.Nat.{ℕ}
 use mathlib.Core.Path.{refl, _∙_}
 use lib.ListN.{length-replicate}
+use Rattle.protocol.specs.Limits.{loom}
 use Rattle.choice.proofs.Tables.{few, blocks-sound, walk-weighed}
 use Rattle.choice.proofs.heaviest_leaf.Statement.{statement}
 use Rattle.choice.proofs.heaviest_leaf.Tie as tie
@@ -17,8 +18,8 @@ count-voters-requires : tie.Need-count-voters-requires
 count-voters-requires c κs =
     let k = c .before .before .before .before .before in
     let f = few (k .before .before .before .before .before .before .pre .0) in
-    let h = k .weigh .kept .1 .1 .1 .1 .1 .1 .1 .1 .1 .0 ∙ length-replicate {A = ℕ} 2048 0 in
-    (omega arith, omega (arith, length-replicate {A = ℕ} 2048 0))
+    let h = k .weigh .kept .1 .1 .1 .1 .1 .1 .1 .1 .1 .0 ∙ length-replicate {A = ℕ} (loom .blocks) 0 in
+    (omega arith, omega (arith, length-replicate {A = ℕ} (loom .blocks) 0))
 
 leaf-requires : tie.Need-leaf-requires
 leaf-requires c κs =
@@ -26,7 +27,7 @@ leaf-requires c κs =
     let k = w .before .before .before .before .before .before in
     let s = k .before .before .before .before .before .before in
     let T = s .pre .0 in
-    let h = w .count-voters .kept .1 .1 .0 ∙ length-replicate {A = ℕ} 2048 0 in
+    let h = w .count-voters .kept .1 .1 .0 ∙ length-replicate {A = ℕ} (loom .blocks) 0 in
     let f = few T in
     (T .blocks-fit, f .0, omega arith, k .weigh .kept .1 .1 .1 .1 .1 .1 .1 .1 .0 ∙ s .pre .1, blocks-sound T, k .weigh .ensures .0)
 

@@ -5,6 +5,7 @@ use Prim.Native.Nat.{ℕ, _-_}
 use mathlib.Core.Path.{refl}
 use lib.ListN.{length-replicate}
 use denote.Ref.{now}
+use Rattle.protocol.specs.Limits.{loom}
 use Rattle.subtrees.specs.Places.{blockAt}
 use Rattle.subtrees.proofs.Places.{place-low}
 use Rattle.choice.proofs.Held.{held}
@@ -42,8 +43,8 @@ best-child-requires c κs =
     let k = c .before .before .before .before .before in
     let s = k .before .before .before .before .before .before in (
       s .pre .0,
-      omega (arith, s .pre .1, k .link-children .kept .1 .1 .0, length-replicate {A = ℕ} 2048 0),
-      omega (arith, s .pre .1, k .link-children .kept .1 .1 .1 .0, length-replicate {A = ℕ} 2048 0),
+      omega (arith, s .pre .1, k .link-children .kept .1 .1 .0, length-replicate {A = ℕ} (loom .blocks) 0),
+      omega (arith, s .pre .1, k .link-children .kept .1 .1 .1 .0, length-replicate {A = ℕ} (loom .blocks) 0),
       s .pre .2,
       c .before .before .loop .inv .inside,
       s .pre .4,

@@ -4,6 +4,7 @@ use native.Mathlib.Omega.{arith}
 use Prim.Native.Nat.{ℕ, _+_, _-_, _≤_, _<_}
 use mathlib.Core.Path.{_≡_, ap, sym, _∙_}
 use lib.ListN.{length, getD, length-replicate}
+use Rattle.protocol.specs.Limits.{loom}
 use Rattle.choice.specs.Children.{Linked}
 use Rattle.choice.proofs.Children.{linked-none, linked-more}
 use Rattle.choice.proofs.link_children.Statement.{statement}
@@ -11,7 +12,7 @@ use Rattle.choice.proofs.link_children.Tie as tie
 
 abbrev Inv-loop : tie.InvT-loop
 Inv-loop parents used firsts₀ nexts₀ i₀ children siblings i =
-    (i ≤ used) × (1 ≤ i) × (length children ≡ 2048) × (length siblings ≡ 2048) × Linked (λ j. getD parents j 0) used i children siblings
+    (i ≤ used) × (1 ≤ i) × (length children ≡ loom .blocks) × (length siblings ≡ loom .blocks) × Linked (λ j. getD parents j 0) used i children siblings
 
 abbrev μ-loop : tie.MeasureT-loop
 μ-loop parents used firsts₀ nexts₀ i₀ children siblings i = i
@@ -19,7 +20,7 @@ abbrev μ-loop : tie.MeasureT-loop
 loop-holds : tie.Need-loop-holds Inv-loop μ-loop
 loop-holds c =
     let s = c .before .before .before in
-    (omega arith, s .pre .0, ap length (s .pre .4) ∙ length-replicate {A = ℕ} 2048 0, s .pre .5, linked-none _ _ (s .pre .4) (s .pre .1))
+    (omega arith, s .pre .0, ap length (s .pre .4) ∙ length-replicate {A = ℕ} (loom .blocks) 0, s .pre .5, linked-none _ _ (s .pre .4) (s .pre .1))
 
 link-child-requires : tie.Need-link-child-requires Inv-loop μ-loop
 link-child-requires c κs =
@@ -47,7 +48,7 @@ loop-again c =
 same-length : tie.Need-same-length Inv-loop μ-loop
 same-length c =
     let s = c .before .before .before .before .before in
-    c .before .loop .inv .2 ∙ sym (ap length (s .pre .4) ∙ length-replicate {A = ℕ} 2048 0)
+    c .before .loop .inv .2 ∙ sym (ap length (s .pre .4) ∙ length-replicate {A = ℕ} (loom .blocks) 0)
 
 same-length-2 : tie.Need-same-length-2 Inv-loop μ-loop
 same-length-2 c =

@@ -5,6 +5,7 @@ use Prim.Native.Nat.{ℕ}
 use mathlib.Core.Bool.{false}
 use mathlib.Core.Path.{refl}
 use lib.ListN.{length-replicate}
+use Rattle.protocol.specs.Limits.{loom}
 use Rattle.choice.proofs.Tables.{few, blocks-held, blocks-sound, leaf-in}
 use Rattle.confirm.proofs.Descent.{deep-number}
 use Rattle.confirm.proofs.deep.Statement.{statement}
@@ -25,7 +26,7 @@ climb-down-requires c κs =
     let k = c .before .before .before in
     let T = k .before .before .before .before .pre .0 in
     let e = k .heaviest-leaf .ensures in
-    (T .blocks-fit, omega (arith, few T .0, k .heaviest-leaf .kept .1 .1 .1 .1 .1 .1 .1 .1 .0, length-replicate {A = ℕ} 2048 0), blocks-sound T, e .0, e .1, leaf-in (blocks-held T false) _ _ _ (e .1) (e .2))
+    (T .blocks-fit, omega (arith, few T .0, k .heaviest-leaf .kept .1 .1 .1 .1 .1 .1 .1 .1 .0, length-replicate {A = ℕ} (loom .blocks) 0), blocks-sound T, e .0, e .1, leaf-in (blocks-held T false) _ _ _ (e .1) (e .2))
 
 returns : tie.Need-returns
 returns c =

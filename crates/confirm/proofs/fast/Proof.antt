@@ -5,6 +5,7 @@ use Prim.Native.Nat.{ℕ, _+_}
 use mathlib.Core.Bool.{false}
 use mathlib.Core.Path.{refl, _∙_}
 use lib.ListN.{length-replicate}
+use Rattle.protocol.specs.Limits.{loom}
 use Rattle.choice.proofs.Tables.{few, blocks-held, vote-real, words-weigh}
 use Rattle.confirm.proofs.Candidates.{fast-is, fast-view}
 use Rattle.confirm.proofs.fast.Statement.{statement}
@@ -28,7 +29,7 @@ top-requires c κs =
     let k = c .before .before .before in
     let T = k .before .before .before .before .before .pre .0 in
     let f = few T in
-    let h = k .weigh .kept .1 .1 .1 .1 .1 .1 .1 .1 .1 .0 ∙ length-replicate {A = ℕ} 2048 0 in
+    let h = k .weigh .kept .1 .1 .1 .1 .1 .1 .1 .1 .1 .0 ∙ length-replicate {A = ℕ} (loom .blocks) 0 in
     (T .blocks-fit, omega arith, f .1)
 
 returns : tie.Need-returns

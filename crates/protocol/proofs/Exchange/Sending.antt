@@ -64,7 +64,7 @@ module _ {s : Settings} {pl : Places} {x : Node} (G : IsSound s pl x) where
   gossip-fits : (w : ℕ) (width : Width) → Below (256 ^ w) (entries (x .blocks)) → FieldsFit w (gossipOf width x)
   unfolding gossipOf
   gossip-fits w width N =
-      let r = places-few s pl (G .places) in
+      let r = places-few (s .profile) pl (G .places) in
       sendable-fits (store-sendable G) w (ranges s (G .settings) .few) (G .time .limited) N (kindOf false width) 0 0 (kind-byte false width) (omega arith)
       (N genesis (store-sound G .start)) (omega (arith, length-entries (x .blocks), G .fit-blocks)) (omega (arith, length-entries (x .votes), G .fit-votes))
 
@@ -90,7 +90,7 @@ module _ {s : Settings} {pl : Places} {x : Node} (G : IsSound s pl x) where
   proposal-fits : (w : ℕ) (width : Width) → Below (256 ^ w) (inView (x .blocks)) → FieldsFit w (proposalOf width x)
   unfolding proposalOf
   proposal-fits w width N =
-      let r = places-few s pl (G .places) in
+      let r = places-few (s .profile) pl (G .places) in
       let f = tip-fits w N in
       sendable-fits (view-sendable G) w (ranges s (G .settings) .few) (G .time .limited) N (kindOf true width) (tip .slot) (tip .number) (kind-byte true width) (f .0) (f .1)
       (omega (arith, view-length (x .blocks), G .fit-blocks)) (omega (arith, view-length (x .votes), G .fit-votes))

@@ -91,19 +91,19 @@ module _ {s : Settings} {pl pl' : Places} (R : Roomier s pl pl') (x : Node) (S :
 
   -- ---- each call on both
 
-  receive-same : (beat : ℕ) (bytes : List ℕ) → refusedBy byRoom (receive s pl x beat bytes .reply) ≡ false → receive s pl x beat bytes ≡ receive (asLoom s) pl' x beat bytes
+  pub receive-same : (beat : ℕ) (bytes : List ℕ) → refusedBy byRoom (receive s pl x beat bytes .reply) ≡ false → receive s pl x beat bytes ≡ receive (asLoom s) pl' x beat bytes
   unfolding receive
   receive-same beat bytes w = rw (milder byRoom (receive-less beat bytes) (not-by byRoom _ x _ _ w))
 
-  propose-same : (beat number : ℕ) → refusedBy byRoom (propose s pl x beat number .reply) ≡ false → propose s pl x beat number ≡ propose (asLoom s) pl' x beat number
+  pub propose-same : (beat number : ℕ) → refusedBy byRoom (propose s pl x beat number .reply) ≡ false → propose s pl x beat number ≡ propose (asLoom s) pl' x beat number
   unfolding propose baseOf
   propose-same beat number w = rw (milder byRoom (propose-less beat number) (not-by byRoom _ x _ _ w))
 
-  vote-same : (beat : ℕ) → refusedBy byRoom (vote s pl x beat .reply) ≡ false → vote s pl x beat ≡ vote (asLoom s) pl' x beat
+  pub vote-same : (beat : ℕ) → refusedBy byRoom (vote s pl x beat .reply) ≡ false → vote s pl x beat ≡ vote (asLoom s) pl' x beat
   unfolding vote headOf
   vote-same beat w = rw (milder byRoom (vote-less beat) (not-by byRoom _ x _ _ w))
 
-  merge-same : (beat : ℕ) → refusedBy byRoom (merge s pl x beat .reply) ≡ false → merge s pl x beat ≡ merge (asLoom s) pl' x beat
+  pub merge-same : (beat : ℕ) → refusedBy byRoom (merge s pl x beat .reply) ≡ false → merge s pl x beat ≡ merge (asLoom s) pl' x beat
   unfolding merge
   merge-same beat w = rw (milder byRoom (merge-less beat) (not-by byRoom _ x _ _ w))
 

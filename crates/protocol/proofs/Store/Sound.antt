@@ -11,6 +11,7 @@ use lib.ListN.{length}
 use borrow.Author.Tests.{leb-true, lt-ltb, le-leb}
 use Rattle.protocol.specs.Entry.{Block, Vote}
 use Rattle.protocol.specs.declared.Clock.{Clock}
+use Rattle.protocol.specs.declared.Profile.{Profile}
 use Rattle.protocol.specs.declared.Settings.{Settings}
 use Rattle.protocol.specs.Limits.{maxSlot, loom, limitsOf}
 use Rattle.protocol.specs.Lists.{any}
@@ -77,12 +78,12 @@ ranges s e =
       depth = search facts;
     }
 
-pub places-few : (s : Settings) (pl : Places) → placesSound (limitsOf (s .profile)) pl ≡ true → (pl .blocks ≤ loom .blocks) × (pl .votes ≤ loom .votes)
+pub places-few : (p : Profile) (pl : Places) → placesSound (limitsOf p) pl ≡ true → (pl .blocks ≤ loom .blocks) × (pl .votes ≤ loom .votes)
 unfolding placesSound between
-places-few s pl e =
-    let a : pl .blocks ≤ limitsOf (s .profile) .blocks = search facts in
-    let b : pl .votes ≤ limitsOf (s .profile) .votes = search facts in
-    let w = within-loom (s .profile) in
+places-few p pl e =
+    let a : pl .blocks ≤ limitsOf p .blocks = search facts in
+    let b : pl .votes ≤ limitsOf p .votes = search facts in
+    let w = within-loom p in
     (omega (arith, w .blocks), omega (arith, w .votes))
 
 pub record IsSound (s : Settings) (pl : Places) (x : Node) : Type 0 where

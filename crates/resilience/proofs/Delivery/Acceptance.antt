@@ -1,15 +1,16 @@
--- What an honest node writes is accepted by every honest node that is given it, from its slot on. Assumes nothing.
+-- What an honest node writes and sends is accepted by every honest node that is given it afterwards, from its slot on. Assumes nothing.
 use Prim.Native.Nat.{ℕ, suc, _/_, _≤_, _<_}
 use mathlib.Core.Path.{_≡_, refl, ap, _∙_}
 use mathlib.Core.Bool.{Bool, true, false, cond}
-use mathlib.Core.List.{List, [], _∷_, List·Memᴰ·head}
+use mathlib.Core.List.{List, [], _∷_, _++_, List·Memᴰ}
 use native.Mathlib.Omega.{arith}
+use lib.ListN.{length}
 use Rattle.protocol.specs.Entry.{Block, Vote}
 use Rattle.protocol.specs.declared.Width.the-variants.{Wide}
-use Rattle.protocol.specs.Limits.{maxSlot}
+use Rattle.protocol.specs.Limits.{maxSlot, limitsOf}
 use Rattle.protocol.specs.Chain.{genesis}
 use Rattle.protocol.specs.Packet.{Packet, packetOf, packetBytes}
-use Rattle.protocol.specs.Refusal.{by, first, pass, refuse}
+use Rattle.protocol.specs.Refusal.{Refusal, by, first, Verdict, pass, refuse}
 use Rattle.protocol.specs.Calls.Receive.{headerAllowed, receiveTests}
 use Rattle.protocol.specs.Calls.Write.{gossipOf, proposalOf, sentOf, proposedNow, packetOut, tooWide}
 use Rattle.protocol.proofs.Chain.Relations.{In}
@@ -24,13 +25,13 @@ use Rattle.protocol.proofs.Calls.Passed.{Receives, receives}
 use Rattle.protocol.proofs.Exchange.Acceptance.{packet-allowed, lacking, verdict}
 use Rattle.protocol.proofs.Exchange.Sendable.{Sendable, sending, store-sendable, view-sendable, sent-in}
 use Rattle.protocol.proofs.Exchange.Sending.{sent-in-range, proposal-header}
-use Rattle.resilience.specs.Run.{Network, settings, isHonest, Receive, step}
+use Rattle.resilience.specs.Run.{Network, settings, isHonest, Receive, sent, given, turnedAway, forWant, step}
 use Rattle.resilience.proofs.Steps.Effect.{receivedNode, receive-refused, receive-done}
 use Rattle.resilience.proofs.Steps.Change.{node-after}
 use Rattle.resilience.proofs.Steps.Log.{SentBy}
 use Rattle.resilience.proofs.Runs.Trace.{at}
 use Rattle.resilience.proofs.Runs.Execution.{Execution, world, sender-honest, receiver-honest}
-use Rattle.resilience.proofs.Runs.Premises.{never-lacks}
+use Rattle.resilience.proofs.Runs.Premises.{never-turns-away}
 use Rattle.resilience.proofs.Invariants.Soundness.{sound-tables}
 use Rattle.resilience.proofs.Invariants.Clock.{seen-beat}
 use Rattle.resilience.proofs.Invariants.Numbers.{numbers-below}
@@ -80,7 +81,12 @@ module _ {N : Network} (X : Execution N) where
 
   -- ---- they are accepted
 
+  -- an honest node sent these bytes before index k
+  abbrev pub SentBefore : ℕ → List ℕ → Type 0
+  SentBefore k bytes = (b : ℕ) × (i : ℕ) × List·Memᴰ (sent b i bytes) (world X k .log)
+
   module _ (k : ℕ) (l : k < X .end) (j : ℕ) (slot : ℕ) (p : Packet) (O : Acceptable slot p) (is : X .steps k ≡ Receive j (packetBytes p))
+      (S : SentBefore k (packetBytes p))
       (early : slot ≤ world X k .beat / 3) (within : world X k .beat / 3 ≤ maxSlot) where
     honest : isHonest N j ≡ true
     honest = receiver-honest X k l j (packetBytes p) is
@@ -93,26 +99,34 @@ module _ {N : Network} (X : Execution N) where
         packet-allowed (OfRun X) (one-block X) slot (world X k .beat / 3) early (N .nodes) (world X k .node j) p (store-sound G)
         (stored-of-run X k (omega arith) j honest) (O .blocks) (O .follow) (O .votes) (O .header)
 
-    -- only want of places is left
-    left : (b : Bool) → lacking (settings N j) (N .places j) (world X k .node j) p ≡ b
-        → first (receiveTests (settings N j) (N .places j) (world X k .node j) (world X k .beat) (packetBytes p)) ≡ cond b (refuse (by 10)) pass
-    left b e =
+    abbrev tests : Verdict
+    tests = first (receiveTests (settings N j) (N .places j) (world X k .node j) (world X k .beat) (packetBytes p))
+
+    -- only want is left
+    left : (a b : Bool) → limitsOf (N .profile j) .tooLong (length (packetBytes p)) ≡ a → lacking (settings N j) (N .places j) (world X k .node j) p ≡ b
+        → tests ≡ cond a (refuse (by 24)) (cond b (refuse (by 10)) pass)
+    left a b d e =
         verdict (settings N j) (N .places j) (world X k .node j) (world X k .beat) (packetBytes p) p (round-trip p (O .fits)) (sound-holds G)
         (seen-beat X k j honest) within
         (written-well p (O .fits)) rules-met
-        ∙ ap (λ b. cond b (refuse (by 10)) pass) e
+        ∙ (λ o. cond (d o) (refuse (by 24)) (cond (e o) (refuse (by 10)) pass))
 
-    passes : first (receiveTests (settings N j) (N .places j) (world X k .node j) (world X k .beat) (packetBytes p)) ≡ pass
-    unfolding at
-    passes = go (lacking (settings N j) (N .places j) (world X k .node j) p) refl
+    -- and the packet was sent
+    not-for-want : (q : Refusal) → forWant q ≡ true → tests ≡ refuse q → ⊥
+    not-for-want q f e =
+        never-turns-away X k l j (packetBytes p)
+        (ap (λ s. step N (world X k) s .log) is ∙ ap (λ o. o .log) (receive-refused N (world X k) j (packetBytes p) q e)
+        ∙ ap (λ t. (cond t (turnedAway (world X k .beat) j (packetBytes p) ∷ []) [] ++ (given (world X k .beat) j (packetBytes p) false ∷ [])) ++ world X k .log) f)
+        (S .0) (S .1) (S .2)
+
+    passes : tests ≡ pass
+    passes = go (limitsOf (N .profile j) .tooLong (length (packetBytes p))) (lacking (settings N j) (N .places j) (world X k .node j) p) refl refl
       where
-        go : (b : Bool) → lacking (settings N j) (N .places j) (world X k .node j) p ≡ b
-            → first (receiveTests (settings N j) (N .places j) (world X k .node j) (world X k .beat) (packetBytes p)) ≡ pass
-        go false e = left false e
-        go true e =
-            absurd (never-lacks X (suc k) l (world X k .beat) j (rw (ap (λ s. step N (world X k) s .log) is ∙ ap (λ o. o .log)
-            (receive-refused N (world X k) j (packetBytes p) (by 10) (left true e)))
-            (List·Memᴰ·head refl)))
+        go : (a b : Bool) → limitsOf (N .profile j) .tooLong (length (packetBytes p)) ≡ a → lacking (settings N j) (N .places j) (world X k .node j) p ≡ b
+            → tests ≡ pass
+        go true b d e = absurd (not-for-want (by 24) refl (left true b d e))
+        go false true d e = absurd (not-for-want (by 10) refl (left false true d e))
+        go false false d e = left false false d e
 
     pub accepts : Receives (settings N j) (N .places j) (world X k .node j) (world X k .beat) (packetBytes p)
     accepts = receives (settings N j) (N .places j) (world X k .node j) (world X k .beat) (packetBytes p) passes

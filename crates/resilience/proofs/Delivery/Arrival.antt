@@ -25,14 +25,14 @@ use Rattle.resilience.specs.Resilience.{DeliveredAt}
 use Rattle.resilience.proofs.Steps.Effect.{receivedNode}
 use Rattle.resilience.proofs.Runs.Trace.{at}
 use Rattle.resilience.proofs.Runs.Execution.{Execution, world, log, receiver-honest}
-use Rattle.resilience.proofs.Runs.History.{beat-mono, log-later, since-log}
+use Rattle.resilience.proofs.Runs.History.{beat-mono, log-later, log-has, logs, since-log}
 use Rattle.resilience.proofs.Runs.Lasting.{grows}
 use Rattle.resilience.proofs.Invariants.Soundness.{sound-tables}
 use Rattle.resilience.proofs.Invariants.Clock.{seen-beat}
 use Rattle.resilience.proofs.Invariants.Votes.{BeforeRemoval, not-removed}
 use Rattle.resilience.proofs.Delivery.Owed.{Sending, sends-before}
 use Rattle.resilience.proofs.Delivery.Written.{written}
-use Rattle.resilience.proofs.Delivery.Acceptance.{Acceptable, outgoing-acceptable, accepts, accepts-node}
+use Rattle.resilience.proofs.Delivery.Acceptance.{Acceptable, outgoing-acceptable, SentBefore, accepts, accepts-node}
 
 -- the store of x is part of that of y, but for votes of slots below `first`
 pub record StoreWithin (first : ℕ) (x y : Node) : Type 0 where
@@ -58,6 +58,7 @@ module _ {N : Network} (X : Execution N) where
     pub after : g < when
     pub before : when < m
     pub is : X .steps when ≡ Receive j bytes
+    pub sent : SentBefore X when bytes
     pub early : world X when .beat < world X m .beat
 
   module _ (at-beat : ℕ) (del : DeliveredAt at-beat (log X)) where
@@ -69,7 +70,14 @@ module _ {N : Network} (X : Execution N) where
         let d = (subst (λ (z : ℕ). DeliveredAt z (log X)) (sym f) del) j (world X m .beat) (w .0) (world X m .log) (w .1) i bytes (r .0) (world X g .log) (r .1 ∙ ap (λ o. r .0 ++ o) e) b ne in
         let s = since-log X (suc g) m l (r .0) (r .1) (given (d .0) j bytes (d .1 .1)) (d .1 .2) in
         let G = s .3 in
-        record { when = s .0; after = s .1; before = s .2; is = G .is; early = omega (arith, G .beat, d .1 .0) }
+        record {
+          when = s .0;
+          after = s .1;
+          before = s .2;
+          is = G .is;
+          sent = (world X g .beat, i, log-has X (suc g) (s .0) (s .1) (sent (world X g .beat) i bytes) (logs X g (sent (world X g .beat) i bytes) (world X g .log) e));
+          early = omega (arith, G .beat, d .1 .0);
+        }
 
   -- an acceptable packet that arrives is in the store when j wakes
   module _ (g m j slot : ℕ) (p : Packet) (O : Acceptable X slot p) (lm : m < X .end) (A : Arrival g m j (packetBytes p))
@@ -81,10 +89,10 @@ module _ {N : Network} (X : Execution N) where
     receiver = receiver-honest X (A .when) (omega (arith, A .before)) j (packetBytes p) (A .is)
 
     pub arrival-tests : Receives (settings N j) (N .places j) (world X (A .when) .node j) (world X (A .when) .beat) (packetBytes p)
-    arrival-tests = accepts X (A .when) (omega (arith, A .before)) j slot p O (A .is) early soon
+    arrival-tests = accepts X (A .when) (omega (arith, A .before)) j slot p O (A .is) (A .sent) early soon
 
     pub arrival-node : world X (suc (A .when)) .node j ≡ receivedNode N (world X (A .when)) j (packetBytes p)
-    arrival-node = accepts-node X (A .when) (omega (arith, A .before)) j slot p O (A .is) early soon
+    arrival-node = accepts-node X (A .when) (omega (arith, A .before)) j slot p O (A .is) (A .sent) early soon
 
     pub arrived-block : (c : Block) → In c (genesis ∷ p .blocks) → In c (entries (world X m .node j .blocks))
     arrived-block c n = go (List·Memᴰ·cases-cons n)

@@ -1,11 +1,13 @@
 -- What happens in a run, each as a list of moves: nodes are awake or propose, and packets arrive. A packet is what the log says was
 -- sent; only those of dishonest nodes are written out. Assumes nothing.
-use Prim.Native.Nat.{ℕ, _+_}
+use Prim.Native.Nat.{ℕ, _+_, _%_}
 use mathlib.Core.Path.{_≡_, refl, sym, ap, _∙_}
 use mathlib.Core.Bool.{Bool, true, not, _&&_, cond}
 use mathlib.Core.List.{List, [], _∷_, _++_, append-assoc}
 use lib.ListN.{replicate}
 use lib.Dec.{eqb}
+use Rattle.protocol.specs.declared.Profile.{Profile}
+use Rattle.protocol.specs.declared.Profile.the-variants.{Loom, Rack}
 use Rattle.protocol.specs.Entry.{Block, Vote}
 use Rattle.protocol.specs.Store.{fresh}
 use Rattle.protocol.specs.Packet.{Packet, packetBytes}
@@ -15,13 +17,18 @@ use Rattle.resilience.proofs.Witness.Events.{row}
 
 -- ---- networks
 
--- n nodes with expiry period E and depth K; node i has places for so many blocks, and for 30 votes
+-- nodes with an odd index are racks, the others looms
+abbrev pub oddRacks : ℕ → Profile
+oddRacks i = cond (eqb (i % 2) 1) Rack Loom
+
+-- n nodes, looms and racks, with expiry period E and depth K; node i has places for so many blocks, and for 30 votes
 abbrev pub network : ℕ → ℕ → ℕ → (ℕ → Bool) → (ℕ → ℕ) → Network
 network n E K honest blocks =
     record {
       nodes = n;
       expiry = E;
       depth = K;
+      profile = oddRacks;
       honest = honest;
       places = λ i. record { blocks = blocks i; votes = 30 };
       before = λ i. fresh;

@@ -5,7 +5,7 @@ use mathlib.Core.List.{[], _∷_, List·Memᴰ·head, List·Memᴰ·tail}
 use native.Mathlib.Omega.{arith}
 use Rattle.protocol.proofs.Basics.Tests.{and-left, and-right}
 use Rattle.resilience.specs.Run.{built}
-use Rattle.resilience.specs.Resilience.{AtOrAbove}
+use Rattle.resilience.specs.Resilience.{Enough, AtOrAbove}
 use Rattle.resilience.specs.DeepAgreement.{HonestBlock, Agree, BlockEvery, DeepAfterVote, DeepAgreement}
 use Rattle.resilience.proofs.DeepAgreement.{conditions-from, deep-agreement}
 use Rattle.resilience.proofs.Witness.Events.{only-in}
@@ -43,7 +43,7 @@ block-31 = record {
   proposed = only-in 2 (end .log) (built 9 3 31 twin) (rw (happened .blocks) (List·Memᴰ·tail (List·Memᴰ·tail (List·Memᴰ·head refl))));
 }
 
-claim : Agree five end (DeepAfterVote five end)
+claim : Agree Enough five end (DeepAfterVote five end)
 unfolding DeepAgreement
 claim = deep-agreement five (run-true five acts starts .opened) end
 

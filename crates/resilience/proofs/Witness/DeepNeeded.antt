@@ -108,7 +108,7 @@ differ every gap s h blocks far =
 
 abbrev deeper : Network → Network
 deeper N =
-    record { nodes = N .nodes; expiry = N .expiry; depth = suc (N .depth); honest = N .honest; places = N .places; before = N .before }
+    record { nodes = N .nodes; expiry = N .expiry; depth = suc (N .depth); profile = N .profile; honest = N .honest; places = N .places; before = N .before }
 
 abbrev Blocks : Network → ℕ → World → Type 0
 Blocks N s w = BlockEvery N w (HonestBlock w) s

@@ -8,6 +8,7 @@ use Rattle.resilience.specs.Run.{World, start, voted, built}
 use Rattle.resilience.specs.Resilience.{AtOrAbove, StaysAfter}
 use Rattle.resilience.specs.FastHolds.{dishonest, FoundAfterMerge}
 use Rattle.resilience.specs.Asynchrony.{Good, AsynchronyFastHolds}
+use Rattle.resilience.proofs.Runs.Premises.{enough-for-honest}
 use Rattle.resilience.proofs.FastHolds.{has-fast, asynchrony-fast-holds}
 use Rattle.resilience.proofs.Witness.Runs.{runs}
 use Rattle.resilience.proofs.Witness.Acts.{Act, together, begin, awake, proposes, exchange, packet}
@@ -76,7 +77,7 @@ pub stays : StaysAfter 1 11 end
 unfolding AsynchronyFastHolds checkTest acts
 stays =
     let f = fair-true five end refl in
-    asynchrony-fast-holds five (run-true five acts starts .opened) end few 1 (delivered-at-true 4 (end .log) refl) (f .0) (f .1 .0) (f .1 .1)
+    asynchrony-fast-holds five (run-true five acts starts .opened) end few 1 (delivered-at-true 4 (end .log) refl) (f .0) (f .1 .0) (enough-for-honest (f .1 .1))
     (one-of-true (goodTest five end) (Good five end) (good-true five end) 2 2 end (omega arith) refl) 0 11 (has-fast five end 0 1 11 found) .0
 
 pub last-vote : AtOrAbove (end .log) 11 41

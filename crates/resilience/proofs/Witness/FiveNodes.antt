@@ -19,7 +19,7 @@ use Rattle.resilience.proofs.Witness.Events.{row, occurs, only, only-in
 use Rattle.resilience.proofs.Witness.Tests.{countOpposed, countVoters}
 use Rattle.resilience.proofs.Witness.Premises.{meetsTest, meets}
 
--- Node 1 is dishonest. Votes expire after two slots, and a block is deep after two.
+-- Node 1 is dishonest. Node 3 is a rack, and the other honest ones are looms. Votes expire after two slots, and a block is deep after two.
 abbrev pub five : Network
 five = network 5 2 2 butOne ten
 

@@ -13,6 +13,7 @@ use Rattle.resilience.specs.Run.{Network, World, start, voted, built}
 use Rattle.resilience.specs.Resilience.{AtOrAbove, Stays}
 use Rattle.resilience.specs.DeepAgreement.{BlockEvery, DeepAfterVote}
 use Rattle.resilience.specs.Asynchrony.{Good, Lasting, AsynchronyResilience, GoodSince, AsynchronyResilienceSince, AsynchronyAgreement}
+use Rattle.resilience.proofs.Runs.Premises.{enough-for-honest}
 use Rattle.resilience.proofs.Asynchrony.{asynchrony-resilient, asynchrony-resilient-since, lasting-by, good-since}
 use Rattle.resilience.proofs.JustVoted.{while-joined}
 use Rattle.resilience.proofs.DeepAgreement.{asynchrony-agreement}
@@ -107,7 +108,7 @@ block-21 = record { block = met .block; before = met .a; now = met .b; first = �
 -- block 21 stays
 pub storm-stays : Stays 6 21 end
 unfolding AsynchronyResilience
-storm-stays = asynchrony-resilient four (met .opened) end (met .run) (met .unforged) (met .oneBlock) (met .enough) 6 21 block-21
+storm-stays = asynchrony-resilient four (met .opened) end (met .run) (met .unforged) (met .oneBlock) (enough-for-honest (met .enough)) 6 21 block-21
 
 -- so the block that node 2 builds on alone, in the second fault, is above it
 pub base-6 : AtOrAbove (end .log) 21 31
@@ -141,7 +142,7 @@ deep-0 = deep-true four storm refl 0 8 21 refl
 pub same-deep : (d : ℕ) → DeepAfterVote four end 3 8 d → 21 ≡ d
 unfolding AsynchronyAgreement
 same-deep d H =
-    asynchrony-agreement four (met .opened) end (met .unforged) (met .oneBlock) (met .enough) 2 .1 .0 blocks 8 0 3 21 d (omega arith)
+    asynchrony-agreement four (met .opened) end (met .unforged) (met .oneBlock) (enough-for-honest (met .enough)) 2 .1 .0 blocks 8 0 3 21 d (omega arith)
     (while-joined four end 0 8 21 deep-0) (while-joined four end 3 8 d H)
 
 -- ---- the smaller count
@@ -169,5 +170,5 @@ pub drowsy-stays : Stays 6 21 dawn
 unfolding AsynchronyResilienceSince checkTest drowsy
 drowsy-stays =
     let M = checked merged proposed first every-good-since four drowsy 6 2 21 11 refl in
-    asynchrony-resilient-since four (M .opened) dawn (M .run) (M .unforged) (M .oneBlock) (M .enough) 6 21
+    asynchrony-resilient-since four (M .opened) dawn (M .run) (M .unforged) (M .oneBlock) (enough-for-honest (M .enough)) 6 21
     (record { block = M .block; before = M .a; now = M .b; first = λ o. good-since four dawn 2 2 (omega arith) (M .c); every = M .d })

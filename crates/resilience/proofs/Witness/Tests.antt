@@ -16,11 +16,11 @@ use Rattle.protocol.specs.Packet.{Packet, packetOf, isProposal}
 use Rattle.protocol.specs.Refusal.{Reply, refused, done}
 use Rattle.protocol.specs.Calls.Open.{openNode}
 use Rattle.protocol.proofs.Basics.Tests.{facts, both, and-left, and-right, clashing}
-use Rattle.protocol.proofs.Basics.Members.{any-true, all-true}
+use Rattle.protocol.proofs.Basics.Members.{any-true, any-holds, all-true}
 use Rattle.protocol.proofs.Store.Views.{block-same, vote-same}
-use Rattle.resilience.specs.Run.{Network, World, Event, woke, voted, built, sent, given, lacked, isHonest, settings, below, carried}
-use Rattle.resilience.specs.Resilience.{Opened, Gives, by-packet, by-proposer, OneBlock, AtOrAbove, here, up, Unforged, Enough, Delivered, DeliveredAt, Majority, voters, opposed}
-use Rattle.resilience.proofs.Witness.Events.{row, is-kind, sameBytes, bytes-same, only, only-in}
+use Rattle.resilience.specs.Run.{Network, World, Event, woke, voted, built, sent, given, lacked, turnedAway, isHonest, settings, below, carried}
+use Rattle.resilience.specs.Resilience.{Opened, Gives, by-packet, by-proposer, OneBlock, AtOrAbove, here, up, Unforged, Enough, EnoughForHonest, Delivered, DeliveredAt, Majority, voters, opposed}
+use Rattle.resilience.proofs.Witness.Events.{row, is-kind, sameBytes, bytes-same, same-bytes, only, only-in}
 
 -- ---- "if a then b" as a test
 
@@ -206,14 +206,54 @@ proposal-true N earlier p h kind honest =
       members-true sameVote vote-same (z .votes) (p .votes) vs,
     )
 
--- ---- want of places or buffer
+-- ---- want of places or buffer, and packets too long
+
+-- no event of kind k
+unfoldable pub noneTest : ℕ → List Event → Bool
+noneTest k log = all (λ e. not (eqb (row e .kind) k)) log
+
+pub none-true : (k : ℕ) (log : List Event) → noneTest k log ≡ true → (e : Event) → List·Memᴰ e log → eqb (row e .kind) k ≡ true → ⊥
+unfolding noneTest
+none-true k log h e m q = clashing q (not-true (eqb (row e .kind) k) (all-true _ h e m))
 
 unfoldable pub enoughTest : List Event → Bool
-enoughTest log = all (λ e. not (eqb (row e .kind) 5)) log
+unfolding noneTest
+enoughTest log = noneTest 5 log && noneTest 6 log
 
 pub enough-true : (log : List Event) → enoughTest log ≡ true → Enough log
-unfolding enoughTest Enough
-enough-true log h beat i m = false≢true (all-true _ h (lacked beat i) m)
+unfolding enoughTest
+enough-true log h = record {
+  own = λ beat i m. none-true 5 log (and-left (noneTest 5 log) _ h) (lacked beat i) m refl;
+  packets = λ beat j bytes m. none-true 6 log (and-right (noneTest 5 log) _ h) (turnedAway beat j bytes) m refl;
+}
+
+-- the event sent these bytes
+abbrev sendsBytes : List ℕ → Event → Bool
+sendsBytes bytes e = eqb (row e .kind) 3 && sameBytes (row e .bytes) bytes
+
+-- what is turned away was not sent before
+unfoldable packetsTest : List Event → Bool
+packetsTest [] = true
+packetsTest (e ∷ older) = implies (eqb (row e .kind) 6) (not (any (sendsBytes (row e .bytes)) older)) && packetsTest older
+
+packets-at : (newer older : List Event) (beat j : ℕ) (bytes : List ℕ) → packetsTest (newer ++ (turnedAway beat j bytes ∷ older)) ≡ true
+    → any (sendsBytes bytes) older ≡ false
+unfolding packetsTest
+packets-at [] older beat j bytes h = not-true (any (sendsBytes bytes) older) (and-left (not (any (sendsBytes bytes) older)) _ h)
+packets-at (e ∷ newer) older beat j bytes h = packets-at newer older beat j bytes (and-right (implies (eqb (row e .kind) 6) _) _ h)
+
+unfoldable pub enoughForHonestTest : List Event → Bool
+unfolding noneTest packetsTest
+enoughForHonestTest log = noneTest 5 log && packetsTest log
+
+pub enough-for-honest-true : (log : List Event) → enoughForHonestTest log ≡ true → EnoughForHonest log
+unfolding enoughForHonestTest
+enough-for-honest-true log h = record {
+  own = λ beat i m. none-true 5 log (and-left (noneTest 5 log) _ h) (lacked beat i) m refl;
+  packets = λ newer older beat j bytes e b i m.
+      clashing (any-holds (sendsBytes bytes) (sent b i bytes) m (same-bytes bytes))
+      (packets-at newer older beat j bytes (ap packetsTest (sym e) ∙ and-right (noneTest 5 log) _ h));
+}
 
 -- ---- delivery
 
@@ -312,6 +352,7 @@ blocksOf (sent b i bytes) = []
 blocksOf (given b i bytes false) = []
 blocksOf (given b i bytes true) = packetOf bytes .blocks
 blocksOf (lacked b i) = []
+blocksOf (turnedAway b i bytes) = []
 
 -- these blocks and those that are not among them yet
 unfoldable addNew : List Block → List Block → List Block

@@ -6,6 +6,7 @@ use Prim.Native.Nat.{_≤_}
 use mathlib.Core.Bool.{false≢true}
 use mathlib.Core.Path.{sym, _∙_}
 use denote.Ref.{now}
+use Rattle.protocol.specs.Limits.{loom}
 use Rattle.protocol.specs.Lent.{BlocksFit, VotesFit}
 use Rattle.protocol.proofs.Store.Sound.{places-few}
 use Rattle.protocol.proofs.Lent.Rows as rows
@@ -35,19 +36,19 @@ counted c = c .before .before
 abbrev start : tie.Else4 → tie.Start
 start c = c .before .before .before .before .before .before .before .before .before .before .before .before
 
-blocks-fit : (c : tie.Else4) → let a = start c .args in BlocksFit (a .blocks-used) (now (a .blocks)) × (a .blocks-used ≤ 2048)
+blocks-fit : (c : tie.Else4) → let a = start c .args in BlocksFit (a .blocks-used) (now (a .blocks)) × (a .blocks-used ≤ loom .blocks)
 blocks-fit c =
     let d = c .before .before in
     let e = d .before .before in
     let h = leb-true _ _ (sym (d .before .fits2 .ensures) ∙ not-false _ (d .if3 .left)) in
-    let few = places-few _ (sym (e .before .places-sound .ensures) ∙ not-false _ (e .if2 .left)) in
+    let few = places-few _ _ (sym (e .before .places-sound .ensures) ∙ not-false _ (e .if2 .left)) in
     (rows.blocks-fit _ _ h, omega arith)
 
-votes-fit : (c : tie.Else4) → let a = start c .args in VotesFit (a .votes-used) (now (a .votes)) × (a .votes-used ≤ 8192)
+votes-fit : (c : tie.Else4) → let a = start c .args in VotesFit (a .votes-used) (now (a .votes)) × (a .votes-used ≤ loom .votes)
 votes-fit c =
     let e = c .before .before .before .before in
     let h = leb-true _ _ (sym (c .before .fits3 .ensures) ∙ not-false _ (c .if4 .left)) in
-    let few = places-few _ (sym (e .before .places-sound .ensures) ∙ not-false _ (e .if2 .left)) in
+    let few = places-few _ _ (sym (e .before .places-sound .ensures) ∙ not-false _ (e .if2 .left)) in
     (rows.votes-fit _ _ h, omega arith)
 
 returns-6 : tie.Need-returns-6

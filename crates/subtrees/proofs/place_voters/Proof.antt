@@ -5,19 +5,20 @@ use Prim.Native.Nat.{ℕ, _-_, _≤_}
 use mathlib.Core.Path.{_≡_, ap, sym, _∙_}
 use lib.ListN.{length, length-replicate}
 use denote.Ref.{now}
+use Rattle.protocol.specs.Limits.{loom}
 use Rattle.subtrees.proofs.Handing.{VotersPlaced, placed-none, placed-more, placed-all}
 use Rattle.subtrees.proofs.place_voters.Statement.{statement}
 use Rattle.subtrees.proofs.place_voters.Tie as tie
 
 abbrev Inv-loop : tie.InvT-loop
-Inv-loop blocks used links slots numbers masks₀ v₀ masks v = (v ≤ 64) × (length masks ≡ 2048) × VotersPlaced blocks used slots numbers v masks
+Inv-loop blocks used links slots numbers masks₀ v₀ masks v = (v ≤ 64) × (length masks ≡ loom .blocks) × VotersPlaced blocks used slots numbers v masks
 
 abbrev μ-loop : tie.MeasureT-loop
 μ-loop blocks used links slots numbers masks₀ v₀ masks v = 64 - v
 
--- the words lent are 2048
-lent : (s : tie.Start Inv-loop μ-loop) → length (now (s .args .masks)) ≡ 2048
-lent s = ap length (s .pre .6) ∙ length-replicate {A = ℕ} 2048 0
+-- as many words are lent as a loom may have blocks
+lent : (s : tie.Start Inv-loop μ-loop) → length (now (s .args .masks)) ≡ loom .blocks
+lent s = ap length (s .pre .6) ∙ length-replicate {A = ℕ} (loom .blocks) 0
 
 loop-holds : tie.Need-loop-holds Inv-loop μ-loop
 loop-holds c =

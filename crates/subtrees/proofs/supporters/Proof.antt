@@ -3,6 +3,7 @@ use borrow.Author.Needs.{needs}
 use native.Mathlib.Omega.{arith}
 use Prim.Native.Nat.{ℕ, _+_, _-_, _≤_}
 use mathlib.Core.Path.{_≡_, ap, sym, _∙_}
+use Rattle.protocol.specs.Limits.{loom}
 use Rattle.subtrees.specs.Places.{Parents}
 use lib.ListN.{length, length-replicate}
 use denote.Ref.{now}
@@ -15,15 +16,15 @@ use Rattle.subtrees.proofs.supporters.Tie as tie
 
 abbrev Inv-loop : tie.InvT-loop
 Inv-loop blocks used slots numbers parents masks₀ i₀ masks i =
-    (i ≤ used) × (1 ≤ i) × (used ≤ 2048) × (length masks ≡ 2048) × (length parents ≡ 2048) × Parents blocks used parents
+    (i ≤ used) × (1 ≤ i) × (used ≤ loom .blocks) × (length masks ≡ loom .blocks) × (length parents ≡ loom .blocks) × Parents blocks used parents
     × Subtrees blocks used slots numbers i masks
 
 abbrev μ-loop : tie.MeasureT-loop
 μ-loop blocks used slots numbers parents masks₀ i₀ masks i = i
 
--- the words lent are 2048
-lent : (s : tie.Start Inv-loop μ-loop) → length (now (s .args .masks)) ≡ 2048
-lent s = ap length (s .pre .6) ∙ length-replicate {A = ℕ} 2048 0
+-- as many words are lent as a loom may have blocks
+lent : (s : tie.Start Inv-loop μ-loop) → length (now (s .args .masks)) ≡ loom .blocks
+lent s = ap length (s .pre .6) ∙ length-replicate {A = ℕ} (loom .blocks) 0
 
 parent-places-requires : tie.Need-parent-places-requires Inv-loop μ-loop
 parent-places-requires c κs =

@@ -10,7 +10,7 @@ index-spec {M} =
     let s₁ = tie.spec {M = M} (λ c. search needs) (λ c. search needs) (λ c. search needs) (λ c. search needs) (λ c. search needs) (λ c. search needs) in
     let s₂ = s₁ (λ c. search needs) (λ c. search needs) (λ c. search needs) (λ c. search needs) (λ c. search needs) (λ c. search needs) in
     let s₃ = s₂ (λ c. search needs) (λ c. search needs) (λ c. search needs) (λ c. search needs) (λ c. search needs) (λ c. search needs) in
-    let s₄ = s₃ (λ c. search needs) (λ c. search needs) (λ c. search needs) (λ c. search needs) in
+    let s₄ = s₃ (λ c. search needs) (λ c. search needs) (λ c. search needs) (λ c. search needs) (λ c. search needs) in
     tie.close
     (s₄
     (λ c. sym (ap indexOf (c .enum-told .given .1)))
@@ -21,9 +21,9 @@ index-spec {M} =
     (λ c. sym (ap indexOf (c .enum-told6 .given .1)))
     (λ c. sym (ap indexOf (c .enum-told7 .given .1)))
     (λ c. sym (ap indexOf (c .enum-told8 .given .1)))
+    (λ c. sym (ap indexOf (c .enum-told9 .given .1)))
     (λ c. sym (ap indexOf (c .before .refusal .given .1)))
     (λ c. sym (ap indexOf (c .before .refusal2 .given .1)))
-    (λ c. sym (ap indexOf (c .enum-told9 .given .1)))
     (λ c. sym (ap indexOf (c .enum-told10 .given .1)))
     (λ c. sym (ap indexOf (c .enum-told11 .given .1)))
     (λ c. sym (ap indexOf (c .enum-told12 .given .1)))
@@ -34,4 +34,5 @@ index-spec {M} =
     (λ c. sym (ap indexOf (c .enum-told17 .given .1)))
     (λ c. sym (ap indexOf (c .enum-told18 .given .1)))
     (λ c. sym (ap indexOf (c .enum-told19 .given .1)))
-    (λ c. sym (ap indexOf (c .enum-told20 .given .1))))
+    (λ c. sym (ap indexOf (c .enum-told20 .given .1)))
+    (λ c. sym (ap indexOf (c .enum-told21 .given .1))))

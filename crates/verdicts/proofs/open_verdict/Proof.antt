@@ -9,13 +9,13 @@ use Rattle.verdicts.proofs.open_verdict.Tie as tie
 
 returns : tie.Need-returns
 unfolding openTests first
-returns c = simp (sym (c .before .within .ensures) ∙ not-true _ (c .if1 .taken))
+returns c = simp (sym (c .before .nodes-sound .ensures) ∙ not-true _ (c .if1 .taken))
 
 returns-2 : tie.Need-returns-2
 unfolding openTests first
 returns-2 c =
     let d = c .before .before in
-    simp (sym (d .before .within .ensures) ∙ not-false _ (d .if1 .left), le-ltb _ _ (c .if2 .taken))
+    simp (sym (d .before .nodes-sound .ensures) ∙ not-false _ (d .if1 .left), le-ltb _ _ (c .if2 .taken))
 
 returns-3 : tie.Need-returns-3
 unfolding openTests first
@@ -23,9 +23,9 @@ returns-3 c =
     let e = c .before .before in
     let d = e .before .before in
     simp (
-      sym (d .before .within .ensures) ∙ not-false _ (d .if1 .left),
+      sym (d .before .nodes-sound .ensures) ∙ not-false _ (d .if1 .left),
       lt-ltb _ _ (e .if2 .left),
-      sym (c .before .within2 .ensures) ∙ not-true _ (c .if3 .taken),
+      sym (c .before .within .ensures) ∙ not-true _ (c .if3 .taken),
     )
 
 returns-4 : tie.Need-returns-4
@@ -35,10 +35,10 @@ returns-4 c =
     let e = f .before .before in
     let d = e .before .before in
     simp (
-      sym (d .before .within .ensures) ∙ not-false _ (d .if1 .left),
+      sym (d .before .nodes-sound .ensures) ∙ not-false _ (d .if1 .left),
       lt-ltb _ _ (e .if2 .left),
-      sym (f .before .within2 .ensures) ∙ not-false _ (f .if3 .left),
-      sym (c .before .within3 .ensures) ∙ not-true _ (c .if4 .taken),
+      sym (f .before .within .ensures) ∙ not-false _ (f .if3 .left),
+      sym (c .before .within2 .ensures) ∙ not-true _ (c .if4 .taken),
     )
 
 returns-5 : tie.Need-returns-5
@@ -49,10 +49,10 @@ returns-5 c =
     let e = f .before .before in
     let d = e .before .before in
     simp (
-      sym (d .before .within .ensures) ∙ not-false _ (d .if1 .left),
+      sym (d .before .nodes-sound .ensures) ∙ not-false _ (d .if1 .left),
       lt-ltb _ _ (e .if2 .left),
-      sym (f .before .within2 .ensures) ∙ not-false _ (f .if3 .left),
-      sym (g .before .within3 .ensures) ∙ not-false _ (g .if4 .left),
+      sym (f .before .within .ensures) ∙ not-false _ (f .if3 .left),
+      sym (g .before .within2 .ensures) ∙ not-false _ (g .if4 .left),
       sym (c .before .places-sound .ensures) ∙ not-true _ (c .if5 .taken),
     )
 
@@ -64,10 +64,10 @@ returns-6 c =
     let e = f .before .before in
     let d = e .before .before in
     simp (
-      sym (d .before .within .ensures) ∙ not-false _ (d .if1 .left),
+      sym (d .before .nodes-sound .ensures) ∙ not-false _ (d .if1 .left),
       lt-ltb _ _ (e .if2 .left),
-      sym (f .before .within2 .ensures) ∙ not-false _ (f .if3 .left),
-      sym (g .before .within3 .ensures) ∙ not-false _ (g .if4 .left),
+      sym (f .before .within .ensures) ∙ not-false _ (f .if3 .left),
+      sym (g .before .within2 .ensures) ∙ not-false _ (g .if4 .left),
       sym (c .before .places-sound .ensures) ∙ not-false _ (c .if5 .left),
     )
 

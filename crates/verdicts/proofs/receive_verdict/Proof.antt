@@ -21,7 +21,7 @@ use Rattle.admission.specs.Seen.{BlocksSeen, VotesSeen}
 use Rattle.verdicts.specs.Lent.{lent}
 use Rattle.verdicts.proofs.Passed.{Ready}
 use Rattle.verdicts.proofs.Sequence.{not-passed, refused-before, sound-before, receive-front}
-use Rattle.verdicts.proofs.Receive.{Left, misformed, block-refused, vote-refused, entries-passed, header-refused, blocks-full, votes-full, room}
+use Rattle.verdicts.proofs.Receive.{Left, too-long, misformed, block-refused, vote-refused, entries-passed, header-refused, blocks-full, votes-full, room}
 use Rattle.verdicts.proofs.receive_verdict.Statement.{statement}
 use Rattle.verdicts.proofs.receive_verdict.Tie as tie
 
@@ -74,16 +74,34 @@ lengths t =
 
 returns-2 : tie.Need-returns-2
 returns-2 c =
-    let t = c .before .before in
-    (misformed _ _ _ _ (begun t .indexed-verdict .ensures .0) (t .enum-told2 .given .1) (c .before .well-formed .ensures) (not-true _ (c .if1 .taken)), λ e. absurd (not-passed e))
+    let l = c .before .before in
+    let t = l .before in
+    (too-long _ _ _ _ (begun t .indexed-verdict .ensures .0) (t .enum-told2 .given .1) (l .too-long .ensures) (c .if1 .taken), λ e. absurd (not-passed e))
+
+-- ---- where the packet is not too long
+
+abbrev short : tie.Else1 → tie.After-enum-told2
+short o = o .before .before .before
+
+returns-3 : tie.Need-returns-3
+returns-3 c =
+    let o = c .before in
+    let t = short o in (
+      misformed _ _ _ _ (begun t .indexed-verdict .ensures .0) (t .enum-told2 .given .1) (o .before .before .too-long .ensures) (o .if1 .left)
+          (o .before .well-formed .ensures) (not-true _ (c .if2 .taken)),
+      λ e. absurd (not-passed e),
+    )
 
 -- ---- blocks
 
-abbrev formed : tie.After-fits2 → tie.Else1
+abbrev formed : tie.After-fits2 → tie.Else2
 formed i = i .before .before
 
+abbrev read : tie.After-fits2 → tie.Else1
+read i = formed i .before
+
 abbrev passed : tie.After-fits2 → tie.After-enum-told2
-passed i = formed i .before .before
+passed i = short (read i)
 
 admit-blocks-requires : tie.Need-admit-blocks-requires
 admit-blocks-requires c κs =
@@ -102,24 +120,25 @@ admit-blocks-requires c κs =
       subst⁻¹ (BlocksSeen _ _ _ 0) (start t .pre .0) (blocks-begin _ _ _ 1056),
     )
 
-abbrev admitted : tie.Else2 → tie.After-admit-blocks
+abbrev admitted : tie.Else3 → tie.After-admit-blocks
 admitted d = d .before .before .before .before .before
 
 abbrev fitted : tie.After-admit-blocks → tie.After-fits2
 fitted a = a .before .before .before
 
 -- all blocks are allowed
-good : (d : tie.Else2) → let i = fitted (admitted d) in length (packetOf (now (start (passed i) .args .bytes)) .blocks) ≤ admitted d .admit-blocks .result .bad
-good d = omega (arith, d .if2 .left, header-blocks _ (fitted (admitted d) .before .header-of .ensures))
+good : (d : tie.Else3) → let i = fitted (admitted d) in length (packetOf (now (start (passed i) .args .bytes)) .blocks) ≤ admitted d .admit-blocks .result .bad
+good d = omega (arith, d .if3 .left, header-blocks _ (fitted (admitted d) .before .header-of .ensures))
 
-returns-3 : tie.Need-returns-3
-returns-3 c =
+returns-4 : tie.Need-returns-4
+returns-4 c =
     let a = c .before .before .before .before .before in
     let i = fitted a in
     let f = formed i in
-    let t = passed i in (
-      block-refused _ _ _ _ (begun t .indexed-verdict .ensures .0) (t .enum-told2 .given .1) (f .before .well-formed .ensures) (not-false _ (f .if1 .left))
-          (header-blocks _ (i .before .header-of .ensures)) (a .admit-blocks .ensures .0) (c .if2 .taken),
+    let o = read i in
+    let t = short o in (
+      block-refused _ _ _ _ (begun t .indexed-verdict .ensures .0) (t .enum-told2 .given .1) (o .before .before .too-long .ensures) (o .if1 .left) (o .before .well-formed .ensures) (not-false _ (f .if2 .left))
+          (header-blocks _ (i .before .header-of .ensures)) (a .admit-blocks .ensures .0) (c .if3 .taken),
       λ e. absurd (not-passed e),
     )
 
@@ -134,23 +153,24 @@ admit-votes-requires c κs =
     let x = a .admit-blocks .ensures .1 (good d) in
     (T .blocks .fit, T .blocks .differ, x .1, omega (arith, ready t .few-blocks, counts t .0, lengths t .2, a .admit-blocks .kept .1 .1 .1 .1 .1 .1 .0), x .2)
 
-abbrev asked : tie.Else3 → tie.After-admit-votes
+abbrev asked : tie.Else4 → tie.After-admit-votes
 asked w = w .before .before .before
 
-abbrev before-votes : tie.After-admit-votes → tie.Else2
+abbrev before-votes : tie.After-admit-votes → tie.Else3
 before-votes v = v .before .before .before
 
-returns-4 : tie.Need-returns-4
-returns-4 c =
+returns-5 : tie.Need-returns-5
+returns-5 c =
     let v = c .before .before .before in
     let d = before-votes v in
     let a = admitted d in
     let i = fitted a in
     let f = formed i in
-    let t = passed i in
+    let o = read i in
+    let t = short o in
     let h = i .before .header-of .ensures in (
-      vote-refused _ _ _ _ (begun t .indexed-verdict .ensures .0) (t .enum-told2 .given .1) (f .before .well-formed .ensures) (not-false _ (f .if1 .left))
-          (header-blocks _ h) (a .admit-blocks .ensures .0) (d .if2 .left) (header-votes _ h) (v .admit-votes .ensures .0) (c .if3 .taken),
+      vote-refused _ _ _ _ (begun t .indexed-verdict .ensures .0) (t .enum-told2 .given .1) (o .before .before .too-long .ensures) (o .if1 .left) (o .before .well-formed .ensures) (not-false _ (f .if2 .left))
+          (header-blocks _ h) (a .admit-blocks .ensures .0) (d .if3 .left) (header-votes _ h) (v .admit-votes .ensures .0) (c .if4 .taken),
       λ e. absurd (not-passed e),
     )
 
@@ -169,31 +189,32 @@ left c =
     let a = admitted d in
     let i = fitted a in
     let f = formed i in
-    let t = passed i in
+    let o = read i in
+    let t = short o in
     let h = i .before .header-of .ensures in
-    entries-passed _ _ _ _ (begun t .indexed-verdict .ensures .0) (t .enum-told2 .given .1) (f .before .well-formed .ensures) (not-false _ (f .if1 .left))
-    (header-blocks _ h) (a .admit-blocks .ensures .0) (d .if2 .left) (header-votes _ h) (v .admit-votes .ensures .0) (w .if3 .left) (c .header-allowed .ensures)
+    entries-passed _ _ _ _ (begun t .indexed-verdict .ensures .0) (t .enum-told2 .given .1) (o .before .before .too-long .ensures) (o .if1 .left) (o .before .well-formed .ensures) (not-false _ (f .if2 .left))
+    (header-blocks _ h) (a .admit-blocks .ensures .0) (d .if3 .left) (header-votes _ h) (v .admit-votes .ensures .0) (w .if4 .left) (c .header-allowed .ensures)
 
-returns-5 : tie.Need-returns-5
-returns-5 c = let a = c .before in (header-refused _ _ _ _ (ready (told a)) (a .header-allowed .result) (left a) (not-true _ (c .if4 .taken)), λ e. absurd (not-passed e))
+returns-6 : tie.Need-returns-6
+returns-6 c = let a = c .before in (header-refused _ _ _ _ (ready (told a)) (a .header-allowed .result) (left a) (not-true _ (c .if5 .taken)), λ e. absurd (not-passed e))
 
 -- how many blocks are new
 new-blocks : (c : tie.After-header-allowed) → let b = admitted (before-votes (asked (c .before))) in let a = start (told c) .args in
     a .blocks-used + b .admit-blocks .result .new ≡ length (addBlocks (entries (rowsOf makeBlock (now (a .blocks)) (a .blocks-used))) (packetOf (now (a .bytes)) .blocks))
 new-blocks c = let d = before-votes (asked (c .before)) in admitted d .admit-blocks .ensures .1 (good d) .0
 
-sub-if5 : tie.Need-sub-if5
-sub-if5 c = omega (arith, ready (told (c .before .before)) .fit-blocks, c .places-in .ensures)
+sub-if6 : tie.Need-sub-if6
+sub-if6 c = omega (arith, ready (told (c .before .before)) .fit-blocks, c .places-in .ensures)
 
-returns-6 : tie.Need-returns-6
-returns-6 c =
+returns-7 : tie.Need-returns-7
+returns-7 c =
     let p = c .before .before in
     let g = p .before in
     let a = g .before in
-    (blocks-full _ _ _ _ (ready (told a)) (a .header-allowed .result) (left a) (not-false _ (g .if4 .left)) (p .places-in .ensures) (new-blocks a) (c .if5 .taken), λ e. absurd (not-passed e))
+    (blocks-full _ _ _ _ (ready (told a)) (a .header-allowed .result) (left a) (not-false _ (g .if5 .left)) (p .places-in .ensures) (new-blocks a) (c .if6 .taken), λ e. absurd (not-passed e))
 
 -- where there is room for the blocks
-abbrev roomy : tie.After-fits3 → tie.Else5
+abbrev roomy : tie.After-fits3 → tie.Else6
 roomy k = k .before .before
 
 abbrev allowed : tie.After-fits3 → tie.After-header-allowed
@@ -223,23 +244,23 @@ counted q = q .before .before .before .before
 abbrev noted : tie.After-places-in2 → tie.After-fits3
 noted q = counted q .before .before .before
 
-sub-if6 : tie.Need-sub-if6
-sub-if6 q = omega (arith, ready (told (allowed (noted q))) .fit-votes, q .places-in2 .ensures)
+sub-if7 : tie.Need-sub-if7
+sub-if7 q = omega (arith, ready (told (allowed (noted q))) .fit-votes, q .places-in2 .ensures)
 
-returns-7 : tie.Need-returns-7
-returns-7 c =
+returns-8 : tie.Need-returns-8
+returns-8 c =
     let q = c .before in
     let k = noted q in
     let o = roomy k in
     let p = o .before .before in
     let a = allowed k in (
-      votes-full _ _ _ _ (ready (told a)) (a .header-allowed .result) (left a) (not-false _ (p .before .if4 .left)) (p .places-in .ensures) (new-blocks a) (o .if5 .left)
-          (q .places-in2 .ensures) (k .before .kept-from .ensures) (counted q .new-votes .ensures .0) (c .if6 .taken),
+      votes-full _ _ _ _ (ready (told a)) (a .header-allowed .result) (left a) (not-false _ (p .before .if5 .left)) (p .places-in .ensures) (new-blocks a) (o .if6 .left)
+          (q .places-in2 .ensures) (k .before .kept-from .ensures) (counted q .new-votes .ensures .0) (c .if7 .taken),
       λ e. absurd (not-passed e),
     )
 
-returns-8 : tie.Need-returns-8
-returns-8 c =
+returns-9 : tie.Need-returns-9
+returns-9 c =
     let q = c .before in
     let n = counted q in
     let k = noted q in
@@ -249,9 +270,9 @@ returns-8 c =
     let t = told a in
     let v = asked (a .before) in
     let b = admitted (before-votes v) in
-    let named = v .admit-votes .ensures .1 (omega (arith, a .before .if3 .left, header-votes _ (fitted b .before .header-of .ensures))) in (
-      room _ _ _ _ (ready t) (a .header-allowed .result) (left a) (not-false _ (p .before .if4 .left)) (p .places-in .ensures) (new-blocks a) (o .if5 .left)
-          (q .places-in2 .ensures) (k .before .kept-from .ensures) (n .new-votes .ensures .0) (c .if6 .left),
+    let named = v .admit-votes .ensures .1 (omega (arith, a .before .if4 .left, header-votes _ (fitted b .before .header-of .ensures))) in (
+      room _ _ _ _ (ready t) (a .header-allowed .result) (left a) (not-false _ (p .before .if5 .left)) (p .places-in .ensures) (new-blocks a) (o .if6 .left)
+          (q .places-in2 .ensures) (k .before .kept-from .ensures) (n .new-votes .ensures .0) (c .if7 .left),
       λ e. record {
         blocks-fit = omega (arith, ready t .few-blocks, counts t .0, lengths t .2, b .admit-blocks .kept .1 .1 .1 .1 .1 .1 .0, v .admit-votes .kept .1 .1 .1 .1 .1 .1 .1 .0);
         votes-fit = omega (arith, ready t .few-votes, counts t .1, lengths t .3, n .new-votes .kept .1 .1 .1 .1 .1 .1 .0);
@@ -265,8 +286,8 @@ returns-8 c =
 pub receive-verdict-spec : {M : Type 1} → statement M
 receive-verdict-spec {M} =
     let s₁ = tie.spec {M = M} (λ c. search needs) (λ c. search needs) indexed-verdict-requires (λ c. search needs) returns (λ c. search needs) in
-    let s₂ = s₁ (λ c κs. search needs) returns-2 (λ c κs. search needs) (λ c κs. search needs) (λ c. search needs) admit-blocks-requires in
-    let s₃ = s₂ (λ c. search needs) returns-3 (λ c. search needs) admit-votes-requires (λ c. search needs) returns-4 (λ c κs. search needs) in
-    let s₄ = s₃ (λ c. search needs) returns-5 (λ c κs. search needs) sub-if5 (λ c. search needs) returns-6 (λ c κs. search needs) in
-    let s₅ = s₄ (λ c κs. search needs) (λ c. sym (lengths (told (allowed (c .before))) .1)) new-votes-requires (λ c κs. search needs) sub-if6 in
-    tie.close (s₅ (λ c. search needs) (λ c. search needs) returns-7 (λ c. search needs) (λ c. search needs) returns-8)
+    let s₂ = s₁ (λ c κs. search needs) (λ c κs. search needs) returns-2 returns-3 (λ c κs. search needs) (λ c κs. search needs) (λ c. search needs) admit-blocks-requires in
+    let s₃ = s₂ (λ c. search needs) returns-4 (λ c. search needs) admit-votes-requires (λ c. search needs) returns-5 (λ c κs. search needs) in
+    let s₄ = s₃ (λ c. search needs) returns-6 (λ c κs. search needs) sub-if6 (λ c. search needs) returns-7 (λ c κs. search needs) in
+    let s₅ = s₄ (λ c κs. search needs) (λ c. sym (lengths (told (allowed (c .before))) .1)) new-votes-requires (λ c κs. search needs) sub-if7 in
+    tie.close (s₅ (λ c. search needs) (λ c. search needs) returns-8 (λ c. search needs) (λ c. search needs) returns-9)

@@ -1,0 +1,14 @@
+-- A number that names no profile is refused. Assumes nothing.
+use Prim.Native.Nat.{ℕ}
+use mathlib.Core.Bool.{false, and-false}
+use mathlib.Core.Path.{_≡_, refl}
+use Rattle.protocol.specs.Limits.{limitsOf}
+use Rattle.protocol.specs.Sound.{between, settingsSound, sound}
+use Rattle.protocol.specs.Refusal.{first}
+use Rattle.protocol.specs.Calls.Open.{openTests}
+use Rattle.protocol.specs.Lent.{openVerdict, openLent, lentSound}
+use Rattle.capi.specs.Structs.{settingsIn, UnnamedRefused}
+
+pub unnamed-refused : UnnamedRefused
+unfolding UnnamedRefused settingsIn openLent openVerdict openTests first between limitsOf lentSound sound settingsSound
+unnamed-refused s a b m = rw (a, b) (refl, simp and-false)

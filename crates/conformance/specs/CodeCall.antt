@@ -1,0 +1,13 @@
+-- What the code promises of each call in a list of calls on one node (protocol/specs/CallList). Assumes nothing.
+use Rattle.protocol.specs.declared.Settings.{Settings}
+use Rattle.protocol.specs.Lent.{Lent}
+use Rattle.protocol.specs.CallList.{Call, Receive, Propose, Vote, Merge}
+use Rattle.answers.specs.declared.Reply.{Reply}
+use Rattle.answers.specs.Promises.{Receives, Proposes, Votes, Merges}
+
+-- on the memory m
+abbrev pub promised : Settings → Lent → Call → Lent → Reply → Type 0
+promised s m (Receive beat bytes) = Receives s m beat bytes
+promised s m (Propose beat number) = Proposes s m beat number
+promised s m (Vote beat) = Votes s m beat
+promised s m (Merge beat) = Merges s m beat

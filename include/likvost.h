@@ -1,10 +1,19 @@
 /* Likvost: a consensus node for a small network whose members sleep and wake (RLMD-GHOST), proved.
  *
  * The caller lends all memory. A node is its settings, its clock and two tables of 64-bit words:
- *   blocks: 6 words to a row: number lower, number upper, parent lower, parent upper, slot, mark      1 to 2,048 rows
- *   votes:  5 words to a row: voter, slot, number lower, number upper, mark                           1 to 8,192 rows
+ *   blocks: 6 words to a row: number lower, number upper, parent lower, parent upper, slot, mark
+ *   votes:  5 words to a row: voter, slot, number lower, number upper, mark
  * A table of p places has LIKVOST_BLOCK_WORDS * p words, resp. LIKVOST_VOTE_WORDS * p. `*_used` counts the rows in use.
  * A number has two halves, lower and upper. A mark is 1 (in view) or 0 (waiting).
+ *
+ * The profile in the settings says whose limits the node keeps to. Looms and racks may be nodes of one network.
+ *           nodes     block places, block 0 included   vote places   packets that likvost_receive reads
+ *   loom    1 to 64   1 to 2,048                       1 to 8,192    of any length
+ *   rack    1 to 16   1 to 64                          1 to 256      up to 4,096 bytes
+ * Where a rack is in the network, the wide gossip of every honest node, looms too, must stay within 4,096 bytes: 36 * blocks (without
+ * block 0) + 21 * votes at most 4,071. With nodes * (expiry + 2) votes (see below) that is an expiry of 3 at most for 16 nodes and 63 blocks,
+ * though 256 places would do for 14. A full rack writes 7,669 bytes (narrow 4,605), and no rack reads them.
+ *
  * Only likvost_* calls write this memory; keep it as the last call left it. The node keeps nothing else.
  *
  * A beat is 3 * slot + phase: phase 0 propose, 1 vote, 2 merge. The first beat of a fresh node is 3.
@@ -50,15 +59,25 @@ extern "C" {
 #define LIKVOST_BLOCK_WORDS 6
 #define LIKVOST_VOTE_WORDS 5
 
-/* No node sends a packet of more bytes: drop longer ones before likvost_receive, which takes long to refuse them. */
+/* No node sends a packet of more bytes: on a loom drop longer ones before likvost_receive, which takes long to refuse them. */
 #define LIKVOST_LARGEST_PACKET 245749
+
+/* The longest packet that a rack reads: likvost_receive refuses longer ones by 24, whatever they hold. */
+#define LIKVOST_RACK_PACKET 4096
+
+/* The profiles. Any other number, 0 included, names none: likvost_open refuses it by 1, every other call by 6. */
+enum {
+    LIKVOST_LOOM = 1, /* a loom controller */
+    LIKVOST_RACK = 2  /* a rack controller, whose limits are lower */
+};
 
 /* What a node is opened with. All nodes of a network have the same nodes, expiry and depth. */
 typedef struct {
-    uint64_t nodes;  /* 1 to 64 */
-    uint64_t own;    /* this node's index, below nodes */
-    uint64_t expiry; /* E: votes of the last E slots count, 1 to 4,096; votes of E + 2 slots should find places */
-    uint64_t depth;  /* K: the deep block is at least K slots old, 1 to 4,096 */
+    uint64_t profile; /* LIKVOST_LOOM or LIKVOST_RACK: the limits of nodes, of both tables and of packets */
+    uint64_t nodes;   /* 1 to 64, on a rack 1 to 16 */
+    uint64_t own;     /* this node's index, below nodes */
+    uint64_t expiry;  /* E: votes of the last E slots count, 1 to 4,096; votes of E + 2 slots should find places */
+    uint64_t depth;   /* K: the deep block is at least K slots old, 1 to 4,096 */
 } likvost_settings;
 
 /* What a node knows of time. Pass zeros to likvost_open; afterwards pass what the last call returned. */
@@ -79,7 +98,7 @@ typedef struct {
 /* Why a call was refused: the first of these that applies, in the order that each call lists. */
 enum {
     LIKVOST_OK = 0,
-    LIKVOST_NODES = 1,        /* nodes out of range */
+    LIKVOST_NODES = 1,        /* nodes out of range, or no such profile */
     LIKVOST_OWN = 2,          /* own index not below nodes */
     LIKVOST_EXPIRY = 3,       /* expiry out of range */
     LIKVOST_DEPTH = 4,        /* depth out of range */
@@ -100,22 +119,23 @@ enum {
     LIKVOST_PROPOSAL = 19,    /* no own proposal of the beat seen */
     LIKVOST_VOTE = 20,        /* a vote of the packet breaks a rule: the one with this `index` */
     LIKVOST_HEADER = 21,      /* a proposal's header names no block of the packet, or another slot */
-    LIKVOST_WIDE = 23         /* narrow writing meets a number whose upper half is not 0 */
+    LIKVOST_WIDE = 23,        /* narrow writing meets a number whose upper half is not 0 */
+    LIKVOST_LONG = 24         /* the packet is longer than this node's profile allows */
 };
 
 /* A readable message for a refusal number, for logs. */
 static inline const char *likvost_refusal_message(uint64_t refusal)
 {
     static const char *const messages[] = {
-        "carried out", "nodes out of range", "own index not below nodes", "expiry out of range", "depth out of range",
+        "carried out", "nodes out of range, or no such profile", "own index not below nodes", "expiry out of range", "depth out of range",
         "a table's length is out of range", "the lent memory is unsound", "beat below the one seen, or slot above the limit",
         "malformed packet", "a block of the packet breaks a rule", "not enough free places", "not the phase of this call",
         "beat already done", "not joined for this slot", "another node's slot", "block number already known",
         "already voted in this slot", "slot 0, before the one last merged, or above the slot seen", "buffer too short",
         "no own proposal of this beat", "a vote of the packet breaks a rule", "the proposal's header does not fit its blocks",
         "unknown refusal", /* no call is refused by 22 */
-        "narrow writing meets a number of more than 8 bytes"};
-    return refusal < 24 ? messages[refusal] : "unknown refusal";
+        "narrow writing meets a number of more than 8 bytes", "packet too long for this node"};
+    return refusal < 25 ? messages[refusal] : "unknown refusal";
 }
 
 /* The answer of a call that changes the memory. */
@@ -142,15 +162,16 @@ typedef struct {
     uint64_t length; /* how many bytes of the buffer the packet takes */
 } likvost_written;
 
-/* Block 0 alone in view, every other place zero, a fresh clock. What stood in the memory does not matter.
- * Refusals: 1 2 3 4 5. */
+/* Block 0 alone in view, every other place zero, a fresh clock. What stood in the memory does not matter. Every later call takes the same
+ * settings, the profile with them. Refusals: 1 2 3 4 5. */
 likvost_answer likvost_open(likvost_settings settings, likvost_clock clock, uint64_t *blocks, size_t blocks_len,
                             size_t *blocks_used, uint64_t *votes, size_t votes_len, size_t *votes_used);
 
 /* Takes a packet, wide or narrow: its new entries wait at the tables' ends. The first proposal of the beat's slot, in phase 0, comes into
  * view at once. A number of a narrow packet has the upper half 0. An old vote, of a slot below clock.merged - expiry, must keep the rules
  * too, but is not stored, not new and needs no place; the block that it is for comes into view with a proposal all the same.
- * Refusals: 6 7 8 9 20 21 10. With 9 and 20 `index` tells which block or vote was the first to break a rule. */
+ * A rack refuses a packet of more than LIKVOST_RACK_PACKET bytes by 24, whatever it holds.
+ * Refusals: 6 7 24 8 9 20 21 10. With 9 and 20 `index` tells which block or vote was the first to break a rule. */
 likvost_answer likvost_receive(likvost_settings settings, likvost_clock clock, uint64_t *blocks, size_t blocks_len,
                                size_t *blocks_used, uint64_t *votes, size_t votes_len, size_t *votes_used, uint64_t beat,
                                const uint8_t *packet, size_t packet_len);
@@ -188,9 +209,9 @@ likvost_found likvost_fast(likvost_settings settings, likvost_clock clock, const
 
 /* Writes the node's gossip (its whole store) or its proposal (its view) into the buffer. Bytes beyond the packet stay.
  * Write wide: the packet (kind 2 gossip, 3 proposal) has numbers of 16 bytes, and takes 25 bytes, 36 for each block but block 0 and 21 for
- * each vote: at most LIKVOST_LARGEST_PACKET. Narrow is for old boards, which read numbers of 8 bytes alone: the packet (kind 0 or 1) takes
- * 17 bytes, 20 and 13. Where one of the numbers that it would hold has an upper half that is not 0, the call is refused by 23.
- * likvost_receive reads all four kinds.
+ * each vote: at most LIKVOST_LARGEST_PACKET, and 7,669 on a rack. Narrow is for old boards, which read numbers of 8 bytes alone: the packet
+ * (kind 0 or 1) takes 17 bytes, 20 and 13. Where one of the numbers that it would hold has an upper half that is not 0, the call is refused
+ * by 23. likvost_receive reads all four kinds.
  * Refusals: 6 19 23 18. */
 likvost_written likvost_write(likvost_settings settings, likvost_clock clock, const uint64_t *blocks, size_t blocks_len,
                               size_t blocks_used, const uint64_t *votes, size_t votes_len, size_t votes_used, bool proposal,

@@ -7,7 +7,7 @@
 enum { BLOCKS = 4, VOTES = 12, SLOTS = 1000, BUFFER = 128 };
 enum { BLOCK_WORDS = LIKVOST_BLOCK_WORDS * BLOCKS, VOTE_WORDS = LIKVOST_VOTE_WORDS * VOTES };
 
-static const likvost_settings settings = {.nodes = 3, .own = 0, .expiry = 2, .depth = 1};
+static const likvost_settings settings = {.profile = LIKVOST_LOOM, .nodes = 3, .own = 0, .expiry = 2, .depth = 1};
 static likvost_clock now;
 static uint64_t blocks[BLOCK_WORDS], votes[VOTE_WORDS];
 static size_t blocks_used, votes_used;

@@ -1,4 +1,5 @@
-/* How much stack each call takes on the largest tables: it is made in a thread whose stack was painted before. Fails above 256 KiB. */
+/* How much stack each call takes on the largest tables, of a loom and of a rack: it is made in a thread whose stack was painted before.
+ * Fails above 256 KiB. */
 #define _XOPEN_SOURCE 700
 #include <pthread.h>
 #include <stdio.h>
@@ -6,18 +7,28 @@
 #include <string.h>
 #include "likvost.h"
 
-enum { BLOCKS = 2048, VOTES = 8192, STACK = 1 << 20, PAINT = 0xA5 };
-enum { BLOCK_WORDS = LIKVOST_BLOCK_WORDS * BLOCKS, VOTE_WORDS = LIKVOST_VOTE_WORDS * VOTES };
+enum { STACK = 1 << 20, PAINT = 0xA5 };
 
-static likvost_settings settings = {.nodes = 64, .own = 0, .expiry = 128, .depth = 32}; /* so no vote of the packets is old */
+/* A profile and its limits. */
+typedef struct {
+    const char *name;
+    uint64_t profile, nodes, blocks, votes;
+    size_t packet;
+} limits;
+
+static const limits loom = {"loom", LIKVOST_LOOM, 64, 2048, 8192, LIKVOST_LARGEST_PACKET};
+static const limits rack = {"rack", LIKVOST_RACK, 16, 64, 256, LIKVOST_RACK_PACKET};
+
+static uint64_t last; /* the slot of the last block */
+static likvost_settings settings;
 static likvost_clock now;
-static uint64_t blocks[BLOCK_WORDS], votes[VOTE_WORDS];
-static size_t blocks_used, votes_used;
-static uint8_t packet[LIKVOST_LARGEST_PACKET], proposal[LIKVOST_LARGEST_PACKET];
-static size_t length;
+static uint64_t blocks[LIKVOST_BLOCK_WORDS * 2048], votes[LIKVOST_VOTE_WORDS * 8192];
+static size_t block_words, blocks_used, vote_words, votes_used;
+static uint8_t proposal[LIKVOST_LARGEST_PACKET], gossip[LIKVOST_LARGEST_PACKET];
+static size_t proposal_length, gossip_length;
 
-#define TABLES blocks, BLOCK_WORDS, &blocks_used, votes, VOTE_WORDS, &votes_used
-#define READ_TABLES blocks, BLOCK_WORDS, blocks_used, votes, VOTE_WORDS, votes_used
+#define TABLES blocks, block_words, &blocks_used, votes, vote_words, &votes_used
+#define READ_TABLES blocks, block_words, blocks_used, votes, vote_words, votes_used
 
 static void must(uint64_t refusal)
 {
@@ -37,19 +48,33 @@ static uint8_t *put(uint8_t *at, uint64_t number, int bytes)
 /* The number of the block of slot s: 2^64 * s + s. */
 static uint8_t *put_number(uint8_t *at, uint64_t s) { return put(put(at, s, 8), s, 8); }
 
-/* 2,047 blocks in a chain, one a slot, and 8,191 votes of 64 nodes in the last slots; as wide gossip, and as the proposal of slot 2,047. */
-static void make_packets(void)
+/* Votes of all nodes, for the block of the first slot that has votes. */
+static uint8_t *put_votes(uint8_t *at, const limits *l, uint64_t from, uint64_t to)
 {
-    uint8_t *p = put(put(packet, 2, 1), 0, 20);
-    p = put(p, BLOCKS - 1, 2);
-    for (uint64_t s = 1; s < BLOCKS; s++)
+    const uint64_t first = last - l->votes / l->nodes;
+    at = put(at, to - from, 2);
+    for (uint64_t i = from; i < to; i++)
+        at = put_number(put(put(at, i % l->nodes, 1), first + i / l->nodes, 4), first);
+    return at;
+}
+
+/* Packets that fill the tables but for one vote. The proposal of the last slot has all blocks, in a chain, one a slot, and as many of the
+ * votes as it may; the gossip has the other votes, or, if there are none, all that the proposal has. */
+static void make_packets(const limits *l)
+{
+    const uint64_t all = l->votes - 1, room = (l->packet - 25 - 36 * last) / 21, part = all < room ? all : room;
+    uint8_t *p = put_number(put(put(proposal, 3, 1), last, 4), last);
+    p = put(p, last, 2);
+    for (uint64_t s = 1; s <= last; s++)
         p = put(put_number(put_number(p, s), s - 1), s, 4);
-    p = put(p, VOTES - 1, 2);
-    for (uint64_t i = 0; i < VOTES - 1; i++)
-        p = put_number(put(put(p, i % 64, 1), 1919 + i / 64, 4), 1919);
-    length = (size_t)(p - packet);
-    memcpy(proposal, packet, length);
-    put_number(put(put(proposal, 3, 1), BLOCKS - 1, 4), BLOCKS - 1);
+    proposal_length = (size_t)(put_votes(p, l, 0, part) - proposal);
+    if (part < all) {
+        gossip_length = (size_t)(put_votes(put(put(put(gossip, 2, 1), 0, 20), 0, 2), l, part, all) - gossip);
+    } else {
+        memcpy(gossip, proposal, proposal_length);
+        put(put(gossip, 2, 1), 0, 20);
+        gossip_length = proposal_length;
+    }
 }
 
 /* Keeps the clock; ends the program if the call was refused. */
@@ -61,20 +86,20 @@ static void keep(likvost_answer a)
 
 static void nothing(void) {}
 static void open(void) { keep(likvost_open(settings, now, TABLES)); }
-static void receive(void) { keep(likvost_receive(settings, now, TABLES, 3 * 2047, packet, length)); }
-static void receive_proposal(void) { keep(likvost_receive(settings, now, TABLES, 3 * 2047, proposal, length)); }
-static void merge(void) { keep(likvost_merge(settings, now, TABLES, 3 * 2047 + 2)); }
-static void head(void) { must(likvost_head(settings, now, READ_TABLES, 2047).refusal); }
-static void deep(void) { must(likvost_deep(settings, now, READ_TABLES, 2047).refusal); }
-static void fast(void) { must(likvost_fast(settings, now, READ_TABLES, 2047).refusal); }
-static void write_gossip(void) { must(likvost_write(settings, now, READ_TABLES, false, true, packet, sizeof packet).refusal); }
+static void receive_proposal(void) { keep(likvost_receive(settings, now, TABLES, 3 * last, proposal, proposal_length)); }
+static void receive(void) { keep(likvost_receive(settings, now, TABLES, 3 * last, gossip, gossip_length)); }
+static void merge(void) { keep(likvost_merge(settings, now, TABLES, 3 * last + 2)); }
+static void head(void) { must(likvost_head(settings, now, READ_TABLES, last).refusal); }
+static void deep(void) { must(likvost_deep(settings, now, READ_TABLES, last).refusal); }
+static void fast(void) { must(likvost_fast(settings, now, READ_TABLES, last).refusal); }
+static void write_gossip(void) { must(likvost_write(settings, now, READ_TABLES, false, true, gossip, sizeof gossip).refusal); }
 static void propose(void)
 {
     const likvost_number number = {.lower = 1 << 20, .upper = 1 << 20};
     blocks_used--; /* a free place; no vote is for the last block */
-    keep(likvost_propose(settings, now, TABLES, 3 * 2048, number));
+    keep(likvost_propose(settings, now, TABLES, 3 * last + 3, number));
 }
-static void vote(void) { keep(likvost_vote(settings, now, TABLES, 3 * 2048 + 1)); }
+static void vote(void) { keep(likvost_vote(settings, now, TABLES, 3 * last + 4)); }
 
 static void *run(void *call)
 {
@@ -99,7 +124,8 @@ static size_t taken(void (*call)(void))
     return STACK - i;
 }
 
-int main(void)
+/* Prints a line for each call, and answers the most. */
+static size_t measure(const limits *l, size_t thread)
 {
     static const struct {
         const char *name;
@@ -107,13 +133,26 @@ int main(void)
     } calls[] = {{"Open", open},   {"Receive, proposal", receive_proposal}, {"Receive, gossip", receive}, {"Merge", merge},
                  {"Head", head},   {"Deep", deep},                          {"Fast", fast},               {"Write", write_gossip},
                  {"Propose", propose}, {"Vote", vote}};
-    size_t thread = taken(nothing), largest = 0;
-    make_packets();
+    size_t largest = 0;
+    last = l->blocks - 1;
+    block_words = LIKVOST_BLOCK_WORDS * l->blocks;
+    vote_words = LIKVOST_VOTE_WORDS * l->votes;
+    /* so no vote of the packets is old */
+    settings = (likvost_settings){.profile = l->profile, .nodes = l->nodes, .own = 0, .expiry = l->votes / l->nodes, .depth = 32};
+    make_packets(l);
     for (size_t i = 0; i < sizeof calls / sizeof calls[0]; i++) {
         size_t bytes = taken(calls[i].call) - thread;
-        printf("%-20s %7zu bytes\n", calls[i].name, bytes);
+        printf("%s: %-20s %7zu bytes\n", l->name, calls[i].name, bytes);
         largest = bytes > largest ? bytes : largest;
+        if (calls[i].call == merge && (blocks_used != l->blocks || votes_used != l->votes - 1))
+            exit(1); /* the tables are not full */
     }
-    printf("%-20s %7zu bytes\n", "the largest", largest);
-    return largest <= 256 * 1024 ? 0 : 1;
+    printf("%s: %-20s %7zu bytes\n", l->name, "the largest", largest);
+    return largest;
+}
+
+int main(void)
+{
+    size_t thread = taken(nothing), of_loom = measure(&loom, thread), of_rack = measure(&rack, thread);
+    return of_loom <= 256 * 1024 && of_rack <= 256 * 1024 ? 0 : 1;
 }

@@ -1,5 +1,5 @@
 #!/bin/sh
-# Builds the proved node as a static library and prints how much stack each call takes on the largest tables.
+# Builds the proved node as a static library and prints how much stack each call takes on the largest tables, of a loom and of a rack.
 set -eu
 cd "$(dirname "$0")/../.."
 rt staticlib capi >/dev/null

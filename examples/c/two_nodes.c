@@ -56,7 +56,7 @@ int main(void)
     static node nodes[2];
     const likvost_number number = {.lower = 11, .upper = 1};
     for (uint64_t i = 0; i < 2; i++) {
-        nodes[i].settings = (likvost_settings){.nodes = 2, .own = i, .expiry = 4, .depth = 1};
+        nodes[i].settings = (likvost_settings){.profile = LIKVOST_LOOM, .nodes = 2, .own = i, .expiry = 4, .depth = 1};
         keep(&nodes[i], likvost_open(nodes[i].settings, nodes[i].clock, TABLES(&nodes[i])), "open");
     }
     keep(&nodes[1], likvost_propose(nodes[1].settings, nodes[1].clock, TABLES(&nodes[1]), 3, number), "propose");

@@ -2,7 +2,7 @@
 //!
 //! `cargo bench --offline` prints the tables of docs/PERFORMANCE.md.
 
-use likvost::{Clock, Memory, Node, Settings, Width, BLOCK_WORDS, VOTE_WORDS};
+use likvost::{Clock, Memory, Node, Profile, Settings, Width, BLOCK_WORDS, RACK_PACKET, VOTE_WORDS};
 use likvost_model as model;
 use std::hint::black_box;
 use std::time::{Duration, Instant};
@@ -10,6 +10,9 @@ use std::time::{Duration, Instant};
 /// Blocks and votes that the tables have places for.
 const SIZES: [(usize, usize); 3] = [(64, 256), (512, 1_024), (2_048, 8_192)];
 const NODES: [u64; 2] = [5, 64];
+/// A rack's largest tables, and those with as many votes as its gossip may have.
+const RACK_SIZES: [(usize, usize); 2] = [(64, 256), (64, 80)];
+const RACK_NODES: u64 = 16;
 /// The number of the next slot's block.
 const NEXT: u128 = (1 << 64) + (1 << 40);
 
@@ -43,7 +46,7 @@ struct Case {
 }
 
 impl Case {
-    fn new(kind: Kind, nodes: u64, places: (usize, usize), used: (usize, usize)) -> Case {
+    fn new(profile: Profile, kind: Kind, nodes: u64, places: (usize, usize), used: (usize, usize)) -> Case {
         let honest = kind == Kind::Honest || kind == Kind::Fan;
         let last_block = used.0 as u64 - 1;
         let voted = if honest { (used.1 as u64).div_ceil(nodes) } else { 1 };
@@ -95,7 +98,7 @@ impl Case {
         };
         let expiry = if honest { voted - 1 } else { 64 };
         Case {
-            settings: Settings { nodes, own: (last + 1) % nodes, expiry, depth: 32 },
+            settings: Settings { profile, nodes, own: (last + 1) % nodes, expiry, depth: 32 },
             memory: Memory { blocks, votes, blocks_used: used.0, votes_used: used.1, clock },
             last,
         }
@@ -126,12 +129,16 @@ impl Case {
 
     fn model(&self, memory: &Memory) -> model::Node {
         let (s, m, k) = (self.settings, memory, memory.clock);
+        let profile = match s.profile {
+            Profile::Loom => model::Profile::Loom,
+            Profile::Rack => model::Profile::Rack,
+        };
         let number = |lower: u64, upper: u64| u128::from(upper) << 64 | u128::from(lower);
         let block =
             |r: &[u64]| model::Block { number: number(r[0], r[1]), parent: number(r[2], r[3]), slot: r[4], in_view: r[5] == 1 };
         let vote = |r: &[u64]| model::Vote { voter: r[0], slot: r[1], number: number(r[2], r[3]), in_view: r[4] == 1 };
         model::Node {
-            settings: model::Settings { nodes: s.nodes, own: s.own, expiry: s.expiry, depth: s.depth },
+            settings: model::Settings { profile, nodes: s.nodes, own: s.own, expiry: s.expiry, depth: s.depth },
             clock: model::Clock { seen: k.seen, done: k.done, merged: k.merged, proposed: k.proposed },
             blocks: m.blocks.chunks_exact(BLOCK_WORDS).map(block).collect(),
             blocks_used: m.blocks_used,
@@ -278,13 +285,14 @@ fn ratio(a: Duration, b: Duration) -> String {
     }
 }
 
-fn measure(kind: Kind, nodes: u64, (blocks, votes): (usize, usize)) {
+fn measure(profile: Profile, kind: Kind, nodes: u64, (blocks, votes): (usize, usize)) {
     // one place of each table stays free, for the calls that fill one
-    let full = Case::new(kind, nodes, (blocks, votes), (blocks - 1, votes - 1));
-    let half = Case::new(kind, nodes, (blocks, votes), (blocks / 2, votes / 2));
+    let full = Case::new(profile, kind, nodes, (blocks, votes), (blocks - 1, votes - 1));
+    let half = Case::new(profile, kind, nodes, (blocks, votes), (blocks / 2, votes / 2));
     let (full_packets, half_packets) = (full.packets(), half.packets());
     let [full_pass, half_pass] = medians([pass(&full), pass(&half)]);
     let chosen = match kind {
+        Kind::Honest if profile == Profile::Rack => ", a rack",
         Kind::Honest => "",
         Kind::Fan => ", a fan",
         Kind::FewVoters => ", few voters",
@@ -297,7 +305,10 @@ fn measure(kind: Kind, nodes: u64, (blocks, votes): (usize, usize)) {
     println!("| Call | Proved, half | Proved, full | Grows | To the pass | Model, half | Model, full | Grows | To the pass |");
     println!("|---|---|---|---|---|---|---|---|---|");
     for (call, name) in CALLS.iter().enumerate() {
-        if kind == Kind::ChosenSlots && ["Propose", "Vote"].contains(name) {
+        let joined = kind != Kind::ChosenSlots || !["Propose", "Vote"].contains(name);
+        // a rack does not read its full tables' packets
+        let readable = profile == Profile::Loom || full_packets.proposal.len() <= RACK_PACKET || !name.contains("entries");
+        if !joined || !readable {
             continue;
         }
         let [once, ph, pf, mh, mf] = medians([
@@ -325,11 +336,13 @@ fn measure(kind: Kind, nodes: u64, (blocks, votes): (usize, usize)) {
 fn main() {
     for nodes in NODES {
         for size in SIZES {
-            measure(Kind::Honest, nodes, size);
+            measure(Profile::Loom, Kind::Honest, nodes, size);
         }
-        measure(Kind::Fan, nodes, SIZES[2]);
-        measure(Kind::FewVoters, nodes, SIZES[2]);
-        measure(Kind::Chosen, nodes, SIZES[2]);
-        measure(Kind::ChosenSlots, nodes, SIZES[2]);
+        for kind in [Kind::Fan, Kind::FewVoters, Kind::Chosen, Kind::ChosenSlots] {
+            measure(Profile::Loom, kind, nodes, SIZES[2]);
+        }
+    }
+    for size in RACK_SIZES {
+        measure(Profile::Rack, Kind::Honest, RACK_NODES, size);
     }
 }

@@ -1,6 +1,24 @@
 //! The exported functions of crates/capi, as include/likvost.h declares them.
 
-use crate::{Clock, Settings};
+use crate::Clock;
+
+/// What a node is opened with. The profile may be any number; that of a [`crate::Profile`] names one.
+#[repr(C)]
+#[derive(Clone, Copy)]
+pub struct Settings {
+    pub profile: u64,
+    pub nodes: u64,
+    pub own: u64,
+    pub expiry: u64,
+    pub depth: u64,
+}
+
+impl From<crate::Settings> for Settings {
+    fn from(settings: crate::Settings) -> Settings {
+        let crate::Settings { profile, nodes, own, expiry, depth } = settings;
+        Settings { profile: profile as u64, nodes, own, expiry, depth }
+    }
+}
 
 /// A block's number: lower + 2^64 * upper.
 #[repr(C)]
@@ -153,4 +171,62 @@ extern "C" {
         buffer: *mut u8,
         buffer_len: usize,
     ) -> Written;
+}
+
+#[cfg(test)]
+mod tests {
+    use super::*;
+
+    const BLOCK_WORDS: usize = 2 * crate::BLOCK_WORDS;
+    const VOTE_WORDS: usize = crate::VOTE_WORDS;
+    const BUFFER: usize = 100;
+
+    /// All that is lent to the calls on a node.
+    #[derive(Clone, Debug, PartialEq)]
+    struct Lent {
+        clock: Clock,
+        blocks: [u64; BLOCK_WORDS],
+        blocks_used: usize,
+        votes: [u64; VOTE_WORDS],
+        votes_used: usize,
+        buffer: [u8; BUFFER],
+    }
+
+    /// Makes all nine calls, one after the other, and answers their refusals.
+    fn refusals(settings: Settings, m: &mut Lent) -> [u64; 9] {
+        let (b, bl, bu, v, vl, vu) =
+            (m.blocks.as_mut_ptr(), BLOCK_WORDS, &mut m.blocks_used, m.votes.as_mut_ptr(), VOTE_WORDS, &mut m.votes_used);
+        let empty = [0; 17];
+        let number = Number { lower: 11, upper: 1 };
+        // SAFETY: each pointer is to an array or a number of its own, with its length.
+        unsafe {
+            let open = likvost_open(settings, m.clock, b, bl, bu, v, vl, vu);
+            let receive = likvost_receive(settings, open.clock, b, bl, bu, v, vl, vu, 3, empty.as_ptr(), empty.len());
+            let propose = likvost_propose(settings, receive.clock, b, bl, bu, v, vl, vu, 3, number);
+            let vote = likvost_vote(settings, propose.clock, b, bl, bu, v, vl, vu, 4);
+            let merge = likvost_merge(settings, vote.clock, b, bl, bu, v, vl, vu, 5);
+            m.clock = merge.clock;
+            let ask = |question: Question| question(settings, m.clock, b, bl, *bu, v, vl, *vu, 1).refusal;
+            let [head, deep, fast] = [likvost_head as Question, likvost_deep, likvost_fast].map(ask);
+            let write = likvost_write(settings, m.clock, b, bl, *bu, v, vl, *vu, false, true, m.buffer.as_mut_ptr(), BUFFER);
+            let [open, receive, propose, vote, merge] = [open, receive, propose, vote, merge].map(|answer| answer.refusal);
+            [open, receive, propose, vote, merge, head, deep, fast, write.refusal]
+        }
+    }
+
+    #[test]
+    fn numbers_that_name_no_profile() {
+        let settings = |profile| Settings { profile, nodes: 1, own: 0, expiry: 1, depth: 1 };
+        for named in [1, 2] {
+            let clock = Clock::default();
+            let (blocks, votes) = ([9; BLOCK_WORDS], [9; VOTE_WORDS]);
+            let mut lent = Lent { clock, blocks, blocks_used: 9, votes, votes_used: 9, buffer: [9; BUFFER] };
+            assert_eq!(refusals(settings(named), &mut lent), [0; 9]);
+            for none in [0, 3, 256, (1 << 32) + named, (1 << 63) + named, u64::MAX] {
+                let before = lent.clone();
+                assert_eq!(refusals(settings(none), &mut lent), [1, 6, 6, 6, 6, 6, 6, 6, 6], "profile {none}");
+                assert_eq!(lent, before, "profile {none}");
+            }
+        }
+    }
 }

@@ -13,14 +13,17 @@
 //! Blocks stay in their table; votes leave when they are old. Once slot `m` was merged no slot that may be asked for looks at votes of
 //! slots below `m - expiry`: [`Node::merge`] removes them, and [`Node::receive`] accepts those that still come but does not store them.
 //!
+//! A node is a loom controller or a rack controller: its [`Profile`] says which limits it keeps to. Looms and racks may be nodes of one
+//! network.
+//!
 //! A block's number has 16 bytes. Nodes write their packets wide, with whole numbers; for boards that read numbers of 8 bytes alone there
 //! are narrow packets, see [`Width`].
 //!
 //! ```
-//! use likvost::{Node, Settings};
+//! use likvost::{Node, Profile, Settings};
 //!
 //! # fn main() -> Result<(), likvost::Refusal> {
-//! let settings = |own| Settings { nodes: 2, own, expiry: 4, depth: 1 };
+//! let settings = |own| Settings { profile: Profile::Loom, nodes: 2, own, expiry: 4, depth: 1 };
 //! let mut a = Node::open(settings(0), 16, 32)?;
 //! let mut b = Node::open(settings(1), 16, 32)?;
 //!
@@ -58,14 +61,50 @@ pub const BLOCK_WORDS: usize = 6;
 /// Words to a row of [`Memory::votes`].
 pub const VOTE_WORDS: usize = 5;
 
-/// No node sends a packet of more bytes. Drop longer ones before [`Node::receive`], which takes long to refuse them.
+/// No node sends a packet of more bytes. On a loom drop longer ones before [`Node::receive`], which takes long to refuse them.
 pub const LARGEST_PACKET: usize = Width::Wide.packet_length(2047, 8192);
 
+/// The longest packet that a rack reads: [`Node::receive`] refuses longer ones by [`Refusal::Long`], whatever they hold.
+pub const RACK_PACKET: usize = 4096;
+
+/// Whose limits a node keeps to. The nodes of a network may have different profiles.
+///
+/// | | nodes | block places, block 0 included | vote places | packets that [`Node::receive`] reads |
+/// |---|---|---|---|---|
+/// | loom | 1 to 64 | 1 to 2,048 | 1 to 8,192 | of any length |
+/// | rack | 1 to 16 | 1 to 64 | 1 to 256 | up to 4,096 bytes |
+///
+/// Where a rack is in the network, the wide gossip of every honest node, looms too, must stay within 4,096 bytes: `36 * blocks` (without
+/// block 0) `+ 21 * votes` at most 4,071. With `nodes * (expiry + 2)` votes, where nobody votes twice in a slot, that is an expiry of 3 at most
+/// for 16 nodes and 63 blocks, though 256 places would do for 14. A full rack writes 7,669 bytes (narrow 4,605), and no rack reads them.
+///
+/// ```
+/// use likvost::{Node, Profile, Refusal, Settings, RACK_PACKET};
+///
+/// let settings = Settings { profile: Profile::Rack, nodes: 16, own: 0, expiry: 3, depth: 8 };
+/// let mut rack = Node::open(settings, 64, 80).unwrap();
+/// assert_eq!(rack.receive(3, &[0; RACK_PACKET + 1]), Err(Refusal::Long));
+/// assert_eq!(Node::open(settings, 65, 80), Err(Refusal::Length));
+/// assert_eq!(Node::open(Settings { nodes: 17, ..settings }, 64, 80), Err(Refusal::Nodes));
+///
+/// let mut loom = Node::open(Settings { profile: Profile::Loom, ..settings }, 65, 80).unwrap();
+/// assert_eq!(loom.receive(3, &[0; RACK_PACKET + 1]), Err(Refusal::Form));
+/// ```
+#[repr(u64)]
+#[derive(Clone, Copy, Debug, PartialEq, Eq)]
+pub enum Profile {
+    /// A loom controller.
+    Loom = 1,
+    /// A rack controller, whose limits are lower.
+    Rack = 2,
+}
+
 /// What a node is opened with. All nodes of a network have the same `nodes`, `expiry` and `depth`.
-#[repr(C)]
 #[derive(Clone, Copy, Debug, PartialEq, Eq)]
 pub struct Settings {
-    /// How many nodes the network has: 1 to 64.
+    /// The limits of `nodes`, of both tables and of packets.
+    pub profile: Profile,
+    /// How many nodes the network has: 1 to 64, or 1 to 16 on a rack.
     pub nodes: u64,
     /// This node's index, below `nodes`.
     pub own: u64,
@@ -103,10 +142,11 @@ pub struct Received {
 /// How many bytes the numbers of a packet have. [`Node::receive`] reads both.
 ///
 /// ```
-/// use likvost::{Node, Refusal, Settings, Width};
+/// use likvost::{Node, Profile, Refusal, Settings, Width};
 ///
 /// # fn main() -> Result<(), Refusal> {
-/// let mut node = Node::open(Settings { nodes: 1, own: 0, expiry: 4, depth: 1 }, 16, 32)?;
+/// let settings = Settings { profile: Profile::Loom, nodes: 1, own: 0, expiry: 4, depth: 1 };
+/// let mut node = Node::open(settings, 16, 32)?;
 /// node.propose(3, 11)?;
 /// assert_eq!(node.packet(false, Width::Narrow)?.len(), 17 + 20);
 /// assert_eq!(node.gossip()?.len(), 25 + 36);
@@ -144,9 +184,9 @@ impl Width {
 /// [`Node`] keeps it for you. It is public for tests and for storing a node. Every call takes any memory: what is unsound is refused.
 ///
 /// ```
-/// use likvost::{Node, Refusal, Settings};
+/// use likvost::{Node, Profile, Refusal, Settings};
 ///
-/// let settings = Settings { nodes: 3, own: 1, expiry: 4, depth: 1 };
+/// let settings = Settings { profile: Profile::Loom, nodes: 3, own: 1, expiry: 4, depth: 1 };
 /// let node = Node::open(settings, 16, 32).unwrap();
 /// let mut memory = node.into_memory();
 /// assert_eq!(Node::from_memory(settings, memory.clone()).merge(5), Ok(()));
@@ -194,7 +234,7 @@ macro_rules! lend {
 }
 
 impl Node {
-    /// A fresh node with so many places for blocks (1 to 2,048, block 0 included) and votes (1 to 8,192).
+    /// A fresh node with so many places for blocks (1 to 2,048, block 0 included) and votes (1 to 8,192); on a rack 1 to 64 and 1 to 256.
     ///
     /// The node holds votes of the slots from `expiry` slots before the one last merged to the slot seen. So if no voter votes twice in a slot,
     /// no vote is refused by [`Refusal::Places`] on a node that merges every slot and has `nodes * (expiry + 2)` places for votes; one that
@@ -218,7 +258,7 @@ impl Node {
     pub fn open_in(settings: Settings, memory: &mut Memory) -> Result<(), Refusal> {
         let (b, bl, bu, v, vl, vu) = lend!(memory);
         // SAFETY: the pointers are to live, separate vectors and numbers, with their lengths.
-        let a = unsafe { ffi::likvost_open(settings, memory.clock, b, bl, bu, v, vl, vu) };
+        let a = unsafe { ffi::likvost_open(settings.into(), memory.clock, b, bl, bu, v, vl, vu) };
         Self::answered(memory, a).map(|_| ())
     }
 
@@ -254,13 +294,15 @@ impl Node {
     /// Takes a packet of either [`Width`]. Its new entries wait; the first proposal of the beat's slot, in phase 0, comes into view at once.
     /// An old vote, of a slot below the one last merged less `expiry`, must keep the rules too, but is not stored, not new and needs no place;
     /// the block that it is for comes into view with a proposal all the same.
+    /// A rack reads packets of at most [`RACK_PACKET`] bytes, and refuses longer ones by [`Refusal::Long`].
     /// A packet with a block or vote that breaks a rule is refused whole; [`Refusal::Block`] and [`Refusal::Vote`] tell the first such entry.
     pub fn receive(&mut self, beat: u64, packet: &[u8]) -> Result<Received, Refusal> {
         let m = &mut self.memory;
         let (b, bl, bu, v, vl, vu) = lend!(m);
         // SAFETY: as in `open_in`; the packet is only read.
-        let a =
-            unsafe { ffi::likvost_receive(self.settings, m.clock, b, bl, bu, v, vl, vu, beat, packet.as_ptr(), packet.len()) };
+        let a = unsafe {
+            ffi::likvost_receive(self.settings.into(), m.clock, b, bl, bu, v, vl, vu, beat, packet.as_ptr(), packet.len())
+        };
         Self::answered(m, a).map(|a| Received { new_blocks: a.new_blocks, new_votes: a.new_votes, brought: a.brought != 0 })
     }
 
@@ -269,7 +311,7 @@ impl Node {
         let m = &mut self.memory;
         let (b, bl, bu, v, vl, vu) = lend!(m);
         // SAFETY: as in `open_in`.
-        let a = unsafe { ffi::likvost_propose(self.settings, m.clock, b, bl, bu, v, vl, vu, beat, number.into()) };
+        let a = unsafe { ffi::likvost_propose(self.settings.into(), m.clock, b, bl, bu, v, vl, vu, beat, number.into()) };
         Self::answered(m, a).map(|a| a.value.into())
     }
 
@@ -278,7 +320,7 @@ impl Node {
         let m = &mut self.memory;
         let (b, bl, bu, v, vl, vu) = lend!(m);
         // SAFETY: as in `open_in`.
-        let a = unsafe { ffi::likvost_vote(self.settings, m.clock, b, bl, bu, v, vl, vu, beat) };
+        let a = unsafe { ffi::likvost_vote(self.settings.into(), m.clock, b, bl, bu, v, vl, vu, beat) };
         Self::answered(m, a).map(|a| a.value.into())
     }
 
@@ -288,16 +330,17 @@ impl Node {
         let m = &mut self.memory;
         let (b, bl, bu, v, vl, vu) = lend!(m);
         // SAFETY: as in `open_in`.
-        let a = unsafe { ffi::likvost_merge(self.settings, m.clock, b, bl, bu, v, vl, vu, beat) };
+        let a = unsafe { ffi::likvost_merge(self.settings.into(), m.clock, b, bl, bu, v, vl, vu, beat) };
         Self::answered(m, a).map(|_| ())
     }
 
     /// The head for a slot, from the one last merged to the one seen. The deep and the fast block are for these slots too.
     ///
     /// ```
-    /// use likvost::{Node, Refusal, Settings};
+    /// use likvost::{Node, Profile, Refusal, Settings};
     ///
-    /// let mut node = Node::open(Settings { nodes: 3, own: 1, expiry: 4, depth: 1 }, 16, 32).unwrap();
+    /// let settings = Settings { profile: Profile::Loom, nodes: 3, own: 1, expiry: 4, depth: 1 };
+    /// let mut node = Node::open(settings, 16, 32).unwrap();
     /// node.merge(3 * 7 + 2).unwrap();
     /// assert_eq!(node.head(6), Err(Refusal::Slot));
     /// assert_eq!(node.head(7), Ok(0));
@@ -325,7 +368,7 @@ impl Node {
         let (b, v) = (&m.blocks, &m.votes);
         // SAFETY: the tables are only read, within their lengths.
         let found = unsafe {
-            question(self.settings, m.clock, b.as_ptr(), b.len(), m.blocks_used, v.as_ptr(), v.len(), m.votes_used, slot)
+            question(self.settings.into(), m.clock, b.as_ptr(), b.len(), m.blocks_used, v.as_ptr(), v.len(), m.votes_used, slot)
         };
         match Refusal::from_answer(found.refusal, 0) {
             None => Ok(found),
@@ -334,13 +377,13 @@ impl Node {
     }
 
     /// Writes gossip or, if `proposal`, the own proposal into a buffer, and answers the packet's length. A buffer of [`LARGEST_PACKET`]
-    /// bytes is always long enough.
+    /// bytes is always long enough, on a rack one of 7,669.
     pub fn write(&self, proposal: bool, width: Width, buffer: &mut [u8]) -> Result<usize, Refusal> {
         let m = &self.memory;
         // SAFETY: as in `ask`; the buffer is written within its length.
         let w = unsafe {
             ffi::likvost_write(
-                self.settings,
+                self.settings.into(),
                 m.clock,
                 m.blocks.as_ptr(),
                 m.blocks.len(),

@@ -3,9 +3,9 @@ use std::fmt;
 /// Why a call was refused: the first reason that applies, in the order that each call tests them. Nothing has changed then.
 ///
 /// ```
-/// use likvost::{Node, Refusal, Settings};
+/// use likvost::{Node, Profile, Refusal, Settings};
 ///
-/// let settings = Settings { nodes: 3, own: 0, expiry: 4, depth: 1 };
+/// let settings = Settings { profile: Profile::Loom, nodes: 3, own: 0, expiry: 4, depth: 1 };
 /// let refusal = Node::open(Settings { nodes: 65, ..settings }, 16, 32).unwrap_err();
 /// assert_eq!(refusal, Refusal::Nodes);
 /// assert_eq!(refusal.number(), 1);
@@ -70,6 +70,8 @@ pub enum Refusal {
     Header,
     /// 23: narrow writing meets a number of more than 8 bytes.
     Wide,
+    /// 24: the packet is longer than this node's [profile](crate::Profile) allows.
+    Long,
 }
 
 impl Refusal {
@@ -99,6 +101,7 @@ impl Refusal {
             20 => Refusal::Vote(index),
             21 => Refusal::Header,
             23 => Refusal::Wide,
+            24 => Refusal::Long,
             _ => unreachable!("no call answers this number"),
         })
     }
@@ -128,6 +131,7 @@ impl Refusal {
             Refusal::Vote(_) => 20,
             Refusal::Header => 21,
             Refusal::Wide => 23,
+            Refusal::Long => 24,
         }
     }
 
@@ -165,6 +169,7 @@ impl fmt::Display for Refusal {
             Refusal::Proposal => "no own proposal of this beat",
             Refusal::Header => "the proposal's header does not fit its blocks",
             Refusal::Wide => "narrow writing meets a number of more than 8 bytes",
+            Refusal::Long => "packet too long for this node",
         })
     }
 }

@@ -5,22 +5,22 @@
 //! table would be full after E + 2 slots, and the run would end with a refusal 10 in slot 129 with 64 nodes, in slot 1,639 with 5.
 //! Numbers have 16 bytes and packets are wide.
 //!
+//! A rack with 16 nodes and 63 blocks beside block 0 has an E of 3, so that its gossip is never longer than racks read.
+//!
 //! This prints how long a slot takes, and the memory:
 //!
 //! ```text
 //! cargo test --release --offline --test week -- --nocapture
 //! ```
 
-use likvost::{Node, Received, Refusal, Settings, Width, LARGEST_PACKET, VOTE_WORDS};
+use likvost::{Node, Profile, Received, Refusal, Settings, Width, LARGEST_PACKET, RACK_PACKET, VOTE_WORDS};
 use std::collections::VecDeque;
 use std::time::Instant;
 
-const BLOCK_PLACES: usize = 2_048;
-const VOTE_PLACES: usize = 8_192;
 const SLOTS: u64 = 7 * 24 * 60 * 10;
 /// Slots from one look at the whole memory to the next.
 const LOOK: u64 = 3_600;
-/// What the process may grow by meanwhile: another test runs in it, too.
+/// What the process may grow by meanwhile: other tests run in it, too.
 const SLACK_KB: u64 = 4_096;
 
 /// Voter, slot and block.
@@ -37,6 +37,9 @@ fn number(i: u64) -> u128 {
 /// Who votes when, and for what. Voter 0 is the node itself, the last ones are dishonest. All of it follows from the slot, so what the
 /// node must answer is known.
 struct Network {
+    profile: Profile,
+    /// For blocks and votes.
+    places: (usize, usize),
     nodes: u64,
     dishonest: u64,
     expiry: u64,
@@ -47,7 +50,11 @@ struct Network {
 
 impl Network {
     fn settings(&self) -> Settings {
-        Settings { nodes: self.nodes, own: 0, expiry: self.expiry, depth: self.depth }
+        Settings { profile: self.profile, nodes: self.nodes, own: 0, expiry: self.expiry, depth: self.depth }
+    }
+
+    fn open(&self) -> Node {
+        Node::open(self.settings(), self.places.0, self.places.1).expect("settings and places are in range")
     }
 
     /// The newest block of the chain in slot t. The one of slot p is block 2 × p + 1.
@@ -141,10 +148,6 @@ fn resident_kb() -> Option<u64> {
     status.lines().find_map(|line| line.strip_prefix("VmRSS:"))?.trim().strip_suffix(" kB")?.parse().ok()
 }
 
-fn open(settings: Settings) -> Node {
-    Node::open(settings, BLOCK_PLACES, VOTE_PLACES).expect("settings and places are in range")
-}
-
 /// The vote table holds these votes in view, in this order, and zeros behind them.
 fn check_votes(node: &Node, kept: &VecDeque<Vote>) {
     let (used, unused) = node.memory().votes.split_at(VOTE_WORDS * node.memory().votes_used);
@@ -160,6 +163,7 @@ fn check_gossip(node: &Node, other: Node, buffers: &mut [Vec<u8>; 2]) -> Node {
     let mut fresh = Node::from_memory(node.settings(), memory);
     let [gossip, again] = buffers;
     let length = node.write(false, Width::Wide, gossip).expect("the largest packet fits");
+    assert!(node.settings().profile == Profile::Loom || length <= RACK_PACKET);
     let (new_blocks, new_votes) = (node.memory().blocks_used as u64 - 1, node.memory().votes_used as u64);
     let received = fresh.receive(node.memory().clock.seen, &gossip[..length]);
     assert_eq!(received, Ok(Received { new_blocks, new_votes, brought: false }));
@@ -187,8 +191,9 @@ fn check_waking(network: &Network, mut node: Node, mut sleeper: Node, t: u64) {
 
 fn week(network: Network) {
     let most = (network.nodes * (network.expiry + 2)) as usize;
-    assert!(most <= VOTE_PLACES && VOTE_PLACES < most + network.nodes as usize, "E is not the largest that fits");
-    let (mut node, mut sleeper, mut other) = (open(network.settings()), open(network.settings()), open(network.settings()));
+    let vote_places = network.places.1;
+    assert!(most <= vote_places && vote_places < most + network.nodes as usize, "E is not the largest that fits");
+    let (mut node, mut sleeper, mut other) = (network.open(), network.open(), network.open());
     let lent = |node: &Node| {
         let memory = node.memory();
         (memory.blocks.as_ptr(), memory.blocks.len(), memory.votes.as_ptr(), memory.votes.len())
@@ -197,7 +202,7 @@ fn week(network: Network) {
     let (mut votes, mut packet) = (Vec::new(), Vec::new());
     let mut buffers = [vec![0; LARGEST_PACKET], vec![0; LARGEST_PACKET]];
     // The votes that the table must hold, in the order in which they came.
-    let mut kept: VecDeque<Vote> = VecDeque::with_capacity(VOTE_PLACES);
+    let mut kept: VecDeque<Vote> = VecDeque::with_capacity(vote_places);
     let mut peak = 0;
     let mut first_kb = None;
     let start = Instant::now();
@@ -263,12 +268,22 @@ fn week(network: Network) {
     }
 }
 
+const LOOM_PLACES: (usize, usize) = (2_048, 8_192);
+
 #[test]
 fn five_nodes() {
-    week(Network { nodes: 5, dishonest: 1, expiry: 1_636, depth: 300, pace: 65 });
+    week(Network { profile: Profile::Loom, places: LOOM_PLACES, nodes: 5, dishonest: 1, expiry: 1_636, depth: 300, pace: 65 });
 }
 
 #[test]
 fn sixty_four_nodes() {
-    week(Network { nodes: 64, dishonest: 8, expiry: 126, depth: 300, pace: 64 });
+    week(Network { profile: Profile::Loom, places: LOOM_PLACES, nodes: 64, dishonest: 8, expiry: 126, depth: 300, pace: 64 });
+}
+
+#[test]
+fn rack() {
+    // As many places for votes as an E of 3 needs. With an E of 4 the gossip of full tables would be too long.
+    let gossip = |expiry: usize| 25 + 36 * 63 + 21 * 16 * (expiry + 2);
+    assert!(gossip(3) <= RACK_PACKET && RACK_PACKET < gossip(4));
+    week(Network { profile: Profile::Rack, places: (64, 80), nodes: 16, dishonest: 2, expiry: 3, depth: 300, pace: 126 * 16 });
 }

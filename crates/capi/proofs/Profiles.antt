@@ -1,7 +1,6 @@
 -- A number that names no profile is refused. Assumes nothing.
-use Prim.Native.Nat.{ℕ}
-use mathlib.Core.Bool.{false, and-false}
-use mathlib.Core.Path.{_≡_, refl}
+use mathlib.Core.Bool.{and-false}
+use mathlib.Core.Path.{refl}
 use Rattle.protocol.specs.Limits.{limitsOf}
 use Rattle.protocol.specs.Sound.{between, settingsSound, sound}
 use Rattle.protocol.specs.Refusal.{first}

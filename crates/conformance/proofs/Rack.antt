@@ -28,7 +28,7 @@ use Rattle.answers.specs.Promises.{Leaves, Writes}
 use Rattle.conformance.specs.CodeCall.{promised}
 use Rattle.conformance.specs.CodeRack.{SameCalls, opened, then, CodeRackAsLoom}
 use Rattle.conformance.proofs.Answers.{refused-mapped}
-use Rattle.conformance.proofs.Memory.{Healthy, opened-done, opened-node, opened-healthy, Called, called, wrote}
+use Rattle.conformance.proofs.Memory.{Healthy, opened-done, opened-node, opened-healthy, called, wrote}
 
 module _ (s : Settings) where
   -- sound memory of a rack and of a loom with no fewer places, with the same node

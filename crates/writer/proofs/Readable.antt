@@ -1,5 +1,5 @@
 -- The writer can be called on sound memory, and what it writes is the packet of the node that the memory holds. Assumes nothing.
-use Prim.Native.Nat.{ℕ, zero, suc, _/_, _≤_}
+use Prim.Native.Nat.{ℕ, zero, suc, _/_}
 use mathlib.Core.Path.{_≡_, refl}
 use mathlib.Core.Bool.{Bool, true, false, false≢true}
 use mathlib.Core.List.{List}
@@ -9,7 +9,7 @@ use Rattle.protocol.specs.declared.Width.{Width}
 use Rattle.protocol.specs.Limits.{limitsOf}
 use Rattle.protocol.specs.Sound.{placesSound, blocksSound, sound}
 use Rattle.protocol.specs.Calls.Write.{gossipOf, proposalOf, sentOf, packetOut}
-use Rattle.protocol.specs.Lent.{blockWords, voteWords, Lent, rowsOf, makeBlock, placesIn, placesOf, nodeOf, lentSound}
+use Rattle.protocol.specs.Lent.{Lent, rowsOf, makeBlock, placesOf, nodeOf, lentSound}
 use Rattle.protocol.proofs.Basics.Tests.{and-left, and-right}
 use Rattle.protocol.proofs.Store.Sound.{places-few}
 use Rattle.protocol.proofs.Lent.Memory.{lent-used}

@@ -3,7 +3,7 @@
 //! The model has tables of blocks and votes. How tables are lent, which words a row has, is said here: the model does not know it.
 
 use crate::old_votes::Removed;
-use likvost::{Clock, Memory, Node, Settings, Width, BLOCK_WORDS, VOTE_WORDS};
+use likvost::{Clock, Memory, Node, Profile, Settings, Width, BLOCK_WORDS, VOTE_WORDS};
 use likvost_model as model;
 use std::fmt::Debug;
 
@@ -37,6 +37,34 @@ impl Call {
             Call::Fast { .. } => 7,
             Call::Write { .. } => 8,
         }
+    }
+
+    /// Makes the call on a node of the library. The buffer is Write's.
+    pub fn make(&self, node: &mut Node, buffer: &mut [u8]) -> Reply {
+        let reply = match self {
+            Call::Open => {
+                let (settings, mut memory) = (node.settings(), node.memory().clone());
+                let reply = Node::open_in(settings, &mut memory);
+                *node = Node::from_memory(settings, memory);
+                reply.map(|()| Answer::Done)
+            }
+            Call::Receive { beat, packet } => node.receive(*beat, packet).map(|r| Answer::Received {
+                new_blocks: r.new_blocks,
+                new_votes: r.new_votes,
+                brought: r.brought,
+            }),
+            Call::Propose { beat, number } => node.propose(*beat, *number).map(Answer::Block),
+            Call::Vote { beat } => node.vote(*beat).map(Answer::Block),
+            Call::Merge { beat } => node.merge(*beat).map(|()| Answer::Done),
+            Call::Head { slot } => node.head(*slot).map(Answer::Block),
+            Call::Deep { slot } => node.deep(*slot).map(Answer::Block),
+            Call::Fast { slot } => node.fast(*slot).map(|found| found.map_or(Answer::Nothing, Answer::Block)),
+            Call::Write { proposal, wide } => {
+                let width = if *wide { Width::Wide } else { Width::Narrow };
+                node.write(*proposal, width, buffer).map(Answer::Length)
+            }
+        };
+        reply.map_err(|refusal| (u64::from(refusal.number()), refusal.index()))
     }
 }
 
@@ -110,7 +138,7 @@ impl Both {
     pub fn make(&mut self, call: &Call, buffer: &mut [u8]) -> Result<Reply, String> {
         let mut other = buffer.to_vec();
         let model = self.on_model(call, &mut other);
-        let proved = self.on_proved(call, buffer);
+        let proved = call.make(&mut self.proved, buffer);
         same("the answer", &proved, &model)?;
         same_words("the buffer", buffer, &other)?;
         let (p, m) = (self.proved.memory(), &self.lent);
@@ -120,34 +148,6 @@ impl Both {
         same("the count of votes", &p.votes_used, &m.votes_used)?;
         same("the clock", &p.clock, &m.clock)?;
         Ok(proved)
-    }
-
-    fn on_proved(&mut self, call: &Call, buffer: &mut [u8]) -> Reply {
-        let node = &mut self.proved;
-        let reply = match call {
-            Call::Open => {
-                let (settings, mut memory) = (node.settings(), node.memory().clone());
-                let reply = Node::open_in(settings, &mut memory);
-                *node = Node::from_memory(settings, memory);
-                reply.map(|()| Answer::Done)
-            }
-            Call::Receive { beat, packet } => node.receive(*beat, packet).map(|r| Answer::Received {
-                new_blocks: r.new_blocks,
-                new_votes: r.new_votes,
-                brought: r.brought,
-            }),
-            Call::Propose { beat, number } => node.propose(*beat, *number).map(Answer::Block),
-            Call::Vote { beat } => node.vote(*beat).map(Answer::Block),
-            Call::Merge { beat } => node.merge(*beat).map(|()| Answer::Done),
-            Call::Head { slot } => node.head(*slot).map(Answer::Block),
-            Call::Deep { slot } => node.deep(*slot).map(Answer::Block),
-            Call::Fast { slot } => node.fast(*slot).map(|found| found.map_or(Answer::Nothing, Answer::Block)),
-            Call::Write { proposal, wide } => {
-                let width = if *wide { Width::Wide } else { Width::Narrow };
-                node.write(*proposal, width, buffer).map(Answer::Length)
-            }
-        };
-        reply.map_err(|refusal| (u64::from(refusal.number()), refusal.index()))
     }
 
     fn on_model(&mut self, call: &Call, buffer: &mut [u8]) -> Reply {
@@ -201,10 +201,14 @@ impl Both {
 
 /// The model's node on the same memory. What an unused place holds is left out.
 pub fn modelled(settings: Settings, memory: &Memory) -> model::Node {
-    let Settings { nodes, own, expiry, depth } = settings;
+    let Settings { profile, nodes, own, expiry, depth } = settings;
+    let profile = match profile {
+        Profile::Loom => model::Profile::Loom,
+        Profile::Rack => model::Profile::Rack,
+    };
     let Clock { seen, done, merged, proposed } = memory.clock;
     model::Node {
-        settings: model::Settings { nodes, own, expiry, depth },
+        settings: model::Settings { profile, nodes, own, expiry, depth },
         clock: model::Clock { seen, done, merged, proposed },
         blocks: places(&memory.blocks, memory.blocks_used).map(block).collect(),
         blocks_used: memory.blocks_used,

@@ -1,10 +1,10 @@
-//! The largest tables: filled by one packet, then every call on them.
+//! A loom's largest tables: filled by one packet, then every call on them.
 
 use crate::both::{zeroed, Answer, Both, Call};
 use crate::packets::gossip;
 use crate::random::Random;
 use crate::world::Run;
-use likvost::{Settings, LARGEST_PACKET};
+use likvost::{Profile, Settings, LARGEST_PACKET};
 use likvost_model::{Packet, PacketBlock, PacketVote};
 
 /// The number of block i. Sixteen blocks in a row have one upper half, and every sixteenth block has the same lower half.
@@ -65,7 +65,7 @@ fn largest_tables() {
     ];
     for (block_places, vote_places, wide, refusal) in cases {
         let packet = if wide { &largest } else { &largest_narrow };
-        let settings = Settings { nodes: 64, own: 3, expiry: 200, depth: 40 };
+        let settings = Settings { profile: Profile::Loom, nodes: 64, own: 3, expiry: 200, depth: 40 };
         let mut node = Both::new(settings, zeroed(block_places, vote_places));
         let mut make = |call: Call, buffer: &mut [u8]| run.make(&mut node, &call, buffer);
         assert_eq!(make(Call::Open, &mut []), Ok(Answer::Done));
@@ -103,7 +103,7 @@ fn largest_tables() {
 fn freed_places() {
     let random = &mut Random::new(7);
     let mut run = Run::new(7);
-    let settings = Settings { nodes: 64, own: 3, expiry: 64, depth: 40 };
+    let settings = Settings { profile: Profile::Loom, nodes: 64, own: 3, expiry: 64, depth: 40 };
     let mut node = Both::new(settings, zeroed(2048, 8192));
     let mut make = |call: Call, used: usize| {
         let reply = run.make(&mut node, &call, &mut []);
@@ -134,7 +134,7 @@ fn freed_places() {
 fn longer_than_honest() {
     let random = &mut Random::new(6);
     let mut run = Run::new(6);
-    let settings = Settings { nodes: 64, own: 3, expiry: 200, depth: 40 };
+    let settings = Settings { profile: Profile::Loom, nodes: 64, own: 3, expiry: 200, depth: 40 };
     let mut node = Both::new(settings, zeroed(2048, 8192));
     let beat = 3 * 1300 + 1;
     let mut make = |call: Call| run.make(&mut node, &call, &mut []);

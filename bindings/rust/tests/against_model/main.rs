@@ -7,10 +7,12 @@
 //! LIKVOST_CALLS=10000000 cargo test --release --offline --test against_model -- --nocapture
 //! ```
 
+mod as_loom;
 mod both;
 mod full;
 mod old_votes;
 mod packets;
+mod racks;
 mod random;
 mod wide;
 mod world;
@@ -29,7 +31,7 @@ fn setting(name: &str, default: u64) -> u64 {
 /// What each call may answer: 0, carried out, and its refusals.
 const REPLIES: [&[usize]; 9] = [
     &[0, 1, 2, 3, 4, 5],
-    &[0, 6, 7, 8, 9, 20, 21, 10],
+    &[0, 6, 7, 24, 8, 9, 20, 21, 10],
     &[0, 6, 7, 11, 12, 13, 14, 15, 10],
     &[0, 6, 7, 11, 12, 13, 16, 10],
     &[0, 6, 7, 11, 12],
@@ -51,12 +53,12 @@ fn random_calls() {
         World::new(&mut run, random).go(calls);
     }
     for (name, replies) in Call::NAMES.iter().zip(&run.replies) {
-        let refused: Vec<String> = (1..24).filter(|&k| replies[k] > 0).map(|k| format!("{k}: {}", replies[k])).collect();
+        let refused: Vec<String> = (1..25).filter(|&k| replies[k] > 0).map(|k| format!("{k}: {}", replies[k])).collect();
         println!("{name}: {} carried out; refused by {}", replies[0], refused.join(", "));
     }
     println!("{} proposals came into view on arrival, {} fast blocks", run.brought, run.fast);
     println!("the largest index of a refused block {}, of a refused vote {}", run.deepest[0], run.deepest[1]);
-    let met = [&run.old_votes.list()[..], &run.wide.list()].concat();
+    let met = [&run.old_votes.list()[..], &run.wide.list(), &run.racks.list()].concat();
     for (what, times) in &met {
         println!("{what}: {times}");
     }

@@ -2,8 +2,9 @@
 
 use crate::both::{blocks, halves, number_of, votes};
 use crate::random::Random;
-use likvost::{Memory, Settings};
+use likvost::{Memory, Settings, BLOCK_WORDS, RACK_PACKET, VOTE_WORDS};
 use likvost_model::{Block, Packet, PacketBlock, PacketVote, Vote};
+use std::collections::HashSet;
 
 /// Which numbers the blocks of a network have.
 #[derive(Clone, Copy, PartialEq)]
@@ -128,13 +129,13 @@ pub fn made(random: &mut Random, numbers: Numbers, settings: Settings, memory: &
             let named = if random.once_in(4) { random.pick(&blocks) } else { last };
             let number = match random.below(20) {
                 0 => random.between(0, 400).into(),
-                1..=4 => twin(random, named.number),
+                1..=6 => twin(random, named.number),
                 _ => named.number,
             };
             let slot = if random.once_in(20) { named.slot.wrapping_add(1) } else { named.slot };
             Packet { kind: 3, slot, number, blocks, votes }
         }
-        _ if random.once_in(25) => {
+        _ if random.once_in(18) => {
             // what is zero in gossip is not
             let (slot, number) = random.pick(&[(1, 0), (1 << 31, 0), (0, 1), (0, 1 << 63), (0, 1 << 64), (0, 1 << 127)]);
             Packet { slot, number, ..gossip(blocks, votes) }
@@ -190,6 +191,135 @@ pub fn with_twins(random: &mut Random, settings: Settings, memory: &Memory, beat
     let proposed = PacketBlock { number: number_of(random.between(801, 1_200), random.below(2)), parent, slot: now as u32 };
     let proposal = Packet { kind: 3, slot: proposed.slot, number: proposed.number, blocks: vec![proposed], votes: vec![second] };
     [gossip(twins.to_vec(), vec![first]), proposal].map(|packet| packet.encode())
+}
+
+/// A packet about as long as the longest that a rack reads. Most are well-formed and keep the rules. The beat's slot is not 0.
+pub fn about_longest(random: &mut Random, numbers: Numbers, settings: Settings, memory: &Memory, beat: u64) -> Vec<u8> {
+    let length = match random.below(40) {
+        0..=7 => RACK_PACKET - 1,
+        8..=16 => RACK_PACKET,
+        17..=23 => RACK_PACKET + 1,
+        // the next length that a wide packet may have
+        24..=31 => RACK_PACKET + 3,
+        32..=33 => RACK_PACKET - random.between(2, 600) as usize,
+        34..=36 => RACK_PACKET + random.between(2, 6_000) as usize,
+        _ => (1 << 16) + random.between(0, RACK_PACKET as u64) as usize,
+    };
+    let fill = random.once_in(4);
+    let mut packet = of_length(random, numbers, settings, memory, beat, length, fill);
+    match random.below(10) {
+        // one entry or the header breaks a rule
+        0 if !packet.blocks.is_empty() => {
+            let at = random.below(packet.blocks.len() as u64) as usize;
+            packet.blocks[at].slot = 0;
+        }
+        1 if !packet.votes.is_empty() => {
+            let at = random.below(packet.votes.len() as u64) as usize;
+            packet.votes[at].voter = settings.nodes as u8;
+        }
+        2 | 3 if packet.kind % 2 == 1 => packet.slot += 1,
+        // bytes are changed, and its length is the one wanted all the same, or it is not
+        4 => {
+            let mut bytes = damaged(random, &packet.encode());
+            if random.once_in(2) {
+                bytes.resize(length, 0);
+            }
+            return bytes;
+        }
+        // a short packet and bytes behind it
+        5 => {
+            let mut bytes = made(random, numbers, settings, memory, beat);
+            bytes.resize(length, 0);
+            return bytes;
+        }
+        _ => {}
+    }
+    packet.encode()
+}
+
+/// A packet that the node takes if it has places and reads so many bytes. Few of the entries are new or, to fill the tables, as many as there
+/// are free places, and at times too many; the others are known ones, or these over again. The beat's slot is not 0.
+pub fn of_length(
+    random: &mut Random,
+    numbers: Numbers,
+    settings: Settings,
+    memory: &Memory,
+    beat: u64,
+    length: usize,
+    fill: bool,
+) -> Packet {
+    let now = slot_of(beat);
+    // the length of a wide packet less 25 is a multiple of 3
+    let wide = random.once_in(2) && length % 3 == 1;
+    let proposal = random.once_in(2);
+    let (block_count, vote_count) = counts(random, wide, length);
+    let free = [memory.blocks.len() / BLOCK_WORDS - memory.blocks_used, memory.votes.len() / VOTE_WORDS - memory.votes_used];
+    let [mut new_blocks, new_votes] = [(free[0], block_count), (free[1], vote_count)].map(|(free, count)| {
+        let new = match random.below(8) {
+            0 => free + 1,
+            1 => random.between(0, count as u64) as usize,
+            _ if fill => free,
+            _ => free.min(random.between(0, 3) as usize),
+        };
+        new.min(count)
+    });
+    if proposal {
+        new_blocks = new_blocks.max(1).min(block_count);
+    }
+    // a narrow packet can name these alone
+    let mut known = known_blocks(memory);
+    known.retain(|block| wide || halves(block.number)[1] == 0);
+    let mut blocks: Vec<PacketBlock> = Vec::new();
+    while blocks.len() < new_blocks || (blocks.len() < block_count && known.len() < 2) {
+        let Block { number: parent, slot: above, .. } = random.pick(&known);
+        if above < now {
+            let upper = if wide && numbers == Numbers::Any { random.below(3) } else { 0 };
+            let number = number_of(random.between(2_000, 1 << 40), upper);
+            let slot = if proposal && blocks.is_empty() || random.once_in(3) { now } else { random.between(above + 1, now) };
+            blocks.push(PacketBlock { number, parent, slot: slot as u32 });
+            known.push(Block { number, parent, slot, in_view: false });
+        }
+    }
+    while blocks.len() < block_count {
+        let Block { number, parent, slot, .. } = known[random.between(1, known.len() as u64 - 1) as usize];
+        blocks.push(PacketBlock { number, parent, slot: slot as u32 });
+    }
+    let mut held: Vec<PacketVote> = votes(memory).filter(|vote| wide || halves(vote.number)[1] == 0).map(packet_vote).collect();
+    let mut cast: HashSet<_> = held.iter().map(|vote| (vote.voter, vote.slot, vote.number)).collect();
+    let mut votes = Vec::new();
+    // what is drawn may be known already
+    for _ in 0..4 * new_votes.max(usize::from(held.is_empty())) {
+        if votes.len() == new_votes && !held.is_empty() {
+            break;
+        }
+        let Block { number, slot: from, .. } = random.pick(&known);
+        let slot = random.between(from.max(first_kept(settings, memory)).clamp(1, now), now) as u32;
+        let vote = PacketVote { voter: random.below(settings.nodes) as u8, slot, number };
+        if cast.insert((vote.voter, vote.slot, vote.number)) {
+            votes.push(vote);
+            held.push(vote);
+        }
+    }
+    while votes.len() < vote_count {
+        votes.push(random.pick(&held));
+    }
+    let named = blocks.first().filter(|_| proposal).copied();
+    let mut packet = gossip(blocks, votes);
+    if let Some(named) = named {
+        (packet.kind, packet.slot, packet.number) = (3, named.slot, named.number);
+    }
+    packet.kind -= if wide { 0 } else { 2 };
+    packet
+}
+
+/// How many blocks and votes a packet of so many bytes has. Of all lengths from 250 on there are narrow ones, and of every third there are wide
+/// ones.
+fn counts(random: &mut Random, wide: bool, length: usize) -> (usize, usize) {
+    let (header, block, vote) = if wide { (25, 36, 21) } else { (17, 20, 13) };
+    let body = length - header;
+    let fits: Vec<_> = (0..=body / block).filter(|blocks| (body - block * blocks) % vote == 0).collect();
+    let blocks = random.pick(&fits);
+    (blocks, (body - block * blocks) / vote)
 }
 
 fn slot_of(beat: u64) -> u64 {

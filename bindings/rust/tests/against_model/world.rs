@@ -1,11 +1,12 @@
 //! A few nodes of one network that make calls, exchange packets and are lent damaged memory.
 
-use crate::both::{blocks, number_of, zeroed, Answer, Both, Call, Reply};
+use crate::both::{blocks, number_of, zeroed, Answer, Both, Call, Refused, Reply};
 use crate::old_votes::OldVotes;
 use crate::packets::{self, Numbers};
+use crate::racks::Racks;
 use crate::random::Random;
 use crate::wide::Wide;
-use likvost::{Clock, Memory, Settings, BLOCK_WORDS, VOTE_WORDS};
+use likvost::{Clock, Memory, Profile, Settings, BLOCK_WORDS, RACK_PACKET, VOTE_WORDS};
 use likvost_model::{Block, PacketBlock};
 
 /// The last beat of the last slot.
@@ -16,7 +17,7 @@ pub struct Run {
     seed: u64,
     pub calls: u64,
     /// By call and refusal; 0 stands for a call that was carried out.
-    pub replies: [[u64; 24]; 9],
+    pub replies: [[u64; 25]; 9],
     /// The largest index of a refused block and vote.
     pub deepest: [u64; 2],
     /// Proposals that came into view on arrival, and Fast blocks.
@@ -24,6 +25,7 @@ pub struct Run {
     pub fast: u64,
     pub old_votes: OldVotes,
     pub wide: Wide,
+    pub racks: Racks,
 }
 
 impl Run {
@@ -31,12 +33,13 @@ impl Run {
         Run {
             seed,
             calls: 0,
-            replies: [[0; 24]; 9],
+            replies: [[0; 25]; 9],
             deepest: [0; 2],
             brought: 0,
             fast: 0,
             old_votes: OldVotes::default(),
             wide: Wide::default(),
+            racks: Racks::default(),
         }
     }
 
@@ -49,6 +52,7 @@ impl Run {
         });
         self.old_votes.count(node, &before, call, &reply);
         self.wide.count(node, &before, call, &reply, buffer.len());
+        self.racks.count(node, &before, call, &reply);
         self.replies[call.index()][reply.err().map_or(0, |(number, _)| number) as usize] += 1;
         match reply {
             Err((9, Some(index))) => self.deepest[0] = self.deepest[0].max(index),
@@ -72,22 +76,34 @@ pub struct World<'a> {
 
 impl<'a> World<'a> {
     pub fn new(run: &'a mut Run, mut random: Random) -> World<'a> {
-        let size = random.pick(&[1, 2, 3, 4, 5, 5, 7, 16, 33, 63, 64]);
+        // in half of the networks most nodes are racks
+        let racks = random.once_in(2);
+        let size = match racks {
+            false => random.pick(&[1, 2, 3, 4, 5, 5, 7, 16, 33, 63, 64]),
+            true => random.pick(&[1, 2, 3, 4, 5, 7, 15, 16, 16, 17]),
+        };
         let expiry = random.pick(&[1, 2, 2, 3, 5, 100, 4096]);
         let depth = random.pick(&[1, 2, 3, 4, 7, 4096]);
         let mut nodes = Vec::new();
         for i in 0..size.min(random.between(1, 4)) {
             let own = if random.once_in(2) { i } else { size - 1 - i };
-            let settings = Settings { nodes: size, own, expiry, depth };
+            let profile = if racks && !random.once_in(4) { Profile::Rack } else { Profile::Loom };
+            let mut settings = Settings { profile, nodes: size, own, expiry, depth };
             let (blocks, votes) = match random.below(20) {
                 0..=4 => (random.between(1, 4), random.between(1, 4)),
                 5 => (random.between(25, 64), random.between(65, 256)),
+                6..=11 if racks => random.pick(&[(64, 256), (64, 256), (64, 256), (65, 256), (65, 99), (64, 257), (9, 257)]),
                 _ => (random.between(5, 24), random.between(5, 64)),
             };
             let mut memory = zeroed(blocks as usize, votes as usize);
             fill(&mut random, &mut memory);
             let mut node = Both::new(settings, memory);
-            run.make(&mut node, &Call::Open, &mut []).expect("the settings are in range");
+            if run.make(&mut node, &Call::Open, &mut []).is_err() {
+                // past the limits of a rack, so it is a loom
+                settings.profile = Profile::Loom;
+                node = Both::new(settings, node.memory().clone());
+                run.make(&mut node, &Call::Open, &mut []).expect("the settings are in range");
+            }
             if random.once_in(2) {
                 // unused places may hold anything
                 let mut memory = node.memory().clone();
@@ -112,19 +128,22 @@ impl<'a> World<'a> {
     pub fn go(&mut self, calls: u64) {
         let end = self.run.calls + self.random.between(100, 900);
         while self.run.calls < calls.min(end) && self.beat <= LAST_BEAT + 2 {
-            match self.random.below(100) {
-                0..=19 => self.tick(),
+            match self.random.below(116) {
+                0..=18 => self.tick(),
                 20..=41 => self.deliver(),
                 42..=52 => self.receive_made(),
                 53..=58 => self.receive_old_votes(),
                 59..=72 => self.ask(),
                 73..=76 => self.late(),
-                77..=81 => self.write_odd(),
+                19 | 77..=81 => self.write_odd(),
                 82..=94 => self.trial(),
                 95 => self.bring_twin(),
                 96 => self.wide_beside_proposal(),
                 97..=98 => self.carry_old_stock(),
-                _ => self.reopen(),
+                99 => self.reopen(),
+                100..=111 => self.receive_about_longest(),
+                112 => self.past_rack_limits(),
+                _ => self.fill_rack(),
             }
         }
     }
@@ -145,29 +164,29 @@ impl<'a> World<'a> {
             if self.random.once_in(5) {
                 continue;
             }
-            self.due(node);
+            let made = self.due(node).is_ok();
             self.send(node, false);
-            if beat % 3 == 0 {
+            if beat % 3 == 0 && (made || self.random.once_in(4)) {
                 self.send(node, true);
             }
         }
     }
 
     /// The call that is due at this beat.
-    fn due(&mut self, node: usize) {
+    fn due(&mut self, node: usize) -> Reply {
         let beat = self.beat;
         let call = match beat % 3 {
             0 => Call::Propose { beat, number: self.number(node) },
             1 => Call::Vote { beat },
             _ => Call::Merge { beat },
         };
-        let _ = self.make(node, call);
+        self.make(node, call)
     }
 
     /// A node makes its call late in the beat, after it has received packets, or makes it again.
     fn late(&mut self) {
         let node = self.any();
-        self.due(node);
+        let _ = self.due(node);
         self.send(node, self.beat % 3 == 0);
     }
 
@@ -263,7 +282,7 @@ impl<'a> World<'a> {
     /// Write with a buffer of any length.
     fn write_odd(&mut self) {
         let node = self.any();
-        let mut buffer = vec![0; self.random.pick(&[0, 1, 16, 17, 18, 24, 25, 26, 37, 50, 61, 200, 700, 3000, 5000])];
+        let mut buffer = vec![0; self.random.pick(&[0, 1, 16, 17, 18, 24, 25, 26, 37, 50, 61, 200, 700, 3000, 4096, 5000])];
         buffer.iter_mut().for_each(|byte| *byte = self.random.word() as u8);
         let call = self.write();
         let _ = self.run.make(&mut self.nodes[node], &call, &mut buffer);
@@ -329,12 +348,120 @@ impl<'a> World<'a> {
             ..both.settings()
         };
         let beat = memory.clock.seen;
-        let mut fresh = Both::new(settings, zeroed(memory.blocks_used, memory.votes_used.max(1)));
-        for call in [Call::Open, Call::Receive { beat, packet }] {
-            self.run.make(&mut fresh, &call, &mut []).expect("a fresh node takes it");
-        }
+        let places = (memory.blocks_used, memory.votes_used.max(1));
+        let profile = if packet.len() > RACK_PACKET { Profile::Loom } else { settings.profile };
+        let mut fresh =
+            receiver(self.run, Settings { profile, ..settings }, places, beat, packet).expect("a fresh node takes it");
         assert_eq!(gossip(self.run, &mut fresh, false), Ok(narrow));
         self.run.wide.carried += 1;
+    }
+
+    /// Packets about as long as the longest that a rack reads, for a node or for a copy of it in the next slots. What is too long for it goes
+    /// to a loom with the same tables.
+    fn receive_about_longest(&mut self) {
+        let rack = self.nodes.iter().position(|node| node.settings().profile == Profile::Rack);
+        let node = rack.unwrap_or_else(|| self.any());
+        let mut copy = self.nodes[node].clone();
+        let ahead = !self.random.once_in(3);
+        if rack.is_some() && !self.random.once_in(4) {
+            copy = Both::new(copy.settings(), with_places(copy.memory(), 64, 256));
+        }
+        for _ in 0..self.random.between(1, 4) {
+            let both = if ahead { &mut copy } else { &mut self.nodes[node] };
+            let beat = match self.random.below(6) {
+                0 => both.memory().clock.seen - 1,
+                1..=4 if ahead => 3 * (both.memory().clock.seen / 3 + 1),
+                _ if ahead => both.memory().clock.seen,
+                _ => self.beat,
+            };
+            let (settings, memory, beat) = (both.settings(), both.memory().clone(), beat.max(3));
+            let packet = packets::about_longest(&mut self.random, self.numbers, settings, &memory, beat);
+            let call = Call::Receive { beat, packet };
+            if self.run.make(both, &call, &mut []) == Err((24, None)) {
+                let mut loom = Both::new(Settings { profile: Profile::Loom, ..settings }, memory);
+                let _ = self.run.make(&mut loom, &call, &mut []);
+            }
+        }
+    }
+
+    /// Every call on a copy of a node that is a rack with one node, block place or vote place more than it may have.
+    fn past_rack_limits(&mut self) {
+        let node = self.any();
+        let mut settings = Settings { profile: Profile::Rack, ..self.nodes[node].settings() };
+        let nodes = settings.nodes;
+        let mut memory = self.nodes[node].memory().clone();
+        match self.random.below(5) {
+            0 | 1 if nodes <= 16 => memory.blocks.resize(BLOCK_WORDS * 65, 0),
+            2 | 3 if nodes <= 16 => memory.votes.resize(VOTE_WORDS * 257, 0),
+            _ => settings.nodes = nodes.max(17),
+        }
+        let beat = self.beat.max(3);
+        let (slot, number) = (self.slot(node), self.number(node));
+        let packet = packets::about_longest(&mut self.random, self.numbers, settings, &memory, beat);
+        let calls = [
+            Call::Receive { beat, packet },
+            Call::Propose { beat, number },
+            Call::Vote { beat },
+            Call::Merge { beat },
+            Call::Head { slot },
+            Call::Deep { slot },
+            Call::Fast { slot },
+            self.write(),
+            Call::Open,
+        ];
+        let mut copy = Both::new(settings, memory);
+        for call in &calls {
+            let _ = self.run.make(&mut copy, call, &mut [7; 5000]);
+        }
+    }
+
+    /// A copy of a node is a rack with all the places that there may be, and most of them become used. So its packets are longer than those
+    /// that a rack reads. At times a place stays free for its block and its vote.
+    fn fill_rack(&mut self) {
+        let node = self.any();
+        let settings = Settings { profile: Profile::Rack, ..self.nodes[node].settings() };
+        let (memory, Settings { nodes, own, .. }) = (self.nodes[node].memory(), settings);
+        if nodes > 16 || memory.blocks_used > 63 || memory.votes_used > 255 {
+            return;
+        }
+        let free = self.random.below(2) as usize;
+        let mut rack = Both::new(settings, with_places(memory, 64 - free, 256 - free));
+        let mut numbers = self.numbers;
+        if self.random.once_in(2) {
+            self.run.make(&mut rack, &Call::Open, &mut []).expect("it has no more than a rack may have");
+            numbers = Numbers::Old;
+        }
+        // the next slot of its own; there are entries in the one before
+        let next = (rack.memory().clock.seen / 3 + 1).max(2);
+        let slot = next + (own + nodes - next % nodes) % nodes;
+        let beat = 3 * slot;
+        if self.run.make(&mut rack, &Call::Merge { beat: beat - 1 }, &mut []).is_err() {
+            return; // the slots are over
+        }
+        for _ in 0..self.random.between(4, 7) {
+            let packet = packets::of_length(&mut self.random, numbers, settings, rack.memory(), beat - 1, RACK_PACKET, true);
+            let _ = self.run.make(&mut rack, &Call::Receive { beat: beat - 1, packet: packet.encode() }, &mut []);
+        }
+        rack = Both::new(settings, with_places(rack.memory(), 64, 256));
+        let number = match numbers {
+            Numbers::Old => self.random.between(1_201, 1_600).into(),
+            Numbers::Any => self.number(node),
+        };
+        let writes = [(true, true), (true, false)].map(|(proposal, wide)| Call::Write { proposal, wide });
+        for call in [Call::Propose { beat, number }].iter().chain(&writes).chain(&[Call::Vote { beat: beat + 1 }]) {
+            let _ = self.run.make(&mut rack, call, &mut [7; 7_669]);
+        }
+        let _ = gossip(self.run, &mut rack, false);
+        let packet = gossip(self.run, &mut rack, true).expect("there is room for it");
+        if packet.len() > RACK_PACKET {
+            let seen = rack.memory().clock.seen;
+            let refused = receiver(self.run, settings, (64, 256), seen, packet.clone());
+            assert_eq!(refused.err(), Some((24, None)));
+            let loom = Settings { profile: Profile::Loom, ..settings };
+            let mut fresh = receiver(self.run, loom, (64, 256), seen, packet.clone()).expect("a fresh loom takes it");
+            assert_eq!(gossip(self.run, &mut fresh, true), Ok(packet));
+            self.run.racks.carried += 1;
+        }
     }
 
     /// Opens a node again.
@@ -346,7 +473,7 @@ impl<'a> World<'a> {
     /// A few calls on a copy of a node, most with odd arguments, and on damaged memory half of the time.
     fn trial(&mut self) {
         let node = self.any();
-        if self.random.once_in(5) {
+        if self.random.once_in(4) {
             return self.lend_old_vote(node);
         }
         let mut copy = self.nodes[node].clone();
@@ -432,9 +559,30 @@ fn gossip(run: &mut Run, node: &mut Both, wide: bool) -> Result<Vec<u8>, Reply> 
     Ok(buffer)
 }
 
+/// A fresh node with so many places for blocks and votes that has received the packet, or why it refused.
+fn receiver(
+    run: &mut Run,
+    settings: Settings,
+    (block_places, vote_places): (usize, usize),
+    beat: u64,
+    packet: Vec<u8>,
+) -> Result<Both, Refused> {
+    let mut fresh = Both::new(settings, zeroed(block_places, vote_places));
+    run.make(&mut fresh, &Call::Open, &mut []).expect("the settings are in range");
+    run.make(&mut fresh, &Call::Receive { beat, packet }, &mut []).map(|_| fresh)
+}
+
 /// Bytes that the node's packets fit in.
 fn room(memory: &Memory) -> usize {
     25 + 36 * memory.blocks_used.min(100) + 21 * memory.votes_used.min(300)
+}
+
+/// The memory with so many places, zero where they are more.
+fn with_places(memory: &Memory, blocks: usize, votes: usize) -> Memory {
+    let mut memory = memory.clone();
+    memory.blocks.resize(BLOCK_WORDS * blocks, 0);
+    memory.votes.resize(VOTE_WORDS * votes, 0);
+    memory
 }
 
 fn fill(random: &mut Random, memory: &mut Memory) {
@@ -450,12 +598,14 @@ fn fill_unused(random: &mut Random, memory: &mut Memory) {
 }
 
 fn damage_settings(random: &mut Random, settings: &mut Settings) {
-    let value = random.pick(&[0, 1, 2, 64, 65, 4096, 4097, u64::MAX]);
-    match random.below(4) {
+    let value = random.pick(&[0, 1, 2, 16, 17, 64, 65, 4096, 4097, u64::MAX]);
+    match random.below(5) {
         0 => settings.nodes = value,
         1 => settings.own = value,
         2 => settings.expiry = value,
-        _ => settings.depth = value,
+        3 => settings.depth = value,
+        _ if settings.profile == Profile::Loom => settings.profile = Profile::Rack,
+        _ => settings.profile = Profile::Loom,
     }
 }
 
@@ -491,7 +641,7 @@ fn damage_lengths(random: &mut Random, memory: &mut Memory) {
         4 => words.clear(),
         5 => words.truncate(random.below(words.len() as u64 + 1) as usize),
         6 => words.resize(words.len() + random.between(1, 8) as usize, 0),
-        _ => words.resize(width * random.pick(&[2048, 2049, 8192, 8193]), 0),
+        _ => words.resize(width * random.pick(&[64, 65, 256, 257, 2048, 2049, 8192, 8193]), 0),
     }
 }
 

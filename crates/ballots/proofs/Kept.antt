@@ -8,6 +8,7 @@ use lib.Dec.{eqb, ltb}
 use lib.ListN.{length, set}
 use lib.Seq.{getD-set-same, getD-set-other}
 use borrow.Author.Tests.{eqb-true, eqb-false, eq-eqb, lt-ltb, le-ltb}
+use Rattle.protocol.specs.Limits.{loom}
 use Rattle.protocol.specs.Entry.{Vote}
 use Rattle.protocol.specs.Filters.{equivocates, counted, window, Last, last, none, later, latest, chosen, nothing, choiceOf, kept}
 use Rattle.protocol.specs.Confirm.{voteIn, inSlot, validVote}
@@ -20,7 +21,7 @@ use Rattle.ballots.specs.Latest.{equivocatorsOf, lastAt, Latest, Kept}
 
 -- the voters below k in the set have no vote any more
 pub record Dropped (vs : List Vote) (E t mask k : ℕ) (slots numbers : List ℕ) : Type 0 where
-  pub each : (v : ℕ) → v < 64 → lastAt slots numbers v ≡ cond (ltb v k && bitOf mask v) none (latest vs E t v)
+  pub each : (v : ℕ) → v < loom .nodes → lastAt slots numbers v ≡ cond (ltb v k && bitOf mask v) none (latest vs E t v)
 
 pub dropped-none : (vs : List Vote) (E t mask : ℕ) {slots numbers : List ℕ} → Latest vs E t slots numbers → Dropped vs E t mask 0 slots numbers
 dropped-none vs E t mask L = record { each = λ v l. rw (le-ltb v 0 (omega arith)) (L .each v l) }
@@ -37,7 +38,7 @@ pub dropped-more : (vs : List Vote) (E t mask k : ℕ) {slots numbers next : Lis
     → next ≡ cond (bitOf mask k) (set slots k 0) slots → k < length slots → Dropped vs E t mask (k + 1) next numbers
 dropped-more vs E t mask k {slots} {numbers} {next} D e h = record { each = λ v l. ap (λ (s : List ℕ). lastAt s numbers v) e ∙ go v l (eqb v k) refl (bitOf mask k) refl }
   where
-    go : (v : ℕ) → v < 64 → (x : Bool) → eqb v k ≡ x → (b : Bool) → bitOf mask k ≡ b
+    go : (v : ℕ) → v < loom .nodes → (x : Bool) → eqb v k ≡ x → (b : Bool) → bitOf mask k ≡ b
         → lastAt (cond b (set slots k 0) slots) numbers v ≡ cond (ltb v (k + 1) && bitOf mask v) none (latest vs E t v)
     go v l true q true m =
         let p : v ≡ k = eqb-true v k q in
@@ -63,7 +64,7 @@ dropped-all vs E t mask k {slots} {numbers} D h e = record { each = λ v l. go v
     pick true f = refl
     pick false f = refl
 
-    go : (v : ℕ) → v < 64 → choiceOf (lastAt slots numbers v) ≡ kept vs E t v
+    go : (v : ℕ) → v < loom .nodes → choiceOf (lastAt slots numbers v) ≡ kept vs E t v
     go v l =
         let d : lastAt slots numbers v ≡ cond (equivocates (counted E t) vs v) none (latest vs E t v)
         = D .each v l ∙ rw (lt-ltb v k (omega arith), e, bit-mask 64 (λ u. equivocates (counted E t) vs u) v l) in

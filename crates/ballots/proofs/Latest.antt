@@ -99,7 +99,7 @@ latest-new vs a E t slots numbers w z h m n L = record { each = λ v l. go v l (
         pick true = refl
         pick false = rw (lt-ltb (getD slots (a .voter) 0) (a .slot) h)
 
-    go : (v : ℕ) → v < 64 → (b : Bool) → eqb (a .voter) v ≡ b → lastAt (set slots (a .voter) (a .slot)) (keptIn numbers (a .voter) (a .number)) v ≡ latest (vs ++ (a ∷ [])) E t v
+    go : (v : ℕ) → v < loom .nodes → (b : Bool) → eqb (a .voter) v ≡ b → lastAt (set slots (a .voter) (a .slot)) (keptIn numbers (a .voter) (a .number)) v ≡ latest (vs ++ (a ∷ [])) E t v
     go v l true e =
         let q : a .voter ≡ v = eqb-true (a .voter) v e in
         ap (lastAt (set slots (a .voter) (a .slot)) (keptIn numbers (a .voter) (a .number))) (sym q) ∙ new

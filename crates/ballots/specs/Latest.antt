@@ -5,6 +5,7 @@ use mathlib.Core.List.{List}
 use mathlib.Core.Path.{_≡_}
 use lib.Dec.{eqb}
 use lib.ListN.{getD}
+use Rattle.protocol.specs.Limits.{loom}
 use Rattle.protocol.specs.Entry.{Vote}
 use Rattle.protocol.specs.Filters.{equivocates, counted, Last, last, none, latest, choiceOf, kept}
 use Rattle.protocol.specs.Store.{Marked, entries, inView}
@@ -23,7 +24,7 @@ votesIn whole ws n = selected whole (rowsOf makeVote ws n)
 
 -- every voter has a place in a word
 abbrev pub VotersFit : List ℕ → ℕ → Type 0
-VotersFit ws n = (i : ℕ) → i < n → rowAt makeVote ws i .entry .voter < 64
+VotersFit ws n = (i : ℕ) → i < n → rowAt makeVote ws i .entry .voter < loom .nodes
 
 -- the voters whom filter 1 drops for slot t
 unfoldable pub equivocatorsOf : List Vote → ℕ → ℕ → ℕ
@@ -36,8 +37,8 @@ lastAt slots numbers v =
 
 -- the arrays hold the latest vote of each voter
 pub record Latest (vs : List Vote) (E t : ℕ) (slots numbers : List ℕ) : Type 0 where
-  pub each : (v : ℕ) → v < 64 → lastAt slots numbers v ≡ latest vs E t v
+  pub each : (v : ℕ) → v < loom .nodes → lastAt slots numbers v ≡ latest vs E t v
 
 -- and the kept one, which an equivocator has not
 pub record Kept (vs : List Vote) (E t : ℕ) (slots numbers : List ℕ) : Type 0 where
-  pub each : (v : ℕ) → v < 64 → choiceOf (lastAt slots numbers v) ≡ kept vs E t v
+  pub each : (v : ℕ) → v < loom .nodes → choiceOf (lastAt slots numbers v) ≡ kept vs E t v

@@ -124,7 +124,7 @@ fn gather(
 
 // One voter's vote is dropped, if the voter is in the set.
 fn drop_voter(dropped: u64, v: usize, slots: &mut [u64])
-    requires { ⌜ (v < 64) × (length (now slots) ≡ loom .nodes) ⌝ }
+    requires { ⌜ (v < loom .nodes) × (length (now slots) ≡ loom .nodes) ⌝ }
     ensures { λ r. ⌜ now (slots .exit) ≡ cond (bitOf dropped v) (set (now (slots .entry)) v 0) (now (slots .entry)) ⌝ }
 {
     if masks::has(dropped, v as u64) {

@@ -8,6 +8,7 @@ use native.Mathlib.Omega.{arith}
 use lib.Dec.{eqb, leb, ltb}
 use lib.ListN.{getD}
 use borrow.Author.Tests.{eqb-true, eq-eqb, leb-true, le-leb, ltb-true, ltb-false}
+use Rattle.protocol.specs.Limits.{loom}
 use Rattle.protocol.specs.Entry.{Block}
 use Rattle.protocol.specs.Chain.{above}
 use Rattle.protocol.specs.Filters.{last, none, Choice, chosen, nothing, choiceOf}
@@ -99,13 +100,13 @@ count-wide p n (suc m) h f = go (ltb m n) refl (λ q. count-wide p n m q (λ v a
 -- k says each voter's choice, for a selected block
 module _ {w : Bool} {ws : List ℕ} {n : ℕ} (H : Held w ws n) (k : ℕ → Choice) {slots numbers masks : List ℕ} where
   -- the word at a place is the set of those that support the block there
-  pub place-voters : Subtrees ws n slots numbers 1 masks → ((v : ℕ) → v < 64 → choiceOf (lastAt slots numbers v) ≡ k v)
+  pub place-voters : Subtrees ws n slots numbers 1 masks → ((v : ℕ) → v < loom .nodes → choiceOf (lastAt slots numbers v) ≡ k v)
       → ((v x : ℕ) → k v ≡ chosen x → Known (blocksIn w ws n) x)
       → (j : ℕ) → j < n → getD masks j 0 ≡ maskOf 64 (λ v. supports (blocksIn w ws n) (k v) (blockAt ws j .number))
   place-voters S K kn j l =
       S .each j l ∙ mask-ext 64 (λ v. reaches ws n slots numbers 1 j v) (λ v. supports (blocksIn w ws n) (k v) (blockAt ws j .number)) (λ v h. one v h)
     where
-      one : (v : ℕ) → v < 64 → reaches ws n slots numbers 1 j v ≡ supports (blocksIn w ws n) (k v) (blockAt ws j .number)
+      one : (v : ℕ) → v < loom .nodes → reaches ws n slots numbers 1 j v ≡ supports (blocksIn w ws n) (k v) (blockAt ws j .number)
       one v h =
           reaches-supports H slots numbers j v l (λ x e. kn v x (sym (K v h) ∙ e))
           ∙ ap (λ (o : Choice). supports (blocksIn w ws n) o (blockAt ws j .number)) (K v h)

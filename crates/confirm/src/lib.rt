@@ -6,6 +6,7 @@ ghost use mathlib.Core.Path.{_≡_};
 ghost use Prim.Native.Nat.{_+_, _-_, _*_, _^_, _<_, _≤_};
 ghost use lib.Dec.{leb};
 ghost use lib.ListN.{length};
+ghost use Rattle.protocol.specs.Limits.{loom};
 ghost use Rattle.protocol.specs.Words.{value};
 ghost use Rattle.protocol.specs.Store.{inView};
 ghost use Rattle.protocol.specs.Lent.{BlocksFit, rowsOf, makeBlock, makeVote};
@@ -85,7 +86,7 @@ pub fn deep(
 
 // Whether a set has three quarters of n voters.
 fn is_quorum(n: u64, mask: u64) -> bool
-    requires { ⌜ n ≤ 64 ⌝ }
+    requires { ⌜ n ≤ loom .nodes ⌝ }
     ensures { λ r. ⌜ r ≡ leb (3 * n) (4 * count (bitOf mask) 64) ⌝ }
 {
     3 * n <= 4 * (masks::weight(mask) as u64)
@@ -93,7 +94,7 @@ fn is_quorum(n: u64, mask: u64) -> bool
 
 // The last block in view with three quarters of n voters. The blocks with as many are on one chain, so it is the highest of them.
 fn top(blocks: &[u64], used: usize, masks: &[u64], n: u64) -> Answer
-    requires { ⌜ BlocksFit used (now blocks) × (used ≤ length (now masks)) × (n ≤ 64) ⌝ }
+    requires { ⌜ BlocksFit used (now blocks) × (used ≤ length (now masks)) × (n ≤ loom .nodes) ⌝ }
     ensures { λ r. ⌜ choiceIn r ≡ topChoice (now (blocks .entry)) (now (masks .entry)) n used ⌝ }
 {
     let mut i: usize = used;

@@ -25,7 +25,7 @@ use Rattle.answers.specs.declared.Reply as replies
 use Rattle.answers.specs.declared.Written as written
 use Rattle.answers.specs.Answers.{Value, nothingMore, received, block, replyOf, writtenOf, mapReply}
 use Rattle.answers.specs.Promises.{Leaves, Writes}
-use Rattle.conformance.specs.CodeCall.{promised}
+use Rattle.conformance.specs.CodeCallList.{promised}
 use Rattle.conformance.specs.CodeRack.{SameCalls, opened, then, CodeRackAsLoom}
 use Rattle.conformance.proofs.Answers.{refused-mapped}
 use Rattle.conformance.proofs.Memory.{Healthy, opened-done, opened-node, opened-healthy, called, wrote}

@@ -27,7 +27,7 @@ use Rattle.protocol.proofs.Removal.Unseen.{answered}
 use Rattle.answers.specs.declared.Reply as replies
 use Rattle.answers.specs.Answers.{Value, nothingMore, received, block, replyOf}
 use Rattle.answers.specs.Promises.{Leaves}
-use Rattle.conformance.specs.CodeCall.{promised}
+use Rattle.conformance.specs.CodeCallList.{promised}
 use Rattle.conformance.specs.CodeRemoval.{CodeCalls, opened, then, CodeRemovalUnseen}
 use Rattle.conformance.proofs.Answers.{done-mapped, refused-mapped}
 use Rattle.conformance.proofs.Memory.{opened-done, opened-node, opened-healthy, Called, called}

@@ -14,7 +14,7 @@ use Rattle.answers.specs.declared.Reply.the-variants as reply
 use Rattle.answers.specs.declared.Written.{Written}
 use Rattle.answers.specs.Answers.{replyOf, answerOf, writtenOf}
 use Rattle.answers.specs.Promises.{Opens, IsHead, IsDeep, IsFast, Writes}
-use Rattle.conformance.specs.CodeCall.{promised}
+use Rattle.conformance.specs.CodeCallList.{promised}
 
 -- The memories that an Open of a rack, one of a loom with as many places and the same other settings, and then the same calls of the code on both left,
 -- none of which the rack refused by 10 or 24.

@@ -17,7 +17,7 @@ use Rattle.answers.specs.declared.Reply.{Reply}
 use Rattle.answers.specs.declared.Reply.the-variants as reply
 use Rattle.answers.specs.Answers.{replyOf, answerOf}
 use Rattle.answers.specs.Promises.{Opens, IsHead, IsDeep, IsFast}
-use Rattle.conformance.specs.CodeCall.{promised}
+use Rattle.conformance.specs.CodeCallList.{promised}
 
 -- The memory that an Open and then calls of the code left, none of which answered 10; and the node that the same calls leave where no vote
 -- is ever removed.

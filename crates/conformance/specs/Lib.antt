@@ -2,7 +2,7 @@
 pub mod State
 pub mod CodeRun
 pub mod Conformance
-pub mod CodeCall
+pub mod CodeCallList
 pub mod CodeRemoval
 pub mod CodeRack
 pub mod CodeDeepAgreement

@@ -79,11 +79,11 @@ OldStock =
 abbrev pub wider : Packet → Packet
 wider p = record { kind = p .kind + 2; slot = p .slot; number = p .number; blocks = p .blocks; votes = p .votes }
 
--- A narrow packet and the wide one of the same header and entries are taken alike, at every beat and by every node, where neither is too long for it.
+-- A narrow packet and the wide one of the same header and entries are taken alike, at every beat and by every node for which the wide one is not too long.
 unfoldable pub WidthUnseen : Type 0
 WidthUnseen =
     (s : Settings) (p : Places) (x : Node) (beat : ℕ) (bytes : List ℕ) →
     ((i : ℕ) → i < length bytes → getD bytes i 0 < 256) → wellFormed bytes ≡ true → packetOf bytes .kind < 2 →
     let wide = packetBytes (wider (packetOf bytes)) in
-    limitsOf (s .profile) .tooLong (length bytes) ≡ false → limitsOf (s .profile) .tooLong (length wide) ≡ false →
+    limitsOf (s .profile) .tooLong (length wide) ≡ false →
     receive s p x beat bytes ≡ receive s p x beat wide

@@ -54,7 +54,7 @@ fn place_voter(
     masks: &mut [u64],
 )
     requires { ⌜ BlocksFit used (now blocks) × BlockIndex (now blocks) used (now links) × (0 < used) × (used ≤ length (now masks))
-        × (length (now slots) ≡ loom .nodes) × NumbersFit (loom .nodes) (now numbers) × (v < 64) ⌝ }
+        × (length (now slots) ≡ loom .nodes) × NumbersFit (loom .nodes) (now numbers) × (v < loom .nodes) ⌝ }
     ensures { λ r. ⌜ now (masks .exit) ≡ cond (voted (now (slots .entry)) v)
         (set (now (masks .entry)) (placeIn (now (blocks .entry)) used (numberIn (now (numbers .entry)) v))
         (maskOf 64 (added (bitOf (getD (now (masks .entry)) (placeIn (now (blocks .entry)) used (numberIn (now (numbers .entry)) v)) 0)) v)))

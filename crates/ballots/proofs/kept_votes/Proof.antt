@@ -14,7 +14,7 @@ use Rattle.ballots.proofs.kept_votes.Tie as tie
 
 abbrev Inv-loop : tie.InvT-loop
 Inv-loop votes used whole expiry t slots₀ numbers dropped v₀ slots v =
-    (v ≤ 64) × (length slots ≡ loom .nodes) × Dropped (votesIn whole votes used) expiry t dropped v slots numbers
+    (v ≤ loom .nodes) × (length slots ≡ loom .nodes) × Dropped (votesIn whole votes used) expiry t dropped v slots numbers
 
 abbrev μ-loop : tie.MeasureT-loop
 μ-loop votes used whole expiry t slots₀ numbers dropped v₀ slots v = 64 - v

@@ -4,12 +4,13 @@ use borrow.Author.Tests.{ltb-true, ltb-false}
 use native.Mathlib.Omega.{arith}
 use Prim.Native.Nat.{_<_}
 use mathlib.Core.Path.{ap, sym, _∙_}
+use Rattle.protocol.specs.Limits.{loom}
 use Rattle.ballots.proofs.Latest.{out-turn, old-turn, new-turn}
 use Rattle.ballots.proofs.latest_next.Statement.{statement}
 use Rattle.ballots.proofs.latest_next.Tie as tie
 
 -- the voter of the row read has a place
-voter : (v : tie.After-vote-at) → v .vote-at .result .vote .voter < 64
+voter : (v : tie.After-vote-at) → v .vote-at .result .vote .voter < loom .nodes
 voter v =
     let s = v .before .before .before .before in
     omega (arith, s .pre .1 (s .args .i) (omega arith), ap (λ o. o .entry .voter) (v .vote-at .ensures))

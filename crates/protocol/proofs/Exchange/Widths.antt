@@ -1,6 +1,6 @@
 -- A narrow packet and the wide one of the same header and entries are taken alike. Assumes nothing.
-use Prim.Native.Nat.{ℕ, zero, suc, _+_, _/_, _^_, _<_}
-use mathlib.Core.Path.{_≡_, refl, sym, _∙_}
+use Prim.Native.Nat.{ℕ, zero, suc, _+_, _/_, _^_, _<_, _≤_}
+use mathlib.Core.Path.{_≡_, refl, sym, ap, _∙_}
 use mathlib.Core.Bool.{true, false, not, _||_}
 use mathlib.Core.List.{List, [], _∷_}
 use native.Mathlib.Nat.{lt-of-lt-of-le}
@@ -16,7 +16,8 @@ use Rattle.protocol.specs.Calls.Receive.{headerAllowed, blocksAfter, vot
 use Rattle.protocol.specs.RoundTrip.{WidthUnseen}
 use Rattle.protocol.proofs.Packet.Ranges.{BlockFits, VoteFits, FieldsFit, InRange}
 use Rattle.protocol.proofs.Packet.Numbers.{bytes-by-index, each-holds, each-true}
-use Rattle.protocol.proofs.Packet.Bytes.{round-trip, written-well, read-in-range}
+use Rattle.protocol.proofs.Limits.{shorter}
+use Rattle.protocol.proofs.Packet.Bytes.{packet-length, round-trip, written-well, read-in-range, canonical}
 
 -- the packet with another kind
 abbrev ofKind : ℕ → Packet → Packet
@@ -83,8 +84,17 @@ module _ (s : Settings) (pl : Places) (x : Node) (beat : ℕ) where
   alike (suc zero) q l h short = proposal-alike q ∙ sym (written (ofKind 3 q) short (record { fits = widened 3 (ofKind 1 q) (omega arith) (h .fits); headerFormed = refl }))
   alike (suc (suc kind)) q l h short = absurd (omega arith)
 
+-- the wide one is the longer
+narrower : (kind : ℕ) (q : Packet) → kind < 2 → length (packetBytes (ofKind kind q)) ≤ length (packetBytes (ofKind (kind + 2) q))
+narrower zero q l = omega (arith, packet-length (ofKind 0 q), packet-length (ofKind 2 q))
+narrower (suc zero) q l = omega (arith, packet-length (ofKind 1 q), packet-length (ofKind 3 q))
+narrower (suc (suc kind)) q l = absurd (omega arith)
+
 pub width-unseen : WidthUnseen
 unfolding WidthUnseen
-width-unseen s p x beat bytes each formed narrow short long =
-    let h = read-in-range bytes (bytes-by-index bytes each) formed in
-    read-as s p x beat bytes (packetOf bytes) refl short formed ∙ alike s p x beat (packetOf bytes .kind) (packetOf bytes) narrow h long
+width-unseen s p x beat bytes each formed narrow long =
+    let q = packetOf bytes in
+    let b = bytes-by-index bytes each in
+    let short : Short s p x beat bytes =
+    shorter (s .profile) (length bytes) _ (omega (arith, narrower (q .kind) q narrow, ap length (canonical bytes b formed))) long in
+    read-as s p x beat bytes q refl short formed ∙ alike s p x beat (q .kind) q narrow (read-in-range bytes b formed) long

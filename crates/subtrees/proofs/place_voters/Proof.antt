@@ -11,7 +11,7 @@ use Rattle.subtrees.proofs.place_voters.Statement.{statement}
 use Rattle.subtrees.proofs.place_voters.Tie as tie
 
 abbrev Inv-loop : tie.InvT-loop
-Inv-loop blocks used links slots numbers masks₀ v₀ masks v = (v ≤ 64) × (length masks ≡ loom .blocks) × VotersPlaced blocks used slots numbers v masks
+Inv-loop blocks used links slots numbers masks₀ v₀ masks v = (v ≤ loom .nodes) × (length masks ≡ loom .blocks) × VotersPlaced blocks used slots numbers v masks
 
 abbrev μ-loop : tie.MeasureT-loop
 μ-loop blocks used links slots numbers masks₀ v₀ masks v = 64 - v

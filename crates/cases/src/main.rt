@@ -73,7 +73,7 @@ fn call(letter: u8, words: &[u64]) -> Call {
     }
 }
 
-// Open is given its settings by the line.
+// Open is given its settings by the line. To the calls with a beat the clock is lent, and they move it on in place.
 fn moved(
     held: Held,
     letter: u8,
@@ -94,7 +94,7 @@ fn moved(
             votes_used,
         );
     }
-    node::carried(
+    node::step(
         held.settings,
         held.clock,
         blocks,

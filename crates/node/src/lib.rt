@@ -292,7 +292,7 @@ pub fn merge(
 // ---- the clock moved on in place
 
 // The call that is asked for. The bytes are Receive's; the other calls do not look at them.
-pub fn carried(
+fn carried(
     settings: Settings,
     clock: Clock,
     blocks: &mut [u64],
@@ -378,4 +378,35 @@ pub fn carry(
     );
     *clock = m.clock;
     m.reply
+}
+
+// The same with the clock by value, for programs in Rattle: a copy of it is lent to `carry`, and returned as it was left.
+pub fn step(
+    settings: Settings,
+    clock: Clock,
+    blocks: &mut [u64],
+    blocks_used: &mut usize,
+    votes: &mut [u64],
+    votes_used: &mut usize,
+    call: Call,
+    beat: u64,
+    bytes: &[u8],
+) -> Moved
+    ensures { λ r. ⌜ Carries settings (lent (now (blocks .entry)) (now (votes .entry)) (now («blocks_used» .entry)) (now («votes_used» .entry)) clock)
+        call beat (now (bytes .entry))
+        (lent (now (blocks .exit)) (now (votes .exit)) (now («blocks_used» .exit)) (now («votes_used» .exit)) (r .clock)) (r .reply) ⌝ }
+{
+    let mut k = clock;
+    let reply = carry(
+        settings,
+        &mut k,
+        blocks,
+        blocks_used,
+        votes,
+        votes_used,
+        call,
+        beat,
+        bytes,
+    );
+    Moved { reply, clock: k }
 }

@@ -1,5 +1,5 @@
--- That runs of the code are runs of `resilience`, and so demand 3 holds of them, deep blocks agree and fast blocks hold; and that the code's removing of
--- old votes changes no answer, and its rack behaves as its loom. Assumes nothing.
+-- That runs of the code are runs of `resilience`, and so demand 3 holds of them, deep blocks agree and fast blocks hold; that the code's removing of
+-- old votes changes no answer, and its rack behaves as its loom; and that its gossip carries the whole store. Assumes nothing.
 pub mod Answers
 pub mod Memory
 pub mod Steps
@@ -12,5 +12,6 @@ pub mod Rack
 pub mod Questions
 pub mod DeepAgreement
 pub mod FastHolds
+pub mod RoundTrip
 pub mod OldStock
 pub mod Witness

@@ -9,4 +9,5 @@ pub mod CodeDeepAgreement
 pub mod CodeFastHolds
 pub mod CodeFlooding
 pub mod CodeAsynchrony
+pub mod CodeRoundTrip
 pub mod CodeOldStock

@@ -1,7 +1,8 @@
 -- Numbers as two halves: both ways, and compared by the upper half first. Assumes nothing.
-use Prim.Native.Nat.{ℕ, _^_, _<_}
+use Prim.Native.Nat.{ℕ, suc, _*_, _^_, _<_}
 use mathlib.Core.Path.{_≡_}
 use mathlib.Core.Bool.{false}
+use native.Mathlib.Nat.{lt-of-lt-of-le, mul-le-mul-left}
 use native.Mathlib.Omega.{arith}
 use lib.Dec.{eqb, ltb}
 use borrow.Author.Tests.{eqb-true, ltb-true, eq-eqb, ne-eqb, lt-ltb}
@@ -23,6 +24,11 @@ upper-join a b h = omega arith
 pub lower-below : (n : ℕ) → lowerOf n < 2 ^ 64
 unfolding lowerOf
 lower-below n = omega arith
+
+-- two words make a number of 128 bits
+pub join-below : (a b : ℕ) → a < 2 ^ 64 → b < 2 ^ 64 → join a b < 2 ^ 128
+unfolding join
+join-below a b h l = lt-of-lt-of-le {m = 2 ^ 64 * suc b} (omega arith) (mul-le-mul-left (2 ^ 64) l)
 
 -- ---- two numbers, by their halves
 

@@ -109,10 +109,10 @@ time-holds c t =
     (both (le-leb (c .done) (c .seen) (t .done-seen)) (both (le-leb (c .merged * 3 + 2) (c .done) (t .merged-done)) (le-leb (c .proposed) (c .seen / 3) (t .proposed-seen))))
 
 -- the votes, with their marks
-record VotesSound (n slot : ℕ) (bs : List (Marked Block)) (ms : List (Marked Vote)) : Type 0 where
-  each : (a : Vote) → Cast a (entries ms) → VoteSound n slot (entries bs) a
-  apart : distinct (entries ms) ≡ true
-  closed : (a : Vote) → Cast a (inView ms) → Known (inView bs) (a .number)
+pub record VotesSound (n slot : ℕ) (bs : List (Marked Block)) (ms : List (Marked Vote)) : Type 0 where
+  pub each : (a : Vote) → Cast a (entries ms) → VoteSound n slot (entries bs) a
+  pub apart : distinct (entries ms) ≡ true
+  pub closed : (a : Vote) → Cast a (inView ms) → Known (inView bs) (a .number)
 
 votes-true : (n slot : ℕ) (bs : List (Marked Block)) (ms : List (Marked Vote)) → votesSound n slot bs ms ≡ true → VotesSound n slot bs ms
 unfolding votesSound entries apart
@@ -146,7 +146,7 @@ votes-true n slot bs (m ∷ ms) e =
     closed o a (inl q) = rw (q .0) (seen (q .1))
     closed o a (inr k) = o .closed a k
 
-votes-holds : (n slot : ℕ) (bs : List (Marked Block)) → Sound (entries bs) → (ms : List (Marked Vote)) → VotesSound n slot bs ms → votesSound n slot bs ms ≡ true
+pub votes-holds : (n slot : ℕ) (bs : List (Marked Block)) → Sound (entries bs) → (ms : List (Marked Vote)) → VotesSound n slot bs ms → votesSound n slot bs ms ≡ true
 unfolding votesSound entries apart
 votes-holds n slot bs S [] o = refl
 votes-holds n slot bs S (m ∷ ms) o =
@@ -197,6 +197,9 @@ module _ {s : Settings} {pl : Places} {x : Node} (G : IsSound s pl x) where
   pub view-sound : Sound (inView (x .blocks))
   view-sound = closed-sound (G .blocks) (G .closed-blocks)
 
+  pub sound-votes : VotesSound (s .nodes) (x .clock .seen / 3) (x .blocks) (x .votes)
+  sound-votes = record { each = G .votes; apart = G .apart; closed = G .closed-votes }
+
   pub slot-seen : (c : Block) → In c (entries (x .blocks)) → c .slot ≤ x .clock .seen / 3
   slot-seen c m = table-slot (G .blocks) c m
 
@@ -205,7 +208,7 @@ module _ {s : Settings} {pl : Places} {x : Node} (G : IsSound s pl x) where
   sound-holds =
       both (G .settings) (both (G .places) (both (le-leb (length (x .blocks)) (pl .blocks) (G .fit-blocks)) (both (le-leb (length (x .votes)) (pl .votes) (G .fit-votes))
       (both (time-holds (x .clock) (G .time)) (both (table-holds (x .clock .seen / 3) (x .blocks) (G .blocks) (G .closed-blocks))
-      (votes-holds (s .nodes) (x .clock .seen / 3) (x .blocks) store-sound (x .votes) (record { each = G .votes; apart = G .apart; closed = G .closed-votes })))))))
+      (votes-holds (s .nodes) (x .clock .seen / 3) (x .blocks) store-sound (x .votes) sound-votes))))))
 
 -- a fresh node is sound
 pub fresh-sound : (s : Settings) (pl : Places) → settingsSound s ≡ true → placesSound (limitsOf (s .profile)) pl ≡ true → IsSound s pl fresh

@@ -18,7 +18,7 @@ use Rattle.node.proofs.receive.Reads as receiving
 use Rattle.node.proofs.propose.Reads as proposing
 use Rattle.node.proofs.vote.Reads as voting
 use Rattle.node.proofs.merge.Reads as merging
-use Rattle.node.proofs.carried.Reads as carrying
+use Rattle.node.proofs.step.Reads as stepping
 use Rattle.node.proofs.carry as carrying-in-place
 use Rattle.queries.proofs.head.Reads as asking-head
 use Rattle.queries.proofs.deep.Reads as asking-deep
@@ -41,7 +41,7 @@ abbrev Nothing : {K : Type 0} {A : K → Type 0} → ((κs : K) → A κs → Ty
 Nothing asked = asked ≡ (λ κs a. Unit)
 
 pub asks-nothing : Nothing opening.Asked × Nothing receiving.Asked × Nothing proposing.Asked × Nothing voting.Asked × Nothing merging.Asked
-    × Nothing carrying.Asked × Nothing asking-head.Asked × Nothing asking-deep.Asked × Nothing asking-fast.Asked × Nothing writing.Asked
+    × Nothing stepping.Asked × Nothing asking-head.Asked × Nothing asking-deep.Asked × Nothing asking-fast.Asked × Nothing writing.Asked
 asks-nothing = (refl, refl, refl, refl, refl, refl, refl, refl, refl, refl)
 
 pub asks-nothing-in-c : Nothing opening-in-c.Asked × Nothing receiving-in-c.Asked × Nothing proposing-in-c.Asked
@@ -82,9 +82,9 @@ pub merge-told : merging.Learnt ≡ (λ κs (s, (c, (bs, (m, (vs, (n, (beat, _))
     Merges s (behind bs m vs n c) beat (behind bs′ m′ vs′ n′ (r .clock)) (r .reply))
 merge-told = refl
 
-pub carried-told : carrying.Learnt ≡ (λ κs (s, (c, (bs, (m, (vs, (n, (call, (beat, (bytes, _))))))))) r (_, (_, (bs′, (m′, (vs′, (n′, _)))))).
+pub step-told : stepping.Learnt ≡ (λ κs (s, (c, (bs, (m, (vs, (n, (call, (beat, (bytes, _))))))))) r (_, (_, (bs′, (m′, (vs′, (n′, _)))))).
     Carries s (behind bs m vs n c) call beat (now bytes) (behind bs′ m′ vs′ n′ (r .clock)) (r .reply))
-carried-told = refl
+step-told = refl
 
 -- The clock is lent too, and moved on in place. A function that is lent a struct has no `Asked` and `Learnt`, so this is its contract itself, in every model of
 -- the logic: it asks for nothing, and ensures the promise as a fact.

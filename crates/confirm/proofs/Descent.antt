@@ -2,7 +2,6 @@
 use Prim.Native.Nat.{ℕ, _+_, _-_, _≤_, _<_}
 use mathlib.Core.Bool.{true, false}
 use mathlib.Core.List.{List}
-use mathlib.Core.Logic.{inl}
 use mathlib.Core.Path.{_≡_, refl, ap, sym, _∙_}
 use native.Mathlib.Omega.{arith}
 use Rattle.protocol.specs.Entry.{Block}
@@ -10,29 +9,13 @@ use Rattle.protocol.specs.Confirm.{deepFrom, deep}
 use Rattle.protocol.specs.Store.{Marked, inView}
 use Rattle.protocol.specs.Lent.{rowsOf, makeBlock, makeVote}
 use Rattle.protocol.specs.Walk.{walk, weightAt}
-use Rattle.protocol.proofs.Chain.Relations.{In, Sound, here}
-use Rattle.protocol.proofs.Confirm.Deep.{late-number, deep-next, deepFrom-is, deep-one}
+use Rattle.protocol.proofs.Chain.Relations.{In}
+use Rattle.protocol.proofs.Confirm.Deep.{late-number, deep-here, deep-next}
 use Rattle.rows.specs.Rows.{rowAt}
 use Rattle.subtrees.specs.Places.{blockAt, blocksIn, parentPlace}
 use Rattle.ballots.specs.Latest.{selected, votesIn}
 use Rattle.choice.proofs.Tables.{head-number}
 use Rattle.choice.proofs.Held.{Held, isIn, lists, parent-is, parent-in, place-pos}
-
-module _ {bs : List Block} (S : Sound bs) (m : ℕ) where
-  -- early enough: here it is
-  deep-here : (c : Block) → In c bs → c .slot ≤ m → deepFrom bs m (c .number) ≡ c .number
-  deep-here c i l =
-      let r = deepFrom-is S m c i refl in
-      sym (r .2) ∙ deep-one S (r .0) c (r .1) (record { mem = i; under = here refl; early = inl (omega arith); top = λ e n o k. o })
-
-  -- too late: its parent's
-  deep-up : (c p : Block) → In c bs → In p bs → p .number ≡ c .parent → m < c .slot → deepFrom bs m (c .number) ≡ deepFrom bs m (p .number)
-  deep-up c p i j e l =
-      let r = deepFrom-is S m c i refl in
-      let q = deepFrom-is S m p j e in
-      sym (r .2) ∙ deep-one S (r .0) (q .0) (r .1) (deep-next S m c (q .0) i refl l (q .1)) ∙ q .2 ∙ ap (deepFrom bs m) (sym e)
-
--- ---- by places
 
 -- from place i the way down ends where it ends from `x`
 pub record Down (ws : List ℕ) (n m x i : ℕ) : Type 0 where
@@ -63,9 +46,8 @@ module _ {ws : List ℕ} {n : ℕ} (H : Held false ws n) (m : ℕ) {x i : ℕ} (
         record {
           inside = h;
           shown = s;
-          is = D .is
-              ∙ deep-up (H .sound) m (blockAt ws i) (blockAt ws (parentPlace ws i)) here-in (lists false ws n (parentPlace ws i) h s) (k .1)
-              (omega (arith, ap (λ o. o .entry .slot) e));
+          is = D .is ∙ deep-next (H .sound) m (blockAt ws i) here-in (omega (arith, ap (λ o. o .entry .slot) e))
+              ∙ ap (deepFrom (blocksIn false ws n) m) (sym (k .1));
         },
       )
 

@@ -11,7 +11,7 @@ use Rattle.protocol.specs.declared.Settings.{Settings}
 use Rattle.protocol.specs.Entry.{Block, Vote}
 use Rattle.protocol.specs.Limits.{limitsOf}
 use Rattle.protocol.specs.Lists.{any, filter}
-use Rattle.protocol.specs.Chain.{find, foundWith, slotIn, upGo, upStep, aboveIn, above}
+use Rattle.protocol.specs.Chain.{find, foundWith, slotIn, chainStep, chainIn, chain, above}
 use Rattle.protocol.specs.Filters.{conflict, equivocates, counted, window, later, latest, choiceOf, kept}
 use Rattle.protocol.specs.Walk.{count, supports, weight, isChild, beats, better, bestChild, walkStep, walkIn, walk, weightAt, head, base}
 use Rattle.protocol.specs.Store.{allWaiting, entries, inView, show, showAll, sameBlock, sameVote, since, rowsSince, Places, Node, fresh}
@@ -76,7 +76,7 @@ pub record UntilItLacks : Type 0 where
   pub longer-loom : onLoom (replicate 4097 0) ≡ received (refused (by 8))
 
 pub until-it-lacks : UntilItLacks
-unfolding limitsOf any filter since find foundWith openTests openNode receive receiveTests receivedOf receiveInto firstBadBlock firstBadVote blockAllowed knownAs headerAllowed voteAllowed blocksAfter votesAfter addBlocks addBlock addVotes addVote brings first unless sound settingsSound placesSound clockSound blockSound blocksSound restSound voteSound votesSound between sameBlock sameVote entries inView show showAll rowsSince allWaiting packetBytes packetAs headBytes blockBytes voteBytes section flat bytesOf packetOf packetAt entriesAt blockAt voteAt field numberOf wellFormed headerFormed slotIn upGo upStep aboveIn above conflict equivocates counted window later latest choiceOf kept count supports weight isChild beats better bestChild walkStep walkIn walk weightAt head base headOf baseOf propose proposeTests vote voteTests merge mergeTests made said refusedBy meets after meetsNone
+unfolding limitsOf any filter since find foundWith openTests openNode receive receiveTests receivedOf receiveInto firstBadBlock firstBadVote blockAllowed knownAs headerAllowed voteAllowed blocksAfter votesAfter addBlocks addBlock addVotes addVote brings first unless sound settingsSound placesSound clockSound blockSound blocksSound restSound voteSound votesSound between sameBlock sameVote entries inView show showAll rowsSince allWaiting packetBytes packetAs headBytes blockBytes voteBytes section flat bytesOf packetOf packetAt entriesAt blockAt voteAt field numberOf wellFormed headerFormed slotIn chainStep chainIn chain above conflict equivocates counted window later latest choiceOf kept count supports weight isChild beats better bestChild walkStep walkIn walk weightAt head base headOf baseOf propose proposeTests vote voteTests merge mergeTests made said refusedBy meets after meetsNone
 until-it-lacks =
     record {
       opens-rack = refl;

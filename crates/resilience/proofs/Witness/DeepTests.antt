@@ -6,7 +6,7 @@ use mathlib.Core.List.{List}
 use lib.Dec.{eqb}
 use borrow.Author.Tests.{eqb-true}
 use Rattle.protocol.specs.Lists.{any}
-use Rattle.protocol.specs.Confirm.{deepGo, deepStep, deepIn, deepFrom, deep}
+use Rattle.protocol.specs.Confirm.{deepFrom, deep}
 use Rattle.protocol.specs.Refusal.{Reply, refused, done, answer}
 use Rattle.protocol.specs.Calls.Vote.{vote}
 use Rattle.protocol.specs.Calls.Query.{queryTests, deepOf, deepQuery}
@@ -36,7 +36,7 @@ abbrev hasDeep : Network → ℕ → ℕ → ℕ → World → Bool
 hasDeep N i a d u = answers (deepQuery (settings N i) (N .places i) (u .node i) a) d
 
 unfoldable pub deepTest : Network → List Act → ℕ → ℕ → ℕ → Bool
-unfolding runTest anyStep calledTest deepQuery queryTests deepOf deep deepFrom deepIn deepStep deepGo answer
+unfolding runTest anyStep calledTest deepQuery queryTests deepOf deep deepFrom answer
 deepTest N acts i a d = anyStep (calledTest N vote i (3 * a + 1) (hasDeep N i a d)) N (start N) (together acts)
 
 pub deep-true : (N : Network) (acts : List Act) → runTest N acts ≡ true → (i a d : ℕ) → deepTest N acts i a d ≡ true

@@ -7,7 +7,7 @@ use lib.Dec.{eqb, leb}
 use borrow.Author.Tests.{eqb-true, eq-eqb, leb-true}
 use Rattle.protocol.specs.Lists.{all}
 use Rattle.protocol.specs.Filters.{Choice, chosen, nothing}
-use Rattle.protocol.specs.Confirm.{voteIn, validVote, quorum, heightGo, heightStep, heightIn, height, higher, highest, numberIn, fast}
+use Rattle.protocol.specs.Confirm.{voteIn, validVote, quorum, height, higher, highest, numberIn, fast}
 use Rattle.protocol.specs.Refusal.{Reply, refused, done, answer}
 use Rattle.protocol.specs.Calls.Merge.{merge}
 use Rattle.protocol.specs.Calls.Query.{queryTests, fastOf, fastQuery}
@@ -42,7 +42,7 @@ asleep-true i b log h c m = leb-true c b (implied (eqb i i) _ (all-true _ h (wok
 
 -- After these acts node i has merged slot t, was not awake since, and its Fast for t answers F.
 unfoldable pub foundTest : Network → List Act → ℕ → ℕ → ℕ → Bool
-unfolding runTest anyStep calledTest asleepTest fastQuery queryTests fastOf fast voteIn validVote quorum heightGo heightStep heightIn height higher highest numberIn answer
+unfolding runTest anyStep calledTest asleepTest fastQuery queryTests fastOf fast voteIn validVote quorum height higher highest numberIn answer
 foundTest N acts i t F =
     let w = runs N (start N) (together acts) in
     anyStep (calledTest N merge i (3 * t + 2) (λ u. true)) N (start N) (together acts)

@@ -59,7 +59,7 @@ extern "C" {
 #define LIKVOST_BLOCK_WORDS 6
 #define LIKVOST_VOTE_WORDS 5
 
-/* No node sends a packet of more bytes: on a loom drop longer ones before likvost_receive, which takes long to refuse them. */
+/* No honest node sends a packet of more bytes: on a loom drop longer ones before likvost_receive, which takes long to answer them. */
 #define LIKVOST_LARGEST_PACKET 245749
 
 /* The longest packet that a rack reads: likvost_receive refuses longer ones by 24, whatever they hold. */
@@ -98,29 +98,29 @@ typedef struct {
 /* Why a call was refused: the first of these that applies, in the order that each call lists. */
 enum {
     LIKVOST_OK = 0,
-    LIKVOST_NODES = 1,        /* nodes out of range, or no such profile */
-    LIKVOST_OWN = 2,          /* own index not below nodes */
-    LIKVOST_EXPIRY = 3,       /* expiry out of range */
-    LIKVOST_DEPTH = 4,        /* depth out of range */
-    LIKVOST_LENGTH = 5,       /* a table's length out of range, or no multiple of the words to a row */
-    LIKVOST_UNSOUND = 6,      /* the lent memory is not as a call left it */
-    LIKVOST_BEAT = 7,         /* beat below the one seen, or slot above 1,000,000,000 */
-    LIKVOST_FORM = 8,         /* packet's length, kind or zero fields wrong */
-    LIKVOST_BLOCK = 9,        /* a block of the packet breaks a rule: the one with this `index` */
-    LIKVOST_PLACES = 10,      /* fewer free places than new entries */
-    LIKVOST_PHASE = 11,       /* not the phase of this call */
-    LIKVOST_DONE = 12,        /* beat already done */
-    LIKVOST_JOINED = 13,      /* the slot before was not merged */
-    LIKVOST_PROPOSER = 14,    /* another node's slot */
-    LIKVOST_NUMBER = 15,      /* the number is known */
-    LIKVOST_VOTED = 16,       /* an own vote of this slot is known */
-    LIKVOST_SLOT = 17,        /* slot 0, before the slot last merged, or above the slot seen */
-    LIKVOST_BUFFER = 18,      /* buffer too short */
-    LIKVOST_PROPOSAL = 19,    /* no own proposal of the beat seen */
-    LIKVOST_VOTE = 20,        /* a vote of the packet breaks a rule: the one with this `index` */
-    LIKVOST_HEADER = 21,      /* a proposal's header names no block of the packet, or another slot */
-    LIKVOST_WIDE = 23,        /* narrow writing meets a number whose upper half is not 0 */
-    LIKVOST_LONG = 24         /* the packet is longer than this node's profile allows */
+    LIKVOST_NODES_OUT_OF_RANGE = 1,  /* nodes out of range, or no such profile */
+    LIKVOST_OWN_OUT_OF_RANGE = 2,    /* own index not below nodes */
+    LIKVOST_EXPIRY_OUT_OF_RANGE = 3, /* expiry out of range */
+    LIKVOST_DEPTH_OUT_OF_RANGE = 4,  /* depth out of range */
+    LIKVOST_LENGTH_OUT_OF_RANGE = 5, /* a table's length out of range, or no multiple of the words to a row */
+    LIKVOST_UNSOUND = 6,             /* the lent memory is not as a call left it */
+    LIKVOST_WRONG_BEAT = 7,          /* beat below the one seen, or slot above 1,000,000,000 */
+    LIKVOST_PACKET_MALFORMED = 8,    /* packet's length, kind or zero fields wrong */
+    LIKVOST_BAD_BLOCK = 9,           /* a block of the packet breaks a rule: the one with this `index` */
+    LIKVOST_TOO_FEW_PLACES = 10,     /* fewer free places than new entries */
+    LIKVOST_WRONG_PHASE = 11,        /* not the phase of this call */
+    LIKVOST_BEAT_DONE = 12,          /* beat already done */
+    LIKVOST_NOT_JOINED = 13,         /* the slot before was not merged */
+    LIKVOST_NOT_PROPOSER = 14,       /* another node's slot */
+    LIKVOST_NUMBER_KNOWN = 15,       /* the number is known */
+    LIKVOST_ALREADY_VOTED = 16,      /* an own vote of this slot is known */
+    LIKVOST_SLOT_OUT_OF_RANGE = 17,  /* slot 0, before the slot last merged, or above the slot seen */
+    LIKVOST_BUFFER_TOO_SHORT = 18,   /* buffer too short */
+    LIKVOST_NO_OWN_PROPOSAL = 19,    /* no own proposal of the beat seen */
+    LIKVOST_BAD_VOTE = 20,           /* a vote of the packet breaks a rule: the one with this `index` */
+    LIKVOST_BAD_HEADER = 21,         /* a proposal's header names no block of the packet, or another slot */
+    LIKVOST_NUMBER_TOO_WIDE = 23,    /* narrow writing meets a number whose upper half is not 0 */
+    LIKVOST_PACKET_TOO_LONG = 24     /* the packet is longer than this node's profile allows */
 };
 
 /* A readable message for a refusal number, for logs. */
@@ -141,11 +141,11 @@ static inline const char *likvost_refusal_message(uint64_t refusal)
 /* The answer of a call that changes the memory. */
 typedef struct {
     uint64_t refusal;
-    uint64_t index;       /* refused by LIKVOST_BLOCK or LIKVOST_VOTE: the entry's index in its section of the packet, from 0; else 0 */
+    uint64_t index;       /* refused by LIKVOST_BAD_BLOCK or LIKVOST_BAD_VOTE: the entry's index in its section of the packet, from 0; else 0 */
     likvost_number value; /* likvost_propose: the base; likvost_vote: the head; else 0 */
     uint64_t new_blocks;  /* likvost_receive: how many blocks were new */
     uint64_t new_votes;   /* likvost_receive: how many votes were new; old ones are not */
-    uint64_t brought;     /* likvost_receive: 1 if the packet came into view at once */
+    uint64_t viewed;      /* likvost_receive: 1 if the packet came into view at once */
     likvost_clock clock;  /* the clock after the call */
 } likvost_answer;
 
@@ -159,7 +159,7 @@ typedef struct {
 /* The answer of likvost_write. */
 typedef struct {
     uint64_t refusal;
-    uint64_t length; /* how many bytes of the buffer the packet takes */
+    uint64_t bytes; /* how many bytes of the buffer the packet takes */
 } likvost_written;
 
 /* Block 0 alone in view, every other place zero, a fresh clock. What stood in the memory does not matter. Every later call takes the same

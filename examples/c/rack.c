@@ -37,7 +37,7 @@ static void receive(node *n, uint64_t beat, const uint8_t *packet, size_t length
     n->clock = a.clock;
     printf("%d bytes to the %s: ", (int)length, n->name);
     if (a.refusal == LIKVOST_OK)
-        printf("%d new blocks, %d new votes%s\n", (int)a.new_blocks, (int)a.new_votes, a.brought ? ", in view" : "");
+        printf("%d new blocks, %d new votes%s\n", (int)a.new_blocks, (int)a.new_votes, a.viewed ? ", in view" : "");
     else
         printf("refused by %d, %s\n", (int)a.refusal, likvost_refusal_message(a.refusal));
 }
@@ -49,7 +49,7 @@ static void carry(const node *from, node *to, bool proposal, uint64_t beat)
     likvost_written w = likvost_write(from->settings, from->clock, READ_TABLES(from), proposal, true, buffer, BUFFER);
     if (w.refusal != LIKVOST_OK)
         exit(1);
-    receive(to, beat, buffer, w.length);
+    receive(to, beat, buffer, w.bytes);
 }
 
 static uint8_t *put(uint8_t *at, uint64_t number, int bytes)

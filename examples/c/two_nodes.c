@@ -22,7 +22,7 @@ static likvost_answer keep(node *n, likvost_answer a, const char *call)
 {
     if (a.refusal != LIKVOST_OK) {
         fprintf(stderr, "node %d: %s refused: %s", (int)n->settings.own, call, likvost_refusal_message(a.refusal));
-        if (a.refusal == LIKVOST_BLOCK || a.refusal == LIKVOST_VOTE)
+        if (a.refusal == LIKVOST_BAD_BLOCK || a.refusal == LIKVOST_BAD_VOTE)
             fprintf(stderr, ", entry %d", (int)a.index);
         fprintf(stderr, "\n");
         exit(1);
@@ -38,9 +38,9 @@ static void carry(node *from, node *to, bool proposal, uint64_t beat)
     likvost_written w = likvost_write(from->settings, from->clock, READ_TABLES(from), proposal, true, buffer, BUFFER);
     if (w.refusal != LIKVOST_OK)
         exit(1);
-    likvost_answer a = keep(to, likvost_receive(to->settings, to->clock, TABLES(to), beat, buffer, w.length), "receive");
-    printf("%s of %d bytes: %d new blocks, %d new votes%s\n", proposal ? "proposal" : "gossip", (int)w.length, (int)a.new_blocks,
-           (int)a.new_votes, a.brought ? ", in view" : "");
+    likvost_answer a = keep(to, likvost_receive(to->settings, to->clock, TABLES(to), beat, buffer, w.bytes), "receive");
+    printf("%s of %d bytes: %d new blocks, %d new votes%s\n", proposal ? "proposal" : "gossip", (int)w.bytes, (int)a.new_blocks,
+           (int)a.new_votes, a.viewed ? ", in view" : "");
 }
 
 static void print(const char *what, likvost_number n)

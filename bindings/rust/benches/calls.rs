@@ -223,9 +223,10 @@ fn pass(case: &Case) -> Run<'_> {
     })
 }
 
-/// Times one call on a node, which has the same methods in the proved library and in the model, but for Open and how Write is told the width.
+/// Times one call on a node, which has the same methods in the proved library and in the model, but for Open, how Write is told the width
+/// and the name of the flag that a packet came into view.
 macro_rules! timed_call {
-    ($call:expr, $node:expr, $case:expr, $packets:expr, $wide:expr, $buffer:expr, $open:expr) => {{
+    ($call:expr, $node:expr, $case:expr, $packets:expr, $wide:expr, $buffer:expr, $open:expr, $viewed:ident) => {{
         let beat = 3 * ($case.last + 1);
         let n = $node;
         match $call {
@@ -233,7 +234,7 @@ macro_rules! timed_call {
             1 => timed(|| assert_eq!(n.receive(beat, &$packets.news).unwrap().new_votes, 1)),
             2 => timed(|| assert_eq!(n.receive(beat, &$packets.gossip).unwrap().new_votes, 0)),
             3 => timed(|| assert_eq!(n.receive(beat, &$packets.gossip).unwrap().new_votes, $case.memory.votes_used as u64)),
-            4 => timed(|| assert!(n.receive(beat, &$packets.proposal).unwrap().brought)),
+            4 => timed(|| assert!(n.receive(beat, &$packets.proposal).unwrap().$viewed)),
             5 => timed(|| assert!(n.propose(beat, NEXT).is_ok())),
             6 => timed(|| assert!(n.vote(beat + 1).is_ok())),
             7 => timed(|| assert!(n.merge(beat + 2).is_ok())),
@@ -252,7 +253,7 @@ fn proved<'a>(case: &'a Case, call: usize, packets: &'a Packets) -> Run<'a> {
         let mut node = Node::from_memory(case.settings, memory.clone());
         let mut opened = memory.clone();
         let open = || Node::open_in(case.settings, &mut opened).unwrap();
-        timed_call!(call, &mut node, case, packets, Width::Wide, &mut buffer, open)
+        timed_call!(call, &mut node, case, packets, Width::Wide, &mut buffer, open, viewed)
     })
 }
 
@@ -262,7 +263,7 @@ fn modelled<'a>(case: &'a Case, call: usize, packets: &'a Packets) -> Run<'a> {
     Box::new(move || {
         let mut node = model.clone();
         let mut opened = model.clone();
-        timed_call!(call, &mut node, case, packets, true, &mut buffer, || opened.open().unwrap())
+        timed_call!(call, &mut node, case, packets, true, &mut buffer, || opened.open().unwrap(), brought)
     })
 }
 

@@ -46,7 +46,7 @@ pub struct Answer {
     pub value: Number,
     pub new_blocks: u64,
     pub new_votes: u64,
-    pub brought: u64,
+    pub viewed: u64,
     pub clock: Clock,
 }
 
@@ -60,7 +60,7 @@ pub struct Found {
 #[repr(C)]
 pub struct Written {
     pub refusal: u64,
-    pub length: u64,
+    pub bytes: u64,
 }
 
 /// Head, Deep or Fast.

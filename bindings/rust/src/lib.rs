@@ -31,7 +31,7 @@
 //! let number = 0x0194_37a1_c0de_7000_8f3b_52d9_6e10_4a7c;
 //! assert_eq!(b.propose(3, number)?, 0);
 //! let received = a.receive(3, &b.proposal()?)?;
-//! assert!(received.brought);
+//! assert!(received.viewed);
 //!
 //! // Both vote for it, exchange their votes and merge.
 //! assert_eq!(a.vote(4)?, number);
@@ -64,7 +64,7 @@ pub const VOTE_WORDS: usize = 5;
 /// No node sends a packet of more bytes. On a loom drop longer ones before [`Node::receive`], which takes long to refuse them.
 pub const LARGEST_PACKET: usize = Width::Wide.packet_length(2047, 8192);
 
-/// The longest packet that a rack reads: [`Node::receive`] refuses longer ones by [`Refusal::Long`], whatever they hold.
+/// The longest packet that a rack reads: [`Node::receive`] refuses longer ones by [`Refusal::PacketTooLong`], whatever they hold.
 pub const RACK_PACKET: usize = 4096;
 
 /// Whose limits a node keeps to. The nodes of a network may have different profiles.
@@ -83,12 +83,12 @@ pub const RACK_PACKET: usize = 4096;
 ///
 /// let settings = Settings { profile: Profile::Rack, nodes: 16, own: 0, expiry: 3, depth: 8 };
 /// let mut rack = Node::open(settings, 64, 80).unwrap();
-/// assert_eq!(rack.receive(3, &[0; RACK_PACKET + 1]), Err(Refusal::Long));
-/// assert_eq!(Node::open(settings, 65, 80), Err(Refusal::Length));
-/// assert_eq!(Node::open(Settings { nodes: 17, ..settings }, 64, 80), Err(Refusal::Nodes));
+/// assert_eq!(rack.receive(3, &[0; RACK_PACKET + 1]), Err(Refusal::PacketTooLong));
+/// assert_eq!(Node::open(settings, 65, 80), Err(Refusal::LengthOutOfRange));
+/// assert_eq!(Node::open(Settings { nodes: 17, ..settings }, 64, 80), Err(Refusal::NodesOutOfRange));
 ///
 /// let mut loom = Node::open(Settings { profile: Profile::Loom, ..settings }, 65, 80).unwrap();
-/// assert_eq!(loom.receive(3, &[0; RACK_PACKET + 1]), Err(Refusal::Form));
+/// assert_eq!(loom.receive(3, &[0; RACK_PACKET + 1]), Err(Refusal::PacketMalformed));
 /// ```
 #[repr(u64)]
 #[derive(Clone, Copy, Debug, PartialEq, Eq)]
@@ -136,7 +136,7 @@ pub struct Received {
     /// How many votes were new. Old ones are not.
     pub new_votes: u64,
     /// Whether the packet came into view at once.
-    pub brought: bool,
+    pub viewed: bool,
 }
 
 /// How many bytes the numbers of a packet have. [`Node::receive`] reads both.
@@ -153,7 +153,7 @@ pub struct Received {
 ///
 /// node.merge(5)?;
 /// node.propose(6, (1 << 64) + 11)?;
-/// assert_eq!(node.packet(false, Width::Narrow), Err(Refusal::Wide));
+/// assert_eq!(node.packet(false, Width::Narrow), Err(Refusal::NumberTooWide));
 /// assert_eq!(node.gossip()?.len(), 25 + 2 * 36);
 /// # Ok(())
 /// # }
@@ -161,7 +161,7 @@ pub struct Received {
 #[derive(Clone, Copy, Debug, PartialEq, Eq)]
 pub enum Width {
     /// 8 bytes, for boards that read no others: kinds 0 (gossip) and 1 (proposal). A packet takes 17 bytes, 20 for each block but block 0 and
-    /// 13 for each vote. Where one of its numbers is 2^64 or more, writing is refused by [`Refusal::Wide`].
+    /// 13 for each vote. Where one of its numbers is 2^64 or more, writing is refused by [`Refusal::NumberTooWide`].
     Narrow,
     /// All 16 bytes, as nodes write: kinds 2 (gossip) and 3 (proposal). A packet takes 25 bytes, 36 for each block but block 0 and 21 for each
     /// vote.
@@ -237,7 +237,7 @@ impl Node {
     /// A fresh node with so many places for blocks (1 to 2,048, block 0 included) and votes (1 to 8,192); on a rack 1 to 64 and 1 to 256.
     ///
     /// The node holds votes of the slots from `expiry` slots before the one last merged to the slot seen. So if no voter votes twice in a slot,
-    /// no vote is refused by [`Refusal::Places`] on a node that merges every slot and has `nodes * (expiry + 2)` places for votes; one that
+    /// no vote is refused by [`Refusal::TooFewPlaces`] on a node that merges every slot and has `nodes * (expiry + 2)` places for votes; one that
     /// left out the last `s` Merges needs `nodes * (expiry + 2 + s)`, until its next Merge removes what is old by then. Every further vote
     /// of a voter in a slot takes a place too, and a dishonest voter may cast one for each block.
     pub fn open(settings: Settings, block_places: usize, vote_places: usize) -> Result<Node, Refusal> {
@@ -294,8 +294,8 @@ impl Node {
     /// Takes a packet of either [`Width`]. Its new entries wait; the first proposal of the beat's slot, in phase 0, comes into view at once.
     /// An old vote, of a slot below the one last merged less `expiry`, must keep the rules too, but is not stored, not new and needs no place;
     /// the block that it is for comes into view with a proposal all the same.
-    /// A rack reads packets of at most [`RACK_PACKET`] bytes, and refuses longer ones by [`Refusal::Long`].
-    /// A packet with a block or vote that breaks a rule is refused whole; [`Refusal::Block`] and [`Refusal::Vote`] tell the first such entry.
+    /// A rack reads packets of at most [`RACK_PACKET`] bytes, and refuses longer ones by [`Refusal::PacketTooLong`].
+    /// A packet with a block or vote that breaks a rule is refused whole; [`Refusal::BadBlock`] and [`Refusal::BadVote`] tell the first such entry.
     pub fn receive(&mut self, beat: u64, packet: &[u8]) -> Result<Received, Refusal> {
         let m = &mut self.memory;
         let (b, bl, bu, v, vl, vu) = lend!(m);
@@ -303,7 +303,7 @@ impl Node {
         let a = unsafe {
             ffi::likvost_receive(self.settings.into(), m.clock, b, bl, bu, v, vl, vu, beat, packet.as_ptr(), packet.len())
         };
-        Self::answered(m, a).map(|a| Received { new_blocks: a.new_blocks, new_votes: a.new_votes, brought: a.brought != 0 })
+        Self::answered(m, a).map(|a| Received { new_blocks: a.new_blocks, new_votes: a.new_votes, viewed: a.viewed != 0 })
     }
 
     /// Builds a block with this number on the base, and answers the base.
@@ -342,9 +342,9 @@ impl Node {
     /// let settings = Settings { profile: Profile::Loom, nodes: 3, own: 1, expiry: 4, depth: 1 };
     /// let mut node = Node::open(settings, 16, 32).unwrap();
     /// node.merge(3 * 7 + 2).unwrap();
-    /// assert_eq!(node.head(6), Err(Refusal::Slot));
+    /// assert_eq!(node.head(6), Err(Refusal::SlotOutOfRange));
     /// assert_eq!(node.head(7), Ok(0));
-    /// assert_eq!(node.head(8), Err(Refusal::Slot));
+    /// assert_eq!(node.head(8), Err(Refusal::SlotOutOfRange));
     /// ```
     pub fn head(&self, slot: u64) -> Result<u128, Refusal> {
         self.ask(ffi::likvost_head, slot).map(|found| found.value.into())
@@ -397,7 +397,7 @@ impl Node {
                 buffer.len(),
             )
         };
-        Refusal::from_answer(w.refusal, 0).map_or(Ok(w.length as usize), Err)
+        Refusal::from_answer(w.refusal, 0).map_or(Ok(w.bytes as usize), Err)
     }
 
     /// The node's gossip: its whole store as a wide packet.

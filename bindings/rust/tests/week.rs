@@ -166,7 +166,7 @@ fn check_gossip(node: &Node, other: Node, buffers: &mut [Vec<u8>; 2]) -> Node {
     assert!(node.settings().profile == Profile::Loom || length <= RACK_PACKET);
     let (new_blocks, new_votes) = (node.memory().blocks_used as u64 - 1, node.memory().votes_used as u64);
     let received = fresh.receive(node.memory().clock.seen, &gossip[..length]);
-    assert_eq!(received, Ok(Received { new_blocks, new_votes, brought: false }));
+    assert_eq!(received, Ok(Received { new_blocks, new_votes, viewed: false }));
     assert_eq!(fresh.write(false, Width::Wide, again), Ok(length));
     assert!(gossip[..length] == again[..length]);
     fresh
@@ -176,7 +176,7 @@ fn check_gossip(node: &Node, other: Node, buffers: &mut [Vec<u8>; 2]) -> Node {
 fn check_waking(network: &Network, mut node: Node, mut sleeper: Node, t: u64) {
     let gossip = node.gossip().expect("the node is sound");
     // The votes of its first slots still take places, and the others' votes fill the table. They leave at its Merge.
-    assert_eq!(sleeper.receive(3 * t + 2, &gossip), Err(Refusal::Places));
+    assert_eq!(sleeper.receive(3 * t + 2, &gossip), Err(Refusal::TooFewPlaces));
     assert_eq!(sleeper.merge(3 * t + 2), Ok(()));
     assert_eq!(sleeper.memory().votes_used, 0);
     assert!(sleeper.receive(3 * t + 2, &gossip).is_ok());
@@ -217,14 +217,14 @@ fn week(network: Network) {
         let rival = network.rival(t).filter(|&(_, _, slot)| slot == t);
         network.votes(t, &mut votes);
         encode(&mut packet, rival, &votes);
-        let all_new = Received { new_blocks: u64::from(rival.is_some()), new_votes: votes.len() as u64, brought: false };
+        let all_new = Received { new_blocks: u64::from(rival.is_some()), new_votes: votes.len() as u64, viewed: false };
         assert_eq!(node.receive(beat + 1, &packet), Ok(all_new), "slot {t}");
         kept.extend(&votes);
         if t % 11 == 0 && t > network.expiry + 2 {
             // the node's own vote that left at the last Merge
             let slot = t - network.expiry - 2;
             encode(&mut packet, None, &[(0, slot, network.head(slot))]);
-            let nothing_new = Received { new_blocks: 0, new_votes: 0, brought: false };
+            let nothing_new = Received { new_blocks: 0, new_votes: 0, viewed: false };
             assert_eq!(node.receive(beat + 1, &packet), Ok(nothing_new), "slot {t}");
         }
         assert_eq!(node.memory().votes_used, kept.len(), "slot {t}");
@@ -239,7 +239,7 @@ fn week(network: Network) {
             assert_eq!(node.head(t), Ok(network.head(t)), "slot {t}");
             assert_eq!(node.deep(t), Ok(network.deep(t)), "slot {t}");
             assert_eq!(node.fast(t), Ok(network.fast(t, &votes)), "slot {t}");
-            assert_eq!(node.head(t - 1), Err(Refusal::Slot), "slot {t}");
+            assert_eq!(node.head(t - 1), Err(Refusal::SlotOutOfRange), "slot {t}");
         }
         if t == 3 {
             let length = node.write(false, Width::Wide, &mut buffers[0]).expect("the largest packet fits");

@@ -9,7 +9,7 @@ use lib.ListN.{length, getD, take}
 use lib.Seq.{take-all}
 use mir.Val.{boolByte}
 use Rattle.protocol.specs.Entry.{Vote}
-use Rattle.protocol.specs.Lists.{any}
+use Rattle.protocol.specs.Lists.{anyPass}
 use Rattle.protocol.specs.Store.{sameVote, since}
 use Rattle.protocol.specs.Calls.Receive.{addVotes, addSince}
 use Rattle.protocol.proofs.Store.New.{Adding}
@@ -24,8 +24,8 @@ flag-one true = omega arith
 flag-one false = omega arith
 
 -- a vote is new if it is neither old nor known
-pub since-new : (from : ℕ) (old vs : List Vote) (a : Vote) → (since from a && not (any (sameVote a) (addVotes old vs))) ≡ not (knowsSince from (addSince from old vs) a)
-since-new from old vs a = neither (since from a) (any (sameVote a) (addVotes old vs)) ∙ ap not (sym (knows-since from old vs a))
+pub since-new : (from : ℕ) (old vs : List Vote) (a : Vote) → (since from a && not (anyPass (sameVote a) (addVotes old vs))) ≡ not (knowsSince from (addSince from old vs) a)
+since-new from old vs a = neither (since from a) (anyPass (sameVote a) (addVotes old vs)) ∙ ap not (sym (knows-since from old vs a))
   where
     neither : (a b : Bool) → (a && not b) ≡ not (not a || b)
     neither true b = refl

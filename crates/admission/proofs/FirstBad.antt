@@ -7,10 +7,10 @@ use native.Mathlib.Omega.{arith}
 use lib.ListN.{length, getD, take, drop, drop-of-length-le}
 use lib.Dec.{leb, ltb}
 use Rattle.protocol.specs.Entry.{Block, Vote}
-use Rattle.protocol.specs.Chain.{Found, find, foundWith, genesis}
+use Rattle.protocol.specs.Chain.{Lookup, find, foundWith, genesis}
 use Rattle.protocol.specs.Sound.{between}
 use Rattle.protocol.proofs.Basics.Tests.{and-right}
-use Rattle.index.specs.Places.{foundAt}
+use Rattle.index.specs.Links.{lookupAt}
 use Rattle.protocol.specs.Calls.Receive.{addBlocks, blockAllowed, voteAllowed, firstBadBlock, firstBadVote}
 use Rattle.packets.specs.Header.{noVote}
 use Rattle.admission.specs.Lookup.{blockPasses, votePasses}
@@ -20,21 +20,21 @@ use Rattle.admission.proofs.Known.{addBlocks-end}
 -- ---- the rules of an entry, by what was found
 
 module _ {r : Bool} where
-  pub block-told : (slot : ℕ) (before : List Block) (c : Block) {b : Block} {parent old : Found} → b ≡ c → parent ≡ find before (b .parent) → old ≡ find before (b .number)
+  pub block-told : (slot : ℕ) (before : List Block) (c : Block) {b : Block} {parent old : Lookup} → b ≡ c → parent ≡ find before (b .parent) → old ≡ find before (b .number)
       → r ≡ blockPasses slot b parent old → r ≡ blockAllowed slot before c
   unfolding blockAllowed blockPasses
   block-told slot before c e p o q = rw (← e) (q ∙ rw (p, o))
 
-  pub vote-told : (n slot : ℕ) (bs : List Block) (a : Vote) {f : Found} → f ≡ find bs (a .number) → r ≡ votePasses n slot a f → r ≡ voteAllowed n slot bs a
+  pub vote-told : (n slot : ℕ) (bs : List Block) (a : Vote) {f : Lookup} → f ≡ find bs (a .number) → r ≡ votePasses n slot a f → r ≡ voteAllowed n slot bs a
   unfolding voteAllowed votePasses
   vote-told n slot bs a e q = q ∙ rw e
 
 -- the block of a vote that is allowed was found
-pub vote-found : (n slot : ℕ) (a : Vote) (bs : List Block) (place : ℕ) {f : Found} → f ≡ foundAt bs place → votePasses n slot a f ≡ true → place ≡ 0 → ⊥
-unfolding votePasses foundWith foundAt
-vote-found n slot a bs place e h z =
+pub vote-found : (n slot : ℕ) (a : Vote) (bs : List Block) (link : ℕ) {f : Lookup} → f ≡ lookupAt bs link → votePasses n slot a f ≡ true → link ≡ 0 → ⊥
+unfolding votePasses foundWith lookupAt
+vote-found n slot a bs link e h z =
     let q = and-right (between 1 slot (a .slot)) _ (and-right (ltb (a .voter) n) _ h) in
-    false≢true (sym (ap (foundWith (λ b. leb (b .slot) (a .slot))) (e ∙ ap (foundAt bs) z)) ∙ q)
+    false≢true (sym (ap (foundWith (λ b. leb (b .slot) (a .slot))) (e ∙ ap (lookupAt bs) z)) ∙ q)
 
 -- ---- one turn of a loop over the entries, i of them seen
 

@@ -6,15 +6,15 @@ use mathlib.Core.Path.{_≡_, refl, ap, sym, _∙_}
 use lib.Dec.{eqb}
 use borrow.Author.Tests.{eqb-true}
 use Rattle.protocol.specs.Entry.{Block}
-use Rattle.protocol.specs.Chain.{Found, found, missing, find, foundWith}
+use Rattle.protocol.specs.Chain.{Lookup, found, missing, find, foundWith}
 use Rattle.protocol.specs.Calls.Receive.{addBlock, addBlocks}
 
 -- the first of two lookups that found something
-unfoldable pub orElse : Found → Found → Found
+unfoldable pub orElse : Lookup → Lookup → Lookup
 orElse (found c) g = found c
 orElse missing g = g
 
-orElse-assoc : (f g h : Found) → orElse (orElse f g) h ≡ orElse f (orElse g h)
+orElse-assoc : (f g h : Lookup) → orElse (orElse f g) h ≡ orElse f (orElse g h)
 unfolding orElse
 orElse-assoc (found c) g h = refl
 orElse-assoc missing g h = refl
@@ -37,11 +37,11 @@ find-one bs b x = go (find bs (b .number)) refl
     old true q c e = rw (sym (ap (find bs) (eqb-true (b .number) x q)) ∙ e) refl
     old false q c e = sym (no (find bs x))
       where
-        no : (f : Found) → orElse f missing ≡ f
+        no : (f : Lookup) → orElse f missing ≡ f
         no (found d) = refl
         no missing = refl
 
-    go : (f : Found) → find bs (b .number) ≡ f → find (cond (foundWith (λ c. true) (find bs (b .number))) bs (bs ++ (b ∷ []))) x ≡ orElse (find bs x) (find (b ∷ []) x)
+    go : (f : Lookup) → find bs (b .number) ≡ f → find (cond (foundWith (λ c. true) (find bs (b .number))) bs (bs ++ (b ∷ []))) x ≡ orElse (find bs x) (find (b ∷ []) x)
     go (found c) e = rw e (old (eqb (b .number) x) refl c e)
     go missing e = rw e (find-append bs (b ∷ []) x)
 
@@ -49,11 +49,11 @@ pub find-added : (bs cs : List Block) (x : ℕ) → find (addBlocks bs cs) x ≡
 unfolding addBlocks find orElse
 find-added bs [] x = none (find bs x)
   where
-    none : (f : Found) → f ≡ orElse f missing
+    none : (f : Lookup) → f ≡ orElse f missing
     none (found c) = refl
     none missing = refl
 find-added bs (c ∷ cs) x =
-    find-added (addBlock bs c) cs x ∙ ap (λ (f : Found). orElse f (find cs x)) (find-one bs c x)
+    find-added (addBlock bs c) cs x ∙ ap (λ (f : Lookup). orElse f (find cs x)) (find-one bs c x)
     ∙ orElse-assoc (find bs x) (find (c ∷ []) x) (find cs x) ∙ ap (orElse (find bs x)) (sym (find-append (c ∷ []) cs x))
 
 -- a later block with a number that is known is not found, whether it is added or not

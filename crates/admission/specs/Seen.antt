@@ -1,4 +1,4 @@
--- The sets of first places after some entries of a packet: the rows that those name, and which of them are new. Assumes nothing.
+-- The sets of first rows after some entries of a packet: the rows that those name, and which of them are new. Assumes nothing.
 use Prim.Native.Nat.{ℕ}
 use mathlib.Core.Bool.{_||_}
 use mathlib.Core.List.{List}

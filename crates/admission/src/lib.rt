@@ -1,5 +1,5 @@
 // Which entries of a packet keep the rules, and which are new. Nothing may be changed before that is known, so the packet's entries are looked up
-// in an index of the table that they join, and the first place of each is noted in a set, by which they are stored and shown later.
+// in an index of the table that they join, and the first row of each is noted in a set, by which they are stored and come into view later.
 // All entries together cost two descents for each block and two for each vote, of which the longest meets 65 blocks or 81 votes. Where there is
 // no index, for a packet that is longer than it has room for, each descent is a search of the table and the packet.
 // No function keeps an array.
@@ -20,9 +20,9 @@ ghost use Rattle.protocol.specs.Calls.Receive.{addBlocks, addSince, knownAs, bl
 ghost use Rattle.packets.specs.Header.{noVote};
 ghost use Rattle.index.specs.Index.{IndexOf, Room};
 ghost use Rattle.index.specs.declared.Kind.the-variants.{KnownBlocks, KnownVotes};
-ghost use Rattle.index.specs.Places.{knownBlocks, foundAt, numbersDiffer, votesDiffer};
+ghost use Rattle.index.specs.Links.{knownBlocks, lookupAt, numbersDiffer, votesDiffer};
 ghost use Rattle.index.specs.Firsts.{blockNew, voteNew};
-ghost use Rattle.admission.specs.Lookup.{foundOf, blockPasses, votePasses};
+ghost use Rattle.admission.specs.Lookup.{lookupOf, blockPasses, votePasses};
 ghost use Rattle.admission.specs.Seen.{BlocksSeen, VotedSeen, VotesSeen};
 
 // ---- looking a block up
@@ -33,15 +33,15 @@ enum Lookup {
     Missing,
 }
 
-// The block at a place of the table and the packet together: one more than where it is, or 0.
-fn block_of(blocks: &[u64], used: usize, bytes: &[u8], place: usize) -> Lookup
-    requires { ⌜ BlocksFit used (now blocks) × (place ≤ used + length (packetOf (now bytes) .blocks)) ⌝ }
-    ensures { λ r. ⌜ foundOf r ≡ foundAt (knownBlocks (now (blocks .entry)) used (now (bytes .entry))) place ⌝ }
+// The block by a link into the table and the packet together: one more than its row there, or 0.
+fn block_of(blocks: &[u64], used: usize, bytes: &[u8], link: usize) -> Lookup
+    requires { ⌜ BlocksFit used (now blocks) × (link ≤ used + length (packetOf (now bytes) .blocks)) ⌝ }
+    ensures { λ r. ⌜ lookupOf r ≡ lookupAt (knownBlocks (now (blocks .entry)) used (now (bytes .entry))) link ⌝ }
 {
-    if place == 0 {
+    if link == 0 {
         return Lookup::Missing;
     }
-    let b = index::block_at(blocks, used, bytes, place - 1);
+    let b = index::block_at(blocks, used, bytes, link - 1);
     Lookup::Hit(b)
 }
 
@@ -49,7 +49,7 @@ fn block_of(blocks: &[u64], used: usize, bytes: &[u8], place: usize) -> Lookup
 
 // Whether a block was found, of a lower slot.
 fn below(parent: Lookup, slot: u64) -> bool
-    ensures { λ r. ⌜ r ≡ foundWith (λ p. ltb (p .slot) slot) (foundOf parent) ⌝ }
+    ensures { λ r. ⌜ r ≡ foundWith (λ p. ltb (p .slot) slot) (lookupOf parent) ⌝ }
 {
     match parent {
         Lookup::Hit(p) => p.slot < slot,
@@ -70,7 +70,7 @@ fn same_block(a: Block, b: Block) -> bool
 
 // Whether the block that was found by b's number, if any, is b.
 fn known_as(b: Block, old: Lookup) -> bool
-    ensures { λ r. ⌜ r ≡ knownAs (blockOf b) (foundOf old) ⌝ }
+    ensures { λ r. ⌜ r ≡ knownAs (blockOf b) (lookupOf old) ⌝ }
 {
     match old {
         Lookup::Hit(c) => same_block(c, b),
@@ -80,7 +80,7 @@ fn known_as(b: Block, old: Lookup) -> bool
 
 // Whether block b keeps the rules at a beat of this slot, by what was found among the blocks before it: by its parent's number and by its own.
 fn block_allowed(slot: u64, b: Block, parent: Lookup, old: Lookup) -> bool
-    ensures { λ r. ⌜ r ≡ blockPasses slot (blockOf b) (foundOf parent) (foundOf old) ⌝ }
+    ensures { λ r. ⌜ r ≡ blockPasses slot (blockOf b) (lookupOf parent) (lookupOf old) ⌝ }
 {
     if !ranges::within(1, slot, b.slot) {
         return false;
@@ -97,7 +97,7 @@ struct Checked {
     new: bool,
 }
 
-// Block i of the packet, where the table and the packet's earlier blocks are known. It joins the index, if there is one, and its first place is
+// Block i of the packet, where the table and the packet's earlier blocks are known. It joins the index, if there is one, and its first row is
 // noted. The cost is two descents.
 fn admit_block(
     slot: u64,
@@ -119,15 +119,15 @@ fn admit_block(
 {
     let b = packets::block_at(bytes, i);
     let n = used + i;
-    let parent_place = index::known_block(blocks, used, bytes, n, indexed, links, b.parent);
-    let parent = block_of(blocks, used, bytes, parent_place);
-    let place = index::join_block(blocks, used, bytes, n, indexed, links, b.number);
-    let earlier = block_of(blocks, used, bytes, place);
-    index::note_first(firsts, n, place);
+    let parent_link = index::known_block(blocks, used, bytes, n, indexed, links, b.parent);
+    let parent = block_of(blocks, used, bytes, parent_link);
+    let link = index::join_block(blocks, used, bytes, n, indexed, links, b.number);
+    let earlier = block_of(blocks, used, bytes, link);
+    index::note_first(firsts, n, link);
     let allowed = block_allowed(slot, b, parent, earlier);
     Checked {
         allowed: allowed,
-        new: place == 0,
+        new: link == 0,
     }
 }
 
@@ -139,7 +139,7 @@ pub struct Admitted {
 }
 
 // The packet's blocks, in order: the table and the packet's earlier blocks are known. If all are allowed, they have joined the index, and their
-// first places are noted in the set, which was empty. The cost is two descents for each block.
+// first rows are noted in the set, which was empty. The cost is two descents for each block.
 pub fn admit_blocks(
     slot: u64,
     blocks: &[u64],
@@ -177,7 +177,7 @@ pub fn admit_blocks(
 
 // Whether a block was found, of no higher slot.
 fn at_most(block: Lookup, slot: u64) -> bool
-    ensures { λ r. ⌜ r ≡ foundWith (λ b. leb (b .slot) slot) (foundOf block) ⌝ }
+    ensures { λ r. ⌜ r ≡ foundWith (λ b. leb (b .slot) slot) (lookupOf block) ⌝ }
 {
     match block {
         Lookup::Hit(b) => b.slot <= slot,
@@ -187,7 +187,7 @@ fn at_most(block: Lookup, slot: u64) -> bool
 
 // Whether a vote keeps the rules at a beat of this slot, by the block that was found by its number.
 fn vote_allowed(nodes: u64, slot: u64, vote: Vote, block: Lookup) -> bool
-    ensures { λ r. ⌜ r ≡ votePasses nodes slot (voteOf vote) (foundOf block) ⌝ }
+    ensures { λ r. ⌜ r ≡ votePasses nodes slot (voteOf vote) (lookupOf block) ⌝ }
 {
     if nodes <= vote.voter {
         return false;
@@ -198,7 +198,7 @@ fn vote_allowed(nodes: u64, slot: u64, vote: Vote, block: Lookup) -> bool
     at_most(block, vote.slot)
 }
 
-// Vote i of the packet, where all blocks of the packet are known. Its block's first place is noted, if it is allowed. The cost is a descent.
+// Vote i of the packet, where all blocks of the packet are known. Its block's first row is noted, if it is allowed. The cost is a descent.
 fn admit_vote(
     nodes: u64,
     slot: u64,
@@ -219,17 +219,17 @@ fn admit_vote(
 {
     let vote = packets::vote_at(bytes, i);
     let n = used + known;
-    let place = index::known_block(blocks, used, bytes, n, indexed, links, vote.number);
-    let block = block_of(blocks, used, bytes, place);
+    let link = index::known_block(blocks, used, bytes, n, indexed, links, vote.number);
+    let block = block_of(blocks, used, bytes, link);
     if !vote_allowed(nodes, slot, vote, block) {
         return false;
     }
-    index::note_first(firsts, n, place);
+    index::note_first(firsts, n, link);
     true
 }
 
 // The index of the first vote that is not allowed, or the number of votes. All blocks of the packet are known. If all votes are allowed, the first
-// places of their blocks are noted in the set. The cost is a descent for each vote.
+// rows of their blocks are noted in the set. The cost is a descent for each vote.
 pub fn admit_votes(
     nodes: u64,
     slot: u64,
@@ -274,7 +274,7 @@ pub fn admit_votes(
 // ---- new votes
 
 // Whether vote i of the packet is new: not old, that is of slot `from` or later, and not known. It joins the index in any case, if there is one,
-// and its first place is noted. The cost is a descent.
+// and its first row is noted. The cost is a descent.
 fn is_new_vote(
     votes: &[u64],
     used: usize,
@@ -294,15 +294,15 @@ fn is_new_vote(
 {
     let vote = packets::vote_at(bytes, i);
     let n = used + i;
-    let place = index::join_vote(votes, used, bytes, n, indexed, links, vote);
-    index::note_first(firsts, n, place);
-    if place != 0 {
+    let link = index::join_vote(votes, used, bytes, n, indexed, links, vote);
+    index::note_first(firsts, n, link);
+    if link != 0 {
         return false;
     }
     vote.slot >= from
 }
 
-// How many votes of the packet are new: those of slot `from` and later that are not known. The first place of each vote is noted in the set, which
+// How many votes of the packet are new: those of slot `from` and later that are not known. The first row of each vote is noted in the set, which
 // was empty. The cost is a descent for each vote.
 pub fn new_votes(
     votes: &[u64],

@@ -6,7 +6,7 @@ use Rattle.protocol.specs.Store.{Places, Node}
 use Rattle.protocol.specs.Refusal as rules
 use Rattle.protocol.specs.Lent.{Lent, placesOf, nodeOf}
 use Rattle.protocol.proofs.Store.Sound.{sound-holds}
-use Rattle.choice.specs.Tables.{TablesSound}
+use Rattle.fork_choice.specs.Tables.{TablesSound}
 use Rattle.verdicts.specs.declared.Verdict.{Verdict}
 use Rattle.verdicts.specs.declared.Verdict.the-variants.{Pass}
 use Rattle.verdicts.specs.Verdict.{verdictOf}

@@ -15,39 +15,39 @@ use Rattle.protocol.specs.Calls.Merge.{merge}
 use Rattle.protocol.specs.Calls.Query.{headQuery, deepQuery, fastQuery}
 use Rattle.protocol.specs.Calls.Write as writing
 use Rattle.protocol.specs.Lent.{Lent, LentOutcome, openLent, callLent, askLent, writeLent}
-use Rattle.answers.specs.Answers.{Value, nothingMore, received, block, replyOf, answerOf, writtenOf, mapReply}
-use Rattle.answers.specs.declared.Reply.{Reply}
+use Rattle.answers.specs.Answers.{Value, nothingMore, received, block, answerOf, foundOf, writtenOf, mapAnswer}
+use Rattle.answers.specs.declared.Answer.{Answer}
 use Rattle.answers.specs.declared.Call.{Call}
 use Rattle.answers.specs.declared.Call.the-variants as call
-use Rattle.answers.specs.declared.Answer.{Answer}
+use Rattle.answers.specs.declared.Found.{Found}
 use Rattle.answers.specs.declared.Written.{Written}
 
 -- ---- calls that change the memory
 
 -- m is the memory at exit: the words of both tables, both counts, the clock
-pub record Leaves {A : Type 0} (value : A → Value) (outcome : LentOutcome A) (m : Lent) (r : Reply) : Type 0 where
+pub record Leaves {A : Type 0} (value : A → Value) (outcome : LentOutcome A) (m : Lent) (r : Answer) : Type 0 where
   pub memory : m ≡ outcome .lent
-  pub reply : replyOf r ≡ mapReply value (outcome .reply)
+  pub answer : answerOf r ≡ mapAnswer value (outcome .answer)
 
 -- m is the memory at entry
 module _ (s : Settings) (m : Lent) where
-  abbrev pub Opens : Lent → Reply → Type 0
+  abbrev pub Opens : Lent → Answer → Type 0
   Opens = Leaves (λ a. nothingMore) (openLent s m)
 
-  abbrev pub Receives : ℕ → List ℕ → Lent → Reply → Type 0
+  abbrev pub Receives : ℕ → List ℕ → Lent → Answer → Type 0
   Receives beat bytes = Leaves received (callLent s (λ p x. receive s p x beat bytes) m)
 
-  abbrev pub Proposes : ℕ → ℕ → Lent → Reply → Type 0
+  abbrev pub Proposes : ℕ → ℕ → Lent → Answer → Type 0
   Proposes beat number = Leaves block (callLent s (λ p x. propose s p x beat number) m)
 
-  abbrev pub Votes : ℕ → Lent → Reply → Type 0
+  abbrev pub Votes : ℕ → Lent → Answer → Type 0
   Votes beat = Leaves block (callLent s (λ p x. vote s p x beat) m)
 
-  abbrev pub Merges : ℕ → Lent → Reply → Type 0
+  abbrev pub Merges : ℕ → Lent → Answer → Type 0
   Merges beat = Leaves (λ a. nothingMore) (callLent s (λ p x. merge s p x beat) m)
 
   -- the call that is asked for; the bytes are Receive's
-  unfoldable pub Carries : Call → ℕ → List ℕ → Lent → Reply → Type 0
+  unfoldable pub Carries : Call → ℕ → List ℕ → Lent → Answer → Type 0
   Carries call.Receive beat bytes = Receives beat bytes
   Carries (call.Propose number) beat bytes = Proposes beat (value number)
   Carries call.Vote beat bytes = Votes beat
@@ -55,17 +55,17 @@ module _ (s : Settings) (m : Lent) where
 
   -- ---- Head, Deep and Fast: the memory is only read
 
-  abbrev pub IsHead : ℕ → Answer → Type 0
-  IsHead slot r = answerOf r ≡ mapReply chosen (askLent s (λ p x. headQuery s p x slot) m)
+  abbrev pub IsHead : ℕ → Found → Type 0
+  IsHead slot r = foundOf r ≡ mapAnswer chosen (askLent s (λ p x. headQuery s p x slot) m)
 
-  abbrev pub IsDeep : ℕ → Answer → Type 0
-  IsDeep slot r = answerOf r ≡ mapReply chosen (askLent s (λ p x. deepQuery s p x slot) m)
+  abbrev pub IsDeep : ℕ → Found → Type 0
+  IsDeep slot r = foundOf r ≡ mapAnswer chosen (askLent s (λ p x. deepQuery s p x slot) m)
 
-  abbrev pub IsFast : ℕ → Answer → Type 0
-  IsFast slot r = answerOf r ≡ askLent s (λ p x. fastQuery s p x slot) m
+  abbrev pub IsFast : ℕ → Found → Type 0
+  IsFast slot r = foundOf r ≡ askLent s (λ p x. fastQuery s p x slot) m
 
   -- ---- Write: the memory is only read; the buffer as it was and as it is left
 
   pub record Writes (proposal : Bool) (width : Width) (old new : List ℕ) (r : Written) : Type 0 where
     pub buffer : new ≡ writeLent s (λ p x. writing.write s p x proposal width old) m old .buffer
-    pub length : writtenOf r ≡ writeLent s (λ p x. writing.write s p x proposal width old) m old .reply
+    pub answer : writtenOf r ≡ writeLent s (λ p x. writing.write s p x proposal width old) m old .answer

@@ -4,24 +4,24 @@ use protocol::Number;
 use verdicts::Refusal;
 
 // What a Receive that was carried out answers: how many entries were new, and whether the packet came into view.
-pub struct Taken {
+pub struct Received {
     pub new_blocks: u64,
     pub new_votes: u64,
-    pub brought: bool,
+    pub viewed: bool,
 }
 
 // The answer of a call that changes the memory. Open and Merge answer Done, Receive Received,
 // Propose the base as Block, Vote the head as Block.
-pub enum Reply {
+pub enum Answer {
     Done,
-    Received(Taken),
+    Received(Received),
     Block(Number),
     Refused(Refusal),
 }
 
 // The same with the clock after the call.
 pub struct Moved {
-    pub reply: Reply,
+    pub answer: Answer,
     pub clock: Clock,
 }
 
@@ -34,7 +34,7 @@ pub enum Call {
 }
 
 // The answer of Head, Deep and Fast. Fast alone answers Nothing: no block has the quorum.
-pub enum Answer {
+pub enum Found {
     Block(Number),
     Nothing,
     Refused(Refusal),
@@ -42,6 +42,6 @@ pub enum Answer {
 
 // The answer of Write: how many bytes of the buffer the packet takes.
 pub enum Written {
-    Length(u64),
+    Bytes(u64),
     Refused(Refusal),
 }

@@ -8,8 +8,8 @@ use Rattle.protocol.specs.declared.Settings.{Settings}
 use Rattle.protocol.specs.declared.Profile.the-variants.{Loom}
 use Rattle.protocol.specs.Filters.{Choice}
 use Rattle.protocol.specs.Store.{Places, Node}
-use Rattle.protocol.specs.Packet.{field}
-use Rattle.protocol.specs.Refusal.{by, Reply, refused, done, Outcome}
+use Rattle.protocol.specs.Packet.{numberAt}
+use Rattle.protocol.specs.Refusal.{by, Answer, refused, done, Outcome}
 use Rattle.protocol.specs.Calls.Open.{openNode}
 use Rattle.protocol.specs.Calls.Receive.{receive}
 use Rattle.protocol.specs.Calls.Merge.{merge}
@@ -18,13 +18,13 @@ use Rattle.protocol.specs.Calls.Query.{headQuery, deepQuery, fastQuery}
 -- ---- one call after another: the first refusal counts
 
 module _ {A B : Type 0} where
-  unfoldable pub unlessRefused : Reply A → Reply B → Reply B
-  unlessRefused (refused k) r = refused k
-  unlessRefused (done a) r = r
+  unfoldable pub thenAnswer : Answer A → Answer B → Answer B
+  thenAnswer (refused k) r = refused k
+  thenAnswer (done a) r = r
 
   -- a call, and then the next on the node that it left
-  unfoldable pub andThen : (Places → Node → Outcome A) → (Places → Node → Reply B) → Places → Node → Reply B
-  andThen call next p x = unlessRefused (call p x .reply) (next p (call p x .node))
+  unfoldable pub andThen : (Places → Node → Outcome A) → (Places → Node → Answer B) → Places → Node → Answer B
+  andThen call next p x = thenAnswer (call p x .answer) (next p (call p x .node))
 
 -- ---- the three answers
 
@@ -33,21 +33,21 @@ pub record Findings : Type 0 where
   pub deep : ℕ
   pub fast : Choice
 
-unfoldable pub gather : Reply ℕ → Reply ℕ → Reply Choice → Reply Findings
+unfoldable pub gather : Answer ℕ → Answer ℕ → Answer Choice → Answer Findings
 gather (refused k) d f = refused k
 gather (done h) (refused k) f = refused k
 gather (done h) (done d) (refused k) = refused k
 gather (done h) (done d) (done f) = done (record { head = h; deep = d; fast = f })
 
-unfoldable pub askAll : Settings → ℕ → Places → Node → Reply Findings
+unfoldable pub askAll : Settings → ℕ → Places → Node → Answer Findings
 askAll s slot p x = gather (headQuery s p x slot) (deepQuery s p x slot) (fastQuery s p x slot)
 
 -- ---- the calls before them
 
-unfoldable pub mergeAndAsk : Settings → ℕ → ℕ → Places → Node → Reply Findings
+unfoldable pub mergeAndAsk : Settings → ℕ → ℕ → Places → Node → Answer Findings
 mergeAndAsk s beat slot = andThen (λ p x. merge s p x beat) (askAll s slot)
 
-unfoldable pub receiveAndAsk : Settings → ℕ → ℕ → List ℕ → Places → Node → Reply Findings
+unfoldable pub receiveAndAsk : Settings → ℕ → ℕ → List ℕ → Places → Node → Answer Findings
 receiveAndAsk s beat slot bytes = andThen (λ p x. receive s p x beat bytes) (mergeAndAsk s beat slot)
 
 abbrev pub places : Places
@@ -57,14 +57,14 @@ places = record { blocks = 512; votes = 1024 }
 abbrev pub empty : Node
 empty = record { blocks = []; votes = []; clock = record { seen = 0; done = 0; merged = 0; proposed = 0 } }
 
-unfoldable pub openAndAsk : Settings → ℕ → List ℕ → Reply Findings
+unfoldable pub openAndAsk : Settings → ℕ → List ℕ → Answer Findings
 openAndAsk s slot bytes = andThen (openNode s) (receiveAndAsk s (3 * slot + 2) slot bytes) places empty
 
 -- ---- the input: n in 1 byte, E and K in 2 each, a slot in 4, and a packet
 
 unfoldable pub settingsIn : List ℕ → Settings
-settingsIn bs = record { profile = Loom; nodes = field bs 0 1; own = 0; expiry = field bs 1 2; depth = field bs 3 2 }
+settingsIn bs = record { profile = Loom; nodes = numberAt bs 0 1; own = 0; expiry = numberAt bs 1 2; depth = numberAt bs 3 2 }
 
-unfoldable pub askWith : List ℕ → Reply Findings
+unfoldable pub askWith : List ℕ → Answer Findings
 askWith bs =
-    cond (ltb (length bs) 9 || ltb 32768 (length bs)) (refused (by 8)) (openAndAsk (settingsIn bs) (field bs 5 4) (drop 9 bs))
+    cond (ltb (length bs) 9 || ltb 32768 (length bs)) (refused (by 8)) (openAndAsk (settingsIn bs) (numberAt bs 5 4) (drop 9 bs))

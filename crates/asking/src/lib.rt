@@ -2,7 +2,7 @@
 // The input is n (1 byte), E and K (2 each), a slot (4), and a packet. Node 0 receives the packet and merges it.
 // The tables and the input take 98 KB of stack.
 use answers::Answer;
-use answers::Reply;
+use answers::Found;
 use protocol::Clock;
 use protocol::Number;
 use protocol::Profile;
@@ -12,57 +12,56 @@ use verdicts::Verdict;
 ghost use mathlib.Core.Bool.{true};
 ghost use mathlib.Core.Path.{_≡_};
 ghost use Prim.Native.Nat.{_^_, _<_};
-ghost use Rattle.protocol.specs.Refusal as rules;
 ghost use Rattle.protocol.specs.Lent.{blockWords, voteWords, placesIn, placesOf, nodeOf, lentSound};
 ghost use Rattle.verdicts.specs.Verdict.{verdictOf};
-ghost use Rattle.verdicts.specs.Lent.{lent};
-ghost use Rattle.answers.specs.Answers.{replyOf, answerOf};
+ghost use Rattle.verdicts.specs.Lent.{lent, lentAtEntry};
+ghost use Rattle.answers.specs.Answers.{answerOf, foundOf};
 ghost use Rattle.asking.specs.Ask.{askAll, mergeAndAsk, receiveAndAsk, openAndAsk, askWith};
-ghost use Rattle.asking.specs.Answers.{answersOf, verdictIn, Gathers};
+ghost use Rattle.asking.specs.ChainAnswer.{chainAnswerOf, verdictIn, Gathers};
 
 // The three answers, or the first refusal of a call.
-pub enum Answers {
+pub enum ChainAnswer {
     Found {
         head: Number,
         deep: Number,
-        fast: confirm::Answer,
+        fast: confirm::Choice,
     },
     Refused(Refusal),
 }
 
 // Whether a call was carried out, or why not.
-pub fn verdict(reply: Reply) -> Verdict
-    ensures { λ r. ⌜ verdictOf r ≡ verdictIn (replyOf reply) ⌝ }
+pub fn verdict(answer: Answer) -> Verdict
+    ensures { λ r. ⌜ verdictOf r ≡ verdictIn (answerOf answer) ⌝ }
 {
-    match reply {
-        Reply::Done => Verdict::Pass,
-        Reply::Received(_) => Verdict::Pass,
-        Reply::Block(_) => Verdict::Pass,
-        Reply::Refused(refusal) => Verdict::Refuse(refusal),
+    match answer {
+        Answer::Done => Verdict::Pass,
+        Answer::Received(_) => Verdict::Pass,
+        Answer::Block(_) => Verdict::Pass,
+        Answer::Refused(refusal) => Verdict::Refuse(refusal),
     }
 }
 
 // The answers of Head, Deep and Fast together. Head and Deep never answer Nothing.
-fn gathered(head: Answer, deep: Answer, fast: Answer) -> Answers
-    ensures { λ r. ⌜ Gathers (answerOf head) (answerOf deep) (answerOf fast) (answersOf r) ⌝ }
+fn gathered(head: Found, deep: Found, fast: Found) -> ChainAnswer
+    ensures { λ r. ⌜ Gathers (foundOf head) (foundOf deep) (foundOf fast) (chainAnswerOf r) ⌝ }
 {
     match head {
-        Answer::Refused(refusal) => Answers::Refused(refusal),
-        Answer::Nothing => Answers::Refused(Refusal::Slot),
-        Answer::Block(first) => match deep {
-            Answer::Refused(refusal) => Answers::Refused(refusal),
-            Answer::Nothing => Answers::Refused(Refusal::Slot),
-            Answer::Block(second) => match fast {
-                Answer::Refused(refusal) => Answers::Refused(refusal),
-                Answer::Nothing => Answers::Found {
+        Found::Refused(refusal) => ChainAnswer::Refused(refusal),
+        Found::Nothing => ChainAnswer::Refused(Refusal::SlotOutOfRange),
+        Found::Block(first) => match deep {
+            Found::Refused(refusal) => ChainAnswer::Refused(refusal),
+            Found::Nothing => ChainAnswer::Refused(Refusal::SlotOutOfRange),
+            Found::Block(second) => match fast {
+                Found::Refused(refusal) => ChainAnswer::Refused(refusal),
+                Found::Nothing => ChainAnswer::Found {
                     head: first,
                     deep: second,
-                    fast: confirm::Answer::Nothing,
+                    fast: confirm::Choice::Nothing,
                 },
-                Answer::Block(third) => Answers::Found {
+                Found::Block(third) => ChainAnswer::Found {
                     head: first,
                     deep: second,
-                    fast: confirm::Answer::Chosen(third),
+                    fast: confirm::Choice::Chosen(third),
                 },
             },
         },
@@ -77,9 +76,9 @@ fn queried(
     votes: &[u64],
     votes_used: usize,
     slot: u64,
-) -> Answers
+) -> ChainAnswer
     requires { ⌜ lentSound settings (lent (now blocks) (now votes) «blocks_used» «votes_used» clock) ≡ true ⌝ }
-    ensures { λ r. ⌜ answersOf r ≡ askAll settings slot (placesOf (lent (now (blocks .entry)) (now (votes .entry)) «blocks_used» «votes_used» clock))
+    ensures { λ r. ⌜ chainAnswerOf r ≡ askAll settings slot (placesOf (lent (now (blocks .entry)) (now (votes .entry)) «blocks_used» «votes_used» clock))
         (nodeOf (lent (now (blocks .entry)) (now (votes .entry)) «blocks_used» «votes_used» clock)) ⌝ }
 {
     let head = queries::head(
@@ -121,11 +120,11 @@ fn merged(
     votes_used: &mut usize,
     beat: u64,
     slot: u64,
-) -> Answers
+) -> ChainAnswer
     requires { ⌜ lentSound settings (lent (now blocks) (now votes) (now «blocks_used») (now «votes_used») clock) ≡ true ⌝ }
-    ensures { λ r. ⌜ answersOf r ≡ mergeAndAsk settings beat slot
-        (placesOf (lent (now (blocks .entry)) (now (votes .entry)) (now («blocks_used» .entry)) (now («votes_used» .entry)) clock))
-        (nodeOf (lent (now (blocks .entry)) (now (votes .entry)) (now («blocks_used» .entry)) (now («votes_used» .entry)) clock)) ⌝ }
+    ensures { λ r. ⌜ chainAnswerOf r ≡ mergeAndAsk settings beat slot
+        (placesOf (lentAtEntry blocks «blocks_used» votes «votes_used» clock))
+        (nodeOf (lentAtEntry blocks «blocks_used» votes «votes_used» clock)) ⌝ }
 {
     let moved = node::merge(
         settings,
@@ -136,10 +135,10 @@ fn merged(
         votes_used,
         beat,
     );
-    let reply = moved.reply;
-    let done = verdict(reply);
+    let answer = moved.answer;
+    let done = verdict(answer);
     match done {
-        Verdict::Refuse(refusal) => Answers::Refused(refusal),
+        Verdict::Refuse(refusal) => ChainAnswer::Refused(refusal),
         Verdict::Pass => queried(
             settings,
             moved.clock,
@@ -162,11 +161,11 @@ fn received(
     beat: u64,
     slot: u64,
     packet: &[u8],
-) -> Answers
+) -> ChainAnswer
     requires { ⌜ lentSound settings (lent (now blocks) (now votes) (now «blocks_used») (now «votes_used») clock) ≡ true ⌝ }
-    ensures { λ r. ⌜ answersOf r ≡ receiveAndAsk settings beat slot (now (packet .entry))
-        (placesOf (lent (now (blocks .entry)) (now (votes .entry)) (now («blocks_used» .entry)) (now («votes_used» .entry)) clock))
-        (nodeOf (lent (now (blocks .entry)) (now (votes .entry)) (now («blocks_used» .entry)) (now («votes_used» .entry)) clock)) ⌝ }
+    ensures { λ r. ⌜ chainAnswerOf r ≡ receiveAndAsk settings beat slot (now (packet .entry))
+        (placesOf (lentAtEntry blocks «blocks_used» votes «votes_used» clock))
+        (nodeOf (lentAtEntry blocks «blocks_used» votes «votes_used» clock)) ⌝ }
 {
     let moved = node::receive(
         settings,
@@ -178,10 +177,10 @@ fn received(
         beat,
         packet,
     );
-    let reply = moved.reply;
-    let done = verdict(reply);
+    let answer = moved.answer;
+    let done = verdict(answer);
     match done {
-        Verdict::Refuse(refusal) => Answers::Refused(refusal),
+        Verdict::Refuse(refusal) => ChainAnswer::Refused(refusal),
         Verdict::Pass => merged(
             settings,
             moved.clock,
@@ -202,9 +201,9 @@ fn opened(
     votes: &mut [u64],
     slot: u64,
     packet: &[u8],
-) -> Answers
+) -> ChainAnswer
     requires { ⌜ (placesIn blockWords (now blocks) ≡ 512) × (placesIn voteWords (now votes) ≡ 1024) × (slot < 2 ^ 32) ⌝ }
-    ensures { λ r. ⌜ answersOf r ≡ openAndAsk settings slot (now (packet .entry)) ⌝ }
+    ensures { λ r. ⌜ chainAnswerOf r ≡ openAndAsk settings slot (now (packet .entry)) ⌝ }
 {
     let mut blocks_used = 0;
     let mut votes_used = 0;
@@ -222,10 +221,10 @@ fn opened(
         votes,
         &mut votes_used,
     );
-    let reply = moved.reply;
-    let done = verdict(reply);
+    let answer = moved.answer;
+    let done = verdict(answer);
     match done {
-        Verdict::Refuse(refusal) => Answers::Refused(refusal),
+        Verdict::Refuse(refusal) => ChainAnswer::Refused(refusal),
         Verdict::Pass => received(
             settings,
             moved.clock,
@@ -241,14 +240,14 @@ fn opened(
 }
 
 // The length is tested before anything else.
-pub fn asked(input: &[u8]) -> Answers
-    ensures { λ r. ⌜ answersOf r ≡ askWith (now (input .entry)) ⌝ }
+pub fn asked(input: &[u8]) -> ChainAnswer
+    ensures { λ r. ⌜ chainAnswerOf r ≡ askWith (now (input .entry)) ⌝ }
 {
     if input.len() < 9 {
-        return Answers::Refused(Refusal::Form);
+        return ChainAnswer::Refused(Refusal::PacketMalformed);
     }
     if 32768 < input.len() {
-        return Answers::Refused(Refusal::Form);
+        return ChainAnswer::Refused(Refusal::PacketMalformed);
     }
     let settings = Settings {
         profile: Profile::Loom,
@@ -272,25 +271,25 @@ fn line(to: i32, word: &[u8], n: Number) {
     io::write_all(to, b"\n");
 }
 
-fn show_refusal(to: i32, refusal: Refusal) {
+fn print_refusal(to: i32, refusal: Refusal) {
     io::write_all(to, b"refused ");
     io::print_decimal(to, verdicts::number(refusal));
     io::write_all(to, b"\n");
 }
 
-fn show(to: i32, a: Answers) {
+fn print(to: i32, a: ChainAnswer) {
     match a {
-        Answers::Refused(refusal) => {
-            show_refusal(to, refusal);
+        ChainAnswer::Refused(refusal) => {
+            print_refusal(to, refusal);
         }
-        Answers::Found { head, deep, fast } => {
+        ChainAnswer::Found { head, deep, fast } => {
             line(to, b"head ", head);
             line(to, b"deep ", deep);
             match fast {
-                confirm::Answer::Chosen(block) => {
+                confirm::Choice::Chosen(block) => {
                     line(to, b"fast ", block);
                 }
-                confirm::Answer::Nothing => {
+                confirm::Choice::Nothing => {
                     io::write_all(to, b"fast none\n");
                 }
             }
@@ -303,5 +302,5 @@ pub fn ask(from: i32, to: i32) {
     let mut buf = [0u8; 32769];
     let n = io::read_full(from, &mut buf);
     let a = asked(&buf[..n]);
-    show(to, a);
+    print(to, a);
 }

@@ -3,54 +3,30 @@ use mathlib.Core.Bool.{false}
 use mathlib.Core.Path.{_≡_, refl}
 use lib.Dec.{eqb}
 use Rattle.verdicts.specs.declared.Refusal.{Refusal}
-use Rattle.verdicts.specs.declared.Refusal.the-variants.{
-  Nodes,
-  Own,
-  Expiry,
-  Depth,
-  Length,
-  Unsound,
-  Beat,
-  Long,
-  Form,
-  Block,
-  Vote,
-  Header,
-  Places,
-  Phase,
-  Done,
-  Joined,
-  Proposer,
-  Number,
-  Voted,
-  Slot,
-  Buffer,
-  Proposal,
-  Wide,
-}
-use Rattle.verdicts.specs.Verdict.{numberOf}
+use Rattle.verdicts.specs.declared.Refusal.the-variants as refusal
+use Rattle.verdicts.specs.Verdict.{refusalNumberOf}
 
-pub refusal-not-zero : (e : Refusal) → eqb (numberOf e) 0 ≡ false
-refusal-not-zero Nodes = refl
-refusal-not-zero Own = refl
-refusal-not-zero Expiry = refl
-refusal-not-zero Depth = refl
-refusal-not-zero Length = refl
-refusal-not-zero Unsound = refl
-refusal-not-zero Beat = refl
-refusal-not-zero Long = refl
-refusal-not-zero Form = refl
-refusal-not-zero (Block i) = refl
-refusal-not-zero (Vote i) = refl
-refusal-not-zero Header = refl
-refusal-not-zero Places = refl
-refusal-not-zero Phase = refl
-refusal-not-zero Done = refl
-refusal-not-zero Joined = refl
-refusal-not-zero Proposer = refl
-refusal-not-zero Number = refl
-refusal-not-zero Voted = refl
-refusal-not-zero Slot = refl
-refusal-not-zero Buffer = refl
-refusal-not-zero Proposal = refl
-refusal-not-zero Wide = refl
+pub refusal-not-zero : (e : Refusal) → eqb (refusalNumberOf e) 0 ≡ false
+refusal-not-zero refusal.NodesOutOfRange = refl
+refusal-not-zero refusal.OwnOutOfRange = refl
+refusal-not-zero refusal.ExpiryOutOfRange = refl
+refusal-not-zero refusal.DepthOutOfRange = refl
+refusal-not-zero refusal.LengthOutOfRange = refl
+refusal-not-zero refusal.Unsound = refl
+refusal-not-zero refusal.WrongBeat = refl
+refusal-not-zero refusal.PacketTooLong = refl
+refusal-not-zero refusal.PacketMalformed = refl
+refusal-not-zero (refusal.BadBlock i) = refl
+refusal-not-zero (refusal.BadVote i) = refl
+refusal-not-zero refusal.BadHeader = refl
+refusal-not-zero refusal.TooFewPlaces = refl
+refusal-not-zero refusal.WrongPhase = refl
+refusal-not-zero refusal.BeatDone = refl
+refusal-not-zero refusal.NotJoined = refl
+refusal-not-zero refusal.NotProposer = refl
+refusal-not-zero refusal.NumberKnown = refl
+refusal-not-zero refusal.AlreadyVoted = refl
+refusal-not-zero refusal.SlotOutOfRange = refl
+refusal-not-zero refusal.BufferTooShort = refl
+refusal-not-zero refusal.NoOwnProposal = refl
+refusal-not-zero refusal.NumberTooWide = refl

@@ -6,8 +6,8 @@ use Rattle.protocol.specs.Sound.{between, settingsSound, sound}
 use Rattle.protocol.specs.Refusal.{first}
 use Rattle.protocol.specs.Calls.Open.{openTests}
 use Rattle.protocol.specs.Lent.{openVerdict, openLent, lentSound}
-use Rattle.capi.specs.Structs.{settingsIn, UnnamedRefused}
+use Rattle.capi.specs.Structs.{nodeSettings, UnnamedRefused}
 
 pub unnamed-refused : UnnamedRefused
-unfolding UnnamedRefused settingsIn openLent openVerdict openTests first between limitsOf lentSound sound settingsSound
+unfolding UnnamedRefused nodeSettings openLent openVerdict openTests first between limitsOf lentSound sound settingsSound
 unnamed-refused s a b m = rw (a, b) (refl, simp and-false)

@@ -14,12 +14,12 @@ use Rattle.protocol.specs.declared.Width.{Width}
 use Rattle.protocol.specs.declared.Width.the-variants.{Narrow, Wide}
 use Rattle.protocol.specs.Refusal.{by, refused}
 use Rattle.protocol.specs.Lent.{Lent, openLent, lentSound}
-use Rattle.verdicts.specs.Verdict.{numberOf, indexOf}
-use Rattle.answers.specs.declared.Reply.{Reply}
-use Rattle.answers.specs.declared.Reply.the-variants as reply
-use Rattle.answers.specs.declared.Answer as answers
+use Rattle.verdicts.specs.Verdict.{refusalNumberOf, refusalIndexOf}
+use Rattle.answers.specs.declared.Answer.{Answer as NodeAnswer}
 use Rattle.answers.specs.declared.Answer.the-variants as answer
-use Rattle.answers.specs.declared.Written as answersWritten
+use Rattle.answers.specs.declared.Found.{Found as NodeFound}
+use Rattle.answers.specs.declared.Found.the-variants as found
+use Rattle.answers.specs.declared.Written.{Written as NodeWritten}
 use Rattle.answers.specs.declared.Written.the-variants as written
 use Rattle.capi.specs.declared.Settings.{Settings}
 use Rattle.capi.specs.declared.Clock.{Clock}
@@ -30,71 +30,71 @@ use Rattle.capi.specs.declared.Written.{Written}
 
 -- ---- settings and clock
 
-abbrev pub settingsWith : Profile → ℕ → Settings → protocolSettings.Settings
-settingsWith profile nodes s = record { profile = profile; nodes = nodes; own = s .own; expiry = s .expiry; depth = s .depth }
+abbrev pub nodeSettingsWith : Profile → ℕ → Settings → protocolSettings.Settings
+nodeSettingsWith profile nodes s = record { profile = profile; nodes = nodes; own = s .own; expiry = s .expiry; depth = s .depth }
 
 -- 1 names a loom and 2 a rack; with any other number the settings have no node
-unfoldable pub settingsIn : Settings → protocolSettings.Settings
-settingsIn s =
-    cond (eqb (s .profile) 1) (settingsWith Loom (s .nodes) s)
-    (cond (eqb (s .profile) 2) (settingsWith Rack (s .nodes) s) (settingsWith Loom 0 s))
+unfoldable pub nodeSettings : Settings → protocolSettings.Settings
+nodeSettings s =
+    cond (eqb (s .profile) 1) (nodeSettingsWith Loom (s .nodes) s)
+    (cond (eqb (s .profile) 2) (nodeSettingsWith Rack (s .nodes) s) (nodeSettingsWith Loom 0 s))
 
 -- so a number that is neither is refused, by 1 at Open and by 6 later, whatever the memory is
 unfoldable pub UnnamedRefused : Type 0
 UnnamedRefused =
     (s : Settings) → eqb (s .profile) 1 ≡ false → eqb (s .profile) 2 ≡ false → (m : Lent) →
-    (openLent (settingsIn s) m ≡ record { reply = refused (by 1); lent = m }) × (lentSound (settingsIn s) m ≡ false)
+    (openLent (nodeSettings s) m ≡ record { answer = refused (by 1); lent = m }) × (lentSound (nodeSettings s) m ≡ false)
 
-abbrev pub clockIn : Clock → protocolClock.Clock
-clockIn k = record { seen = k .seen; done = k .done; merged = k .merged; proposed = k .proposed }
+abbrev pub nodeClock : Clock → protocolClock.Clock
+nodeClock k = record { seen = k .seen; done = k .done; merged = k .merged; proposed = k .proposed }
 
-abbrev pub clockOut : protocolClock.Clock → Clock
-clockOut k = record { seen = k .seen; done = k .done; merged = k .merged; proposed = k .proposed }
+abbrev pub exportedClock : protocolClock.Clock → Clock
+exportedClock k = record { seen = k .seen; done = k .done; merged = k .merged; proposed = k .proposed }
 
 -- ---- numbers, and whether a packet is written wide
 
-abbrev pub numberIn : Number → protocolNumber.Number
-numberIn n = record { lower = n .lower; upper = n .upper }
+abbrev pub nodeNumber : Number → protocolNumber.Number
+nodeNumber n = record { lower = n .lower; upper = n .upper }
 
-abbrev pub numberOut : protocolNumber.Number → Number
-numberOut n = record { lower = n .lower; upper = n .upper }
+abbrev pub exportedNumber : protocolNumber.Number → Number
+exportedNumber n = record { lower = n .lower; upper = n .upper }
 
 -- what stands in an answer that has no number
 abbrev pub noNumber : Number
 noNumber = record { lower = 0; upper = 0 }
 
-abbrev pub widthIn : Bool → Width
-widthIn wide = cond wide Wide Narrow
+abbrev pub nodeWidth : Bool → Width
+nodeWidth wide = cond wide Wide Narrow
 
 -- ---- answers
 
 -- the clock is the one after the call
-abbrev pub answerOf : Clock → Reply → Answer
-answerOf k reply.Done =
-    record { refusal = 0; index = 0; value = noNumber; «new_blocks» = 0; «new_votes» = 0; brought = 0; clock = k }
-answerOf k (reply.Received t) =
+abbrev pub answerStruct : Clock → NodeAnswer → Answer
+answerStruct k answer.Done =
+    record { refusal = 0; index = 0; value = noNumber; «new_blocks» = 0; «new_votes» = 0; viewed = 0; clock = k }
+answerStruct k (answer.Received t) =
     record {
       refusal = 0;
       index = 0;
       value = noNumber;
       «new_blocks» = t .«new_blocks»;
       «new_votes» = t .«new_votes»;
-      brought = cond (t .brought) 1 0;
+      viewed = cond (t .viewed) 1 0;
       clock = k;
     }
-answerOf k (reply.Block b) =
-    record { refusal = 0; index = 0; value = numberOut b; «new_blocks» = 0; «new_votes» = 0; brought = 0; clock = k }
-answerOf k (reply.Refused e) =
-    record { refusal = numberOf e; index = indexOf e; value = noNumber; «new_blocks» = 0; «new_votes» = 0; brought = 0; clock = k }
+answerStruct k (answer.Block b) =
+    record { refusal = 0; index = 0; value = exportedNumber b; «new_blocks» = 0; «new_votes» = 0; viewed = 0; clock = k }
+answerStruct k (answer.Refused e) =
+    record { refusal = refusalNumberOf e; index = refusalIndexOf e; value = noNumber; «new_blocks» = 0; «new_votes» = 0; viewed = 0; clock = k }
 
-abbrev pub foundOf : answers.Answer → Found
-foundOf (answer.Block b) = record { refusal = 0; found = 1; value = numberOut b }
-foundOf answer.Nothing = record { refusal = 0; found = 0; value = noNumber }
-foundOf (answer.Refused e) = record { refusal = numberOf e; found = 0; value = noNumber }
+abbrev pub foundStruct : NodeFound → Found
+foundStruct (found.Block b) = record { refusal = 0; found = 1; value = exportedNumber b }
+foundStruct found.Nothing = record { refusal = 0; found = 0; value = noNumber }
+foundStruct (found.Refused e) = record { refusal = refusalNumberOf e; found = 0; value = noNumber }
 
-abbrev pub writtenOf : answersWritten.Written → Written
-writtenOf (written.Length n) = record { refusal = 0; length = n }
-writtenOf (written.Refused e) = record { refusal = numberOf e; length = 0 }
+abbrev pub writtenStruct : NodeWritten → Written
+writtenStruct (written.Bytes n) = record { refusal = 0; bytes = n }
+writtenStruct (written.Refused e) = record { refusal = refusalNumberOf e; bytes = 0 }
 
 -- ---- what every exported function promises
 

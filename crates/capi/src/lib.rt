@@ -1,14 +1,13 @@
 // The node for programs in C and Rust: the nine calls under the names that include/likvost.h declares.
 // An enum cannot be exported, so an answer is a struct of numbers; specs/Structs says which struct stands for which answer.
 // Every function takes any memory, any clock and any settings that a caller may pass.
-use answers::Reply;
 use protocol::Profile;
 use protocol::Width;
 ghost use mathlib.Core.Path.{_≡_};
 ghost use Rattle.protocol.specs.Words.{value};
-ghost use Rattle.verdicts.specs.Lent.{lent};
+ghost use Rattle.verdicts.specs.Lent.{lent, lentAtEntry, lentAtExit};
 ghost use Rattle.answers.specs.Promises.{Opens, Receives, Proposes, Votes, Merges, IsHead, IsDeep, IsFast, Writes};
-ghost use Rattle.capi.specs.Structs.{settingsWith, settingsIn, clockIn, clockOut, numberIn, widthIn, answerOf, foundOf, writtenOf, Stands};
+ghost use Rattle.capi.specs.Structs.{nodeSettingsWith, nodeSettings, nodeClock, exportedClock, nodeNumber, nodeWidth, answerStruct, foundStruct, writtenStruct, Stands};
 
 // The names of the profiles. Every other number, 0 too, names none.
 const LOOM: u64 = 1;
@@ -49,7 +48,7 @@ pub struct Answer {
     pub value: Number,
     pub new_blocks: u64,
     pub new_votes: u64,
-    pub brought: u64,
+    pub viewed: u64,
     pub clock: Clock,
 }
 
@@ -65,14 +64,14 @@ pub struct Found {
 #[repr(C)]
 pub struct Written {
     pub refusal: u64,
-    pub length: u64,
+    pub bytes: u64,
 }
 
 // ---- from the exported structs to the node's, and back
 
 // The settings with these limits and so many nodes.
-fn settings_with(profile: Profile, nodes: u64, settings: Settings) -> protocol::Settings
-    ensures { λ r. ⌜ r ≡ settingsWith profile nodes settings ⌝ }
+fn node_settings_with(profile: Profile, nodes: u64, settings: Settings) -> protocol::Settings
+    ensures { λ r. ⌜ r ≡ nodeSettingsWith profile nodes settings ⌝ }
 {
     protocol::Settings {
         profile,
@@ -85,20 +84,20 @@ fn settings_with(profile: Profile, nodes: u64, settings: Settings) -> protocol::
 
 // A profile that is neither of the two is never taken for one: with no node the settings are out of range, so Open refuses by 1 and every other
 // call by 6.
-fn settings_in(settings: Settings) -> protocol::Settings
-    ensures { λ r. ⌜ r ≡ settingsIn settings ⌝ }
+fn node_settings(settings: Settings) -> protocol::Settings
+    ensures { λ r. ⌜ r ≡ nodeSettings settings ⌝ }
 {
     if settings.profile == LOOM {
-        return settings_with(Profile::Loom, settings.nodes, settings);
+        return node_settings_with(Profile::Loom, settings.nodes, settings);
     }
     if settings.profile == RACK {
-        return settings_with(Profile::Rack, settings.nodes, settings);
+        return node_settings_with(Profile::Rack, settings.nodes, settings);
     }
-    settings_with(Profile::Loom, 0, settings)
+    node_settings_with(Profile::Loom, 0, settings)
 }
 
-fn clock_in(clock: Clock) -> protocol::Clock
-    ensures { λ r. ⌜ r ≡ clockIn clock ⌝ }
+fn node_clock(clock: Clock) -> protocol::Clock
+    ensures { λ r. ⌜ r ≡ nodeClock clock ⌝ }
 {
     protocol::Clock {
         seen: clock.seen,
@@ -108,8 +107,8 @@ fn clock_in(clock: Clock) -> protocol::Clock
     }
 }
 
-fn clock_out(clock: protocol::Clock) -> Clock
-    ensures { λ r. ⌜ r ≡ clockOut clock ⌝ }
+fn exported_clock(clock: protocol::Clock) -> Clock
+    ensures { λ r. ⌜ r ≡ exportedClock clock ⌝ }
 {
     Clock {
         seen: clock.seen,
@@ -119,8 +118,8 @@ fn clock_out(clock: protocol::Clock) -> Clock
     }
 }
 
-fn number_in(number: Number) -> protocol::Number
-    ensures { λ r. ⌜ r ≡ numberIn number ⌝ }
+fn node_number(number: Number) -> protocol::Number
+    ensures { λ r. ⌜ r ≡ nodeNumber number ⌝ }
 {
     protocol::Number {
         lower: number.lower,
@@ -128,8 +127,8 @@ fn number_in(number: Number) -> protocol::Number
     }
 }
 
-fn width_in(wide: bool) -> Width
-    ensures { λ r. ⌜ r ≡ widthIn wide ⌝ }
+fn node_width(wide: bool) -> Width
+    ensures { λ r. ⌜ r ≡ nodeWidth wide ⌝ }
 {
     if wide {
         return Width::Wide;
@@ -137,29 +136,29 @@ fn width_in(wide: bool) -> Width
     Width::Narrow
 }
 
-fn answer_of(reply: Reply, clock: Clock) -> Answer
-    ensures { λ r. ⌜ r ≡ answerOf clock reply ⌝ }
+fn answer_struct(answer: answers::Answer, clock: Clock) -> Answer
+    ensures { λ r. ⌜ r ≡ answerStruct clock answer ⌝ }
 {
-    match reply {
-        Reply::Done => Answer {
+    match answer {
+        answers::Answer::Done => Answer {
             refusal: 0,
             index: 0,
             value: Number { lower: 0, upper: 0 },
             new_blocks: 0,
             new_votes: 0,
-            brought: 0,
+            viewed: 0,
             clock,
         },
-        Reply::Received(taken) => Answer {
+        answers::Answer::Received(taken) => Answer {
             refusal: 0,
             index: 0,
             value: Number { lower: 0, upper: 0 },
             new_blocks: taken.new_blocks,
             new_votes: taken.new_votes,
-            brought: taken.brought as u64,
+            viewed: taken.viewed as u64,
             clock,
         },
-        Reply::Block(number) => Answer {
+        answers::Answer::Block(number) => Answer {
             refusal: 0,
             index: 0,
             value: Number {
@@ -168,26 +167,26 @@ fn answer_of(reply: Reply, clock: Clock) -> Answer
             },
             new_blocks: 0,
             new_votes: 0,
-            brought: 0,
+            viewed: 0,
             clock,
         },
-        Reply::Refused(refusal) => Answer {
+        answers::Answer::Refused(refusal) => Answer {
             refusal: verdicts::number(refusal),
             index: verdicts::index(refusal) as u64,
             value: Number { lower: 0, upper: 0 },
             new_blocks: 0,
             new_votes: 0,
-            brought: 0,
+            viewed: 0,
             clock,
         },
     }
 }
 
-fn found_of(answer: answers::Answer) -> Found
-    ensures { λ r. ⌜ r ≡ foundOf answer ⌝ }
+fn found_struct(found: answers::Found) -> Found
+    ensures { λ r. ⌜ r ≡ foundStruct found ⌝ }
 {
-    match answer {
-        answers::Answer::Block(number) => Found {
+    match found {
+        answers::Found::Block(number) => Found {
             refusal: 0,
             found: 1,
             value: Number {
@@ -195,12 +194,12 @@ fn found_of(answer: answers::Answer) -> Found
                 upper: number.upper,
             },
         },
-        answers::Answer::Nothing => Found {
+        answers::Found::Nothing => Found {
             refusal: 0,
             found: 0,
             value: Number { lower: 0, upper: 0 },
         },
-        answers::Answer::Refused(refusal) => Found {
+        answers::Found::Refused(refusal) => Found {
             refusal: verdicts::number(refusal),
             found: 0,
             value: Number { lower: 0, upper: 0 },
@@ -208,14 +207,14 @@ fn found_of(answer: answers::Answer) -> Found
     }
 }
 
-fn written_of(written: answers::Written) -> Written
-    ensures { λ r. ⌜ r ≡ writtenOf written ⌝ }
+fn written_struct(written: answers::Written) -> Written
+    ensures { λ r. ⌜ r ≡ writtenStruct written ⌝ }
 {
     match written {
-        answers::Written::Length(length) => Written { refusal: 0, length },
+        answers::Written::Bytes(bytes) => Written { refusal: 0, bytes },
         answers::Written::Refused(refusal) => Written {
             refusal: verdicts::number(refusal),
-            length: 0,
+            bytes: 0,
         },
     }
 }
@@ -231,20 +230,20 @@ pub extern "C" fn likvost_open(
     votes: &mut [u64],
     votes_used: &mut usize,
 ) -> Answer
-    ensures { λ r. ⌜ Stands (Opens (settingsIn settings) (lent (now (blocks .entry)) (now (votes .entry)) (now («blocks_used» .entry)) (now («votes_used» .entry)) (clockIn clock))
-        (lent (now (blocks .exit)) (now (votes .exit)) (now («blocks_used» .exit)) (now («votes_used» .exit)) (clockIn (r .clock)))) (answerOf (r .clock)) r ⌝ }
+    ensures { λ r. ⌜ Stands (Opens (nodeSettings settings) (lentAtEntry blocks «blocks_used» votes «votes_used» (nodeClock clock))
+        (lentAtExit blocks «blocks_used» votes «votes_used» (nodeClock (r .clock)))) (answerStruct (r .clock)) r ⌝ }
 {
     let moved = node::open(
-        settings_in(settings),
-        clock_in(clock),
+        node_settings(settings),
+        node_clock(clock),
         blocks,
         blocks_used,
         votes,
         votes_used,
     );
     let after = moved.clock;
-    let reply = moved.reply;
-    answer_of(reply, clock_out(after))
+    let answer = moved.answer;
+    answer_struct(answer, exported_clock(after))
 }
 
 #[no_mangle]
@@ -258,12 +257,12 @@ pub extern "C" fn likvost_receive(
     beat: u64,
     packet: &[u8],
 ) -> Answer
-    ensures { λ r. ⌜ Stands (Receives (settingsIn settings) (lent (now (blocks .entry)) (now (votes .entry)) (now («blocks_used» .entry)) (now («votes_used» .entry)) (clockIn clock)) beat (now (packet .entry))
-        (lent (now (blocks .exit)) (now (votes .exit)) (now («blocks_used» .exit)) (now («votes_used» .exit)) (clockIn (r .clock)))) (answerOf (r .clock)) r ⌝ }
+    ensures { λ r. ⌜ Stands (Receives (nodeSettings settings) (lentAtEntry blocks «blocks_used» votes «votes_used» (nodeClock clock)) beat (now (packet .entry))
+        (lentAtExit blocks «blocks_used» votes «votes_used» (nodeClock (r .clock)))) (answerStruct (r .clock)) r ⌝ }
 {
     let moved = node::receive(
-        settings_in(settings),
-        clock_in(clock),
+        node_settings(settings),
+        node_clock(clock),
         blocks,
         blocks_used,
         votes,
@@ -272,8 +271,8 @@ pub extern "C" fn likvost_receive(
         packet,
     );
     let after = moved.clock;
-    let reply = moved.reply;
-    answer_of(reply, clock_out(after))
+    let answer = moved.answer;
+    answer_struct(answer, exported_clock(after))
 }
 
 #[no_mangle]
@@ -287,22 +286,22 @@ pub extern "C" fn likvost_propose(
     beat: u64,
     number: Number,
 ) -> Answer
-    ensures { λ r. ⌜ Stands (Proposes (settingsIn settings) (lent (now (blocks .entry)) (now (votes .entry)) (now («blocks_used» .entry)) (now («votes_used» .entry)) (clockIn clock)) beat (value (numberIn number))
-        (lent (now (blocks .exit)) (now (votes .exit)) (now («blocks_used» .exit)) (now («votes_used» .exit)) (clockIn (r .clock)))) (answerOf (r .clock)) r ⌝ }
+    ensures { λ r. ⌜ Stands (Proposes (nodeSettings settings) (lentAtEntry blocks «blocks_used» votes «votes_used» (nodeClock clock)) beat (value (nodeNumber number))
+        (lentAtExit blocks «blocks_used» votes «votes_used» (nodeClock (r .clock)))) (answerStruct (r .clock)) r ⌝ }
 {
     let moved = node::propose(
-        settings_in(settings),
-        clock_in(clock),
+        node_settings(settings),
+        node_clock(clock),
         blocks,
         blocks_used,
         votes,
         votes_used,
         beat,
-        number_in(number),
+        node_number(number),
     );
     let after = moved.clock;
-    let reply = moved.reply;
-    answer_of(reply, clock_out(after))
+    let answer = moved.answer;
+    answer_struct(answer, exported_clock(after))
 }
 
 #[no_mangle]
@@ -315,12 +314,12 @@ pub extern "C" fn likvost_vote(
     votes_used: &mut usize,
     beat: u64,
 ) -> Answer
-    ensures { λ r. ⌜ Stands (Votes (settingsIn settings) (lent (now (blocks .entry)) (now (votes .entry)) (now («blocks_used» .entry)) (now («votes_used» .entry)) (clockIn clock)) beat
-        (lent (now (blocks .exit)) (now (votes .exit)) (now («blocks_used» .exit)) (now («votes_used» .exit)) (clockIn (r .clock)))) (answerOf (r .clock)) r ⌝ }
+    ensures { λ r. ⌜ Stands (Votes (nodeSettings settings) (lentAtEntry blocks «blocks_used» votes «votes_used» (nodeClock clock)) beat
+        (lentAtExit blocks «blocks_used» votes «votes_used» (nodeClock (r .clock)))) (answerStruct (r .clock)) r ⌝ }
 {
     let moved = node::vote(
-        settings_in(settings),
-        clock_in(clock),
+        node_settings(settings),
+        node_clock(clock),
         blocks,
         blocks_used,
         votes,
@@ -328,8 +327,8 @@ pub extern "C" fn likvost_vote(
         beat,
     );
     let after = moved.clock;
-    let reply = moved.reply;
-    answer_of(reply, clock_out(after))
+    let answer = moved.answer;
+    answer_struct(answer, exported_clock(after))
 }
 
 #[no_mangle]
@@ -342,12 +341,12 @@ pub extern "C" fn likvost_merge(
     votes_used: &mut usize,
     beat: u64,
 ) -> Answer
-    ensures { λ r. ⌜ Stands (Merges (settingsIn settings) (lent (now (blocks .entry)) (now (votes .entry)) (now («blocks_used» .entry)) (now («votes_used» .entry)) (clockIn clock)) beat
-        (lent (now (blocks .exit)) (now (votes .exit)) (now («blocks_used» .exit)) (now («votes_used» .exit)) (clockIn (r .clock)))) (answerOf (r .clock)) r ⌝ }
+    ensures { λ r. ⌜ Stands (Merges (nodeSettings settings) (lentAtEntry blocks «blocks_used» votes «votes_used» (nodeClock clock)) beat
+        (lentAtExit blocks «blocks_used» votes «votes_used» (nodeClock (r .clock)))) (answerStruct (r .clock)) r ⌝ }
 {
     let moved = node::merge(
-        settings_in(settings),
-        clock_in(clock),
+        node_settings(settings),
+        node_clock(clock),
         blocks,
         blocks_used,
         votes,
@@ -355,8 +354,8 @@ pub extern "C" fn likvost_merge(
         beat,
     );
     let after = moved.clock;
-    let reply = moved.reply;
-    answer_of(reply, clock_out(after))
+    let answer = moved.answer;
+    answer_struct(answer, exported_clock(after))
 }
 
 // ---- Head, Deep and Fast: the memory is only read
@@ -371,18 +370,18 @@ pub extern "C" fn likvost_head(
     votes_used: usize,
     slot: u64,
 ) -> Found
-    ensures { λ r. ⌜ Stands (IsHead (settingsIn settings) (lent (now (blocks .entry)) (now (votes .entry)) «blocks_used» «votes_used» (clockIn clock)) slot) foundOf r ⌝ }
+    ensures { λ r. ⌜ Stands (IsHead (nodeSettings settings) (lent (now (blocks .entry)) (now (votes .entry)) «blocks_used» «votes_used» (nodeClock clock)) slot) foundStruct r ⌝ }
 {
-    let answer = queries::head(
-        settings_in(settings),
-        clock_in(clock),
+    let found = queries::head(
+        node_settings(settings),
+        node_clock(clock),
         blocks,
         blocks_used,
         votes,
         votes_used,
         slot,
     );
-    found_of(answer)
+    found_struct(found)
 }
 
 #[no_mangle]
@@ -395,18 +394,18 @@ pub extern "C" fn likvost_deep(
     votes_used: usize,
     slot: u64,
 ) -> Found
-    ensures { λ r. ⌜ Stands (IsDeep (settingsIn settings) (lent (now (blocks .entry)) (now (votes .entry)) «blocks_used» «votes_used» (clockIn clock)) slot) foundOf r ⌝ }
+    ensures { λ r. ⌜ Stands (IsDeep (nodeSettings settings) (lent (now (blocks .entry)) (now (votes .entry)) «blocks_used» «votes_used» (nodeClock clock)) slot) foundStruct r ⌝ }
 {
-    let answer = queries::deep(
-        settings_in(settings),
-        clock_in(clock),
+    let found = queries::deep(
+        node_settings(settings),
+        node_clock(clock),
         blocks,
         blocks_used,
         votes,
         votes_used,
         slot,
     );
-    found_of(answer)
+    found_struct(found)
 }
 
 #[no_mangle]
@@ -419,18 +418,18 @@ pub extern "C" fn likvost_fast(
     votes_used: usize,
     slot: u64,
 ) -> Found
-    ensures { λ r. ⌜ Stands (IsFast (settingsIn settings) (lent (now (blocks .entry)) (now (votes .entry)) «blocks_used» «votes_used» (clockIn clock)) slot) foundOf r ⌝ }
+    ensures { λ r. ⌜ Stands (IsFast (nodeSettings settings) (lent (now (blocks .entry)) (now (votes .entry)) «blocks_used» «votes_used» (nodeClock clock)) slot) foundStruct r ⌝ }
 {
-    let answer = queries::fast(
-        settings_in(settings),
-        clock_in(clock),
+    let found = queries::fast(
+        node_settings(settings),
+        node_clock(clock),
         blocks,
         blocks_used,
         votes,
         votes_used,
         slot,
     );
-    found_of(answer)
+    found_struct(found)
 }
 
 // ---- Write: the memory is only read, the buffer is written
@@ -447,18 +446,18 @@ pub extern "C" fn likvost_write(
     wide: bool,
     buffer: &mut [u8],
 ) -> Written
-    ensures { λ r. ⌜ Stands (Writes (settingsIn settings) (lent (now (blocks .entry)) (now (votes .entry)) «blocks_used» «votes_used» (clockIn clock)) proposal (widthIn wide) (now (buffer .entry)) (now (buffer .exit))) writtenOf r ⌝ }
+    ensures { λ r. ⌜ Stands (Writes (nodeSettings settings) (lent (now (blocks .entry)) (now (votes .entry)) «blocks_used» «votes_used» (nodeClock clock)) proposal (nodeWidth wide) (now (buffer .entry)) (now (buffer .exit))) writtenStruct r ⌝ }
 {
     let written = writing::write(
-        settings_in(settings),
-        clock_in(clock),
+        node_settings(settings),
+        node_clock(clock),
         blocks,
         blocks_used,
         votes,
         votes_used,
         proposal,
-        width_in(wide),
+        node_width(wide),
         buffer,
     );
-    written_of(written)
+    written_struct(written)
 }

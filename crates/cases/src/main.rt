@@ -2,7 +2,7 @@
 // Each line of the input is what is tried, a colon, a word and numbers; one without a colon is a heading. The word's first letter says what
 // to do; what stands between two numbers is free. A capital prepares what the node is lent and writes nothing:
 //   Settings: n, own index, E, K, 1 for a rack     Clock: seen, done, merged, proposed
-//   Blocks, Votes: the table's length in words, the word in all places that are not given, the rows used, the words of the rows:
+//   Blocks, Votes: the table's length in words, the word everywhere else, the rows used, the words of the rows:
 //     six of a block (its number, lower and upper half, its parent's, its slot, its mark), five of a vote (voter, slot, number, mark)
 // Any other makes a call on that, which stays as the call leaves it, and writes what is tried and what came out. After a refusal every
 // word is compared with what was lent:
@@ -14,8 +14,8 @@
 // In a call 1000 stands for 2^64: a block's number n is n % 1000 + 2^64 * (n / 1000). In a packet each half of it is below 256.
 use answers::Answer;
 use answers::Call;
+use answers::Found;
 use answers::Moved;
-use answers::Reply;
 use protocol::Clock;
 use protocol::Settings;
 use protocol::Width;
@@ -51,22 +51,23 @@ fn same(
     votes: &[u64],
 ) -> bool {
     let counts = held.blocks_used == next.blocks_used && held.votes_used == next.votes_used;
-    let tables = trials::same_words(old_blocks, blocks) && trials::same_words(old_votes, votes);
-    counts && tables && trials::same_clock(held.clock, next.clock)
+    let tables = case_runner::same_words(old_blocks, blocks)
+        && case_runner::same_words(old_votes, votes);
+    counts && tables && case_runner::same_clock(held.clock, next.clock)
 }
 
-fn show_held(held: Held, blocks: &[u64], votes: &[u64]) {
-    trials::show_clock(held.clock);
-    trials::text(b", blocks");
-    trials::show_blocks(blocks, held.blocks_used);
-    trials::text(b", votes");
-    trials::show_votes(votes, held.votes_used);
+fn print_held(held: Held, blocks: &[u64], votes: &[u64]) {
+    case_runner::print_clock(held.clock);
+    case_runner::text(b", blocks");
+    case_runner::print_blocks(blocks, held.blocks_used);
+    case_runner::text(b", votes");
+    case_runner::print_votes(votes, held.votes_used);
 }
 
 // The call by its first letter.
 fn call(letter: u8, words: &[u64]) -> Call {
     match letter {
-        b'p' => Call::Propose(trials::block_number(trials::at(words, 1))),
+        b'p' => Call::Propose(case_runner::block_number(case_runner::at(words, 1))),
         b'v' => Call::Vote,
         b'm' => Call::Merge,
         _ => Call::Receive,
@@ -86,7 +87,7 @@ fn moved(
 ) -> Moved {
     if letter == b'o' {
         return node::open(
-            trials::settings(words),
+            case_runner::settings(words),
             held.clock,
             blocks,
             blocks_used,
@@ -102,25 +103,25 @@ fn moved(
         votes,
         votes_used,
         call(letter, words),
-        trials::at(words, 0),
+        case_runner::at(words, 0),
         bytes,
     )
 }
 
-fn show_after(reply: Reply, letter: u8, same: bool, held: Held, blocks: &[u64], votes: &[u64]) {
-    trials::show_reply(reply);
-    if trials::refused(reply) {
-        trials::show_same(same);
+fn print_after(answer: Answer, letter: u8, same: bool, held: Held, blocks: &[u64], votes: &[u64]) {
+    case_runner::print_answer(answer);
+    if case_runner::refused(answer) {
+        case_runner::print_same(same);
         return;
     }
-    show_held(held, blocks, votes);
+    print_held(held, blocks, votes);
     if letter == b'o' {
-        trials::show_zeros(blocks, votes);
+        case_runner::print_zeros(blocks, votes);
     }
 }
 
-// Makes a call and shows what it left, given a copy of the tables.
-fn shown(
+// Makes a call and prints what it left, given a copy of the tables.
+fn printed(
     held: Held,
     letter: u8,
     words: &[u64],
@@ -144,8 +145,8 @@ fn shown(
     );
     let next = held_after(held, moved.clock, blocks_used, votes_used);
     let unchanged = same(held, next, old_blocks, old_votes, blocks, votes);
-    let reply = moved.reply;
-    show_after(reply, letter, unchanged, next, blocks, votes);
+    let answer = moved.answer;
+    print_after(answer, letter, unchanged, next, blocks, votes);
     next
 }
 
@@ -160,9 +161,9 @@ fn changed(
 ) -> Held {
     let mut old_blocks = [0u64; 12294];
     let mut old_votes = [0u64; 40965];
-    trials::copy(blocks, &mut old_blocks);
-    trials::copy(votes, &mut old_votes);
-    shown(
+    case_runner::copy(blocks, &mut old_blocks);
+    case_runner::copy(votes, &mut old_votes);
+    printed(
         held,
         letter,
         words,
@@ -176,15 +177,15 @@ fn changed(
 
 fn carried(held: Held, letter: u8, words: &[u64], blocks: &mut [u64], votes: &mut [u64]) -> Held {
     let mut bytes = [0u8; 4200];
-    let n = trials::length(letter, words, &mut bytes);
-    let end = trials::within_bytes(n, &bytes);
+    let n = case_runner::length(letter, words, &mut bytes);
+    let end = case_runner::within_bytes(n, &bytes);
     changed(held, letter, words, &bytes[..end], blocks, votes)
 }
 
 // ---- questions, and Write
 
 // The question by its first letter.
-fn answered(held: Held, blocks: &[u64], votes: &[u64], letter: u8, slot: u64) -> Answer {
+fn answered(held: Held, blocks: &[u64], votes: &[u64], letter: u8, slot: u64) -> Found {
     match letter {
         b'h' => queries::head(
             held.settings,
@@ -219,7 +220,7 @@ fn answered(held: Held, blocks: &[u64], votes: &[u64], letter: u8, slot: u64) ->
 // Each byte of the buffer is 238.
 fn written(held: Held, blocks: &[u64], votes: &[u64], proposal: bool, width: Width, length: usize) {
     let mut space = [238u8; 200];
-    let n = trials::within_bytes(length, &space);
+    let n = case_runner::within_bytes(length, &space);
     let answer = writing::write(
         held.settings,
         held.clock,
@@ -231,7 +232,7 @@ fn written(held: Held, blocks: &[u64], votes: &[u64], proposal: bool, width: Wid
         width,
         &mut space[..n],
     );
-    trials::show_written(answer, trials::touched(&space));
+    case_runner::print_written(answer, case_runner::touched(&space));
 }
 
 // ---- lines
@@ -241,20 +242,20 @@ fn prepared(held: Held, letter: u8, words: &[u64], blocks: &mut [u64], votes: &m
     let mut next = held;
     match letter {
         b'S' => {
-            next.settings = trials::settings(words);
+            next.settings = case_runner::settings(words);
         }
         b'C' => {
-            next.clock = trials::clock(words);
+            next.clock = case_runner::clock(words);
         }
         b'B' => {
-            trials::lay(blocks, words);
-            next.block_words = trials::size(words, 0);
-            next.blocks_used = trials::size(words, 2);
+            case_runner::lay(blocks, words);
+            next.block_words = case_runner::size(words, 0);
+            next.blocks_used = case_runner::size(words, 2);
         }
         _ => {
-            trials::lay(votes, words);
-            next.vote_words = trials::size(words, 0);
-            next.votes_used = trials::size(words, 2);
+            case_runner::lay(votes, words);
+            next.vote_words = case_runner::size(words, 0);
+            next.votes_used = case_runner::size(words, 2);
         }
     }
     next
@@ -268,14 +269,20 @@ fn called(held: Held, letter: u8, words: &[u64], blocks: &mut [u64], votes: &mut
                 held,
                 blocks,
                 votes,
-                trials::at(words, 0) == 1,
-                trials::width(trials::at(words, 1)),
-                trials::size(words, 2),
+                case_runner::at(words, 0) == 1,
+                case_runner::width(case_runner::at(words, 1)),
+                case_runner::size(words, 2),
             );
             held
         }
         b'h' | b'd' | b'f' => {
-            trials::show_answer(answered(held, blocks, votes, letter, trials::at(words, 0)));
+            case_runner::print_found(answered(
+                held,
+                blocks,
+                votes,
+                letter,
+                case_runner::at(words, 0),
+            ));
             held
         }
         _ => carried(held, letter, words, blocks, votes),
@@ -283,8 +290,8 @@ fn called(held: Held, letter: u8, words: &[u64], blocks: &mut [u64], votes: &mut
 }
 
 fn called_on(held: Held, letter: u8, words: &[u64], blocks: &mut [u64], votes: &mut [u64]) -> Held {
-    let n = trials::within(held.block_words, blocks);
-    let m = trials::within(held.vote_words, votes);
+    let n = case_runner::within(held.block_words, blocks);
+    let m = case_runner::within(held.vote_words, votes);
     called(held, letter, words, &mut blocks[..n], &mut votes[..m])
 }
 
@@ -303,23 +310,23 @@ fn acted(
     if letter < 97 {
         return prepared(held, letter, words, blocks, votes);
     }
-    trials::text(what);
-    trials::text(b": ");
+    case_runner::text(what);
+    case_runner::text(b": ");
     let next = called_on(held, letter, words, blocks, votes);
-    trials::text(b"\n");
+    case_runner::text(b"\n");
     next
 }
 
 fn line(held: Held, bytes: &[u8], blocks: &mut [u64], votes: &mut [u64]) -> Held {
-    let colon = trials::find(bytes, b':');
+    let colon = case_runner::find(bytes, b':');
     let rest = &bytes[colon..];
     let mut words = [0u64; 256];
-    let count = trials::read_numbers(rest, &mut words);
-    let n = trials::within(count, &words);
+    let count = case_runner::read_numbers(rest, &mut words);
+    let n = case_runner::within(count, &words);
     acted(
         held,
         &bytes[..colon],
-        trials::byte_at(rest, 2),
+        case_runner::byte_at(rest, 2),
         &words[..n],
         blocks,
         votes,
@@ -329,8 +336,8 @@ fn line(held: Held, bytes: &[u8], blocks: &mut [u64], votes: &mut [u64]) -> Held
 // Before the first line.
 fn nothing() -> Held {
     Held {
-        settings: trials::settings(&[0u64; 0]),
-        clock: trials::clock(&[0u64; 0]),
+        settings: case_runner::settings(&[0u64; 0]),
+        clock: case_runner::clock(&[0u64; 0]),
         block_words: 0,
         blocks_used: 0,
         vote_words: 0,
@@ -343,7 +350,7 @@ fn lines(bytes: &[u8], blocks: &mut [u64], votes: &mut [u64]) {
     let mut start = 0;
     while start < bytes.len() {
         let rest = &bytes[start..];
-        let n = trials::find(rest, 10);
+        let n = case_runner::find(rest, 10);
         held = line(held, &rest[..n], blocks, votes);
         start += n + 1;
     }

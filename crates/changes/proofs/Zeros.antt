@@ -8,13 +8,13 @@ use lib.ListN.{length, take, drop, set, replicate, take-append-drop, drop-of-len
 use borrow.Author.Fill.{fill-more}
 use Rattle.protocol.specs.Chain.{genesis}
 use Rattle.protocol.specs.Words.{lowerOf, upperOf}
-use Rattle.protocol.specs.Store.{visible, fresh}
+use Rattle.protocol.specs.Store.{inView, fresh}
 use Rattle.protocol.specs.Lent.{blockWords, wordsOf, blockRow}
 use Rattle.rows.specs.Rows.{putRow}
 
--- ---- a loop that fills with v from place a on
+-- ---- a loop that fills with v from word a on
 
--- up to place i
+-- up to word i
 abbrev pub filledTo : ℕ → ℕ → List ℕ → ℕ → List ℕ
 filledTo v a d i = take a d ++ (replicate (i - a) v ++ drop i d)
 
@@ -43,6 +43,6 @@ drop-zeros (suc k) zero = let e : 0 - suc k ≡ 0 = omega arith in rw e
 drop-zeros (suc k) (suc n) = let e : suc n - suc k ≡ n - k = omega arith in rw e (drop-zeros k n)
 
 -- block 0 put into zeros
-pub put-first : (n : ℕ) → putRow blockWords (replicate n 0) 0 (blockRow (visible genesis)) ≡ wordsOf blockRow (fresh .blocks) ++ replicate (n - blockWords) 0
+pub put-first : (n : ℕ) → putRow blockWords (replicate n 0) 0 (blockRow (inView genesis)) ≡ wordsOf blockRow (fresh .blocks) ++ replicate (n - blockWords) 0
 unfolding putRow wordsOf lowerOf upperOf
 put-first n = ap (λ (l : List ℕ). 0 ∷ 0 ∷ 0 ∷ 0 ∷ 0 ∷ 1 ∷ l) (drop-zeros 6 n)

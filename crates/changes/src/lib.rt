@@ -9,50 +9,50 @@ ghost use mathlib.Core.List.{_++_, _∷_, []};
 ghost use mathlib.Core.Path.{_≡_};
 ghost use Prim.Native.Nat.{_+_, _-_, _*_, _≤_};
 ghost use lib.ListN.{length, take, drop, replicate};
-ghost use Rattle.protocol.specs.Store.{showAll, rowsSince, fresh};
+ghost use Rattle.protocol.specs.Store.{viewAll, rowsSince, fresh};
 ghost use Rattle.protocol.specs.Words.{blockOf, voteOf};
 ghost use Rattle.protocol.specs.Lent.{BlocksFit, VotesFit, blockWords, rowsOf, wordsOf, stored, makeBlock, makeVote, blockRow, voteRow, marksSound, emptied};
 
 // One block more, at the end.
-pub fn append_block(blocks: &mut [u64], used: &mut usize, block: Block, shown: bool)
+pub fn append_block(blocks: &mut [u64], used: &mut usize, block: Block, viewed: bool)
     requires { ⌜ BlocksFit (now used + 1) (now blocks) × (marksSound makeBlock (now blocks) (now used) ≡ true) ⌝ }
-    ensures { λ r. ⌜ (now (blocks .exit) ≡ stored blockRow (rowsOf makeBlock (now (blocks .entry)) (now (used .entry)) ++ (record { entry = blockOf block; shown = shown } ∷ [])) (now (blocks .entry)))
+    ensures { λ r. ⌜ (now (blocks .exit) ≡ stored blockRow (rowsOf makeBlock (now (blocks .entry)) (now (used .entry)) ++ (record { entry = blockOf block; viewed = viewed } ∷ [])) (now (blocks .entry)))
         × (now (used .exit) ≡ now (used .entry) + 1) ⌝ }
 {
-    let place = *used;
+    let at = *used;
     rows::put_block(
         blocks,
-        place,
+        at,
         BlockRow {
             block: block,
-            shown: shown,
+            viewed: viewed,
         },
     );
-    *used = place + 1;
+    *used = at + 1;
 }
 
 // One vote more, at the end.
-pub fn append_vote(votes: &mut [u64], used: &mut usize, vote: Vote, shown: bool)
+pub fn append_vote(votes: &mut [u64], used: &mut usize, vote: Vote, viewed: bool)
     requires { ⌜ VotesFit (now used + 1) (now votes) × (marksSound makeVote (now votes) (now used) ≡ true) ⌝ }
-    ensures { λ r. ⌜ (now (votes .exit) ≡ stored voteRow (rowsOf makeVote (now (votes .entry)) (now (used .entry)) ++ (record { entry = voteOf vote; shown = shown } ∷ [])) (now (votes .entry)))
+    ensures { λ r. ⌜ (now (votes .exit) ≡ stored voteRow (rowsOf makeVote (now (votes .entry)) (now (used .entry)) ++ (record { entry = voteOf vote; viewed = viewed } ∷ [])) (now (votes .entry)))
         × (now (used .exit) ≡ now (used .entry) + 1) ⌝ }
 {
-    let place = *used;
+    let at = *used;
     rows::put_vote(
         votes,
-        place,
+        at,
         VoteRow {
             vote: vote,
-            shown: shown,
+            viewed: viewed,
         },
     );
-    *used = place + 1;
+    *used = at + 1;
 }
 
 // Every block comes into view.
-pub fn show_all_blocks(blocks: &mut [u64], used: usize)
+pub fn view_all_blocks(blocks: &mut [u64], used: usize)
     requires { ⌜ BlocksFit used (now blocks) ⌝ }
-    ensures { λ r. ⌜ now (blocks .exit) ≡ stored blockRow (showAll (rowsOf makeBlock (now (blocks .entry)) used)) (now (blocks .entry)) ⌝ }
+    ensures { λ r. ⌜ now (blocks .exit) ≡ stored blockRow (viewAll (rowsOf makeBlock (now (blocks .entry)) used)) (now (blocks .entry)) ⌝ }
 {
     let mut i: usize = 0;
     while i < used {
@@ -63,7 +63,7 @@ pub fn show_all_blocks(blocks: &mut [u64], used: usize)
             i,
             BlockRow {
                 block: block,
-                shown: true,
+                viewed: true,
             },
         );
         i += 1;
@@ -71,23 +71,23 @@ pub fn show_all_blocks(blocks: &mut [u64], used: usize)
 }
 
 // Every vote comes into view.
-pub fn show_all_votes(votes: &mut [u64], used: usize)
+pub fn view_all_votes(votes: &mut [u64], used: usize)
     requires { ⌜ VotesFit used (now votes) ⌝ }
-    ensures { λ r. ⌜ now (votes .exit) ≡ stored voteRow (showAll (rowsOf makeVote (now (votes .entry)) used)) (now (votes .entry)) ⌝ }
+    ensures { λ r. ⌜ now (votes .exit) ≡ stored voteRow (viewAll (rowsOf makeVote (now (votes .entry)) used)) (now (votes .entry)) ⌝ }
 {
-    let mut place: usize = 0;
-    while place < used {
-        let row = rows::vote_at(votes, place);
+    let mut at: usize = 0;
+    while at < used {
+        let row = rows::vote_at(votes, at);
         let vote = row.vote;
         rows::put_vote(
             votes,
-            place,
+            at,
             VoteRow {
                 vote: vote,
-                shown: true,
+                viewed: true,
             },
         );
-        place += 1;
+        at += 1;
     }
 }
 
@@ -106,7 +106,7 @@ fn zero(words: &mut [u64], first: usize, end: usize)
 // The votes of slot `from` and later come into view and move up to the front, in their order. The answer is how many these are.
 fn move_up(votes: &mut [u64], used: usize, from: u64) -> usize
     requires { ⌜ VotesFit used (now votes) ⌝ }
-    ensures { λ r. ⌜ (now (votes .exit) ≡ stored voteRow (showAll (rowsSince from (rowsOf makeVote (now (votes .entry)) used))) (now (votes .entry)))
+    ensures { λ r. ⌜ (now (votes .exit) ≡ stored voteRow (viewAll (rowsSince from (rowsOf makeVote (now (votes .entry)) used))) (now (votes .entry)))
         × (r ≡ length (rowsSince from (rowsOf makeVote (now (votes .entry)) used))) ⌝ }
 {
     let mut kept: usize = 0;
@@ -120,7 +120,7 @@ fn move_up(votes: &mut [u64], used: usize, from: u64) -> usize
                 kept,
                 VoteRow {
                     vote: vote,
-                    shown: true,
+                    viewed: true,
                 },
             );
             kept += 1;
@@ -134,7 +134,7 @@ fn move_up(votes: &mut [u64], used: usize, from: u64) -> usize
 // become free are set to zero. The cost is one pass over the rows.
 pub fn merge_votes(votes: &mut [u64], used: &mut usize, from: u64)
     requires { ⌜ VotesFit (now used) (now votes) ⌝ }
-    ensures { λ r. ⌜ (now (votes .exit) ≡ stored voteRow (showAll (rowsSince from (rowsOf makeVote (now (votes .entry)) (now (used .entry))))) (emptied (now (used .entry)) (now (votes .entry))))
+    ensures { λ r. ⌜ (now (votes .exit) ≡ stored voteRow (viewAll (rowsSince from (rowsOf makeVote (now (votes .entry)) (now (used .entry))))) (emptied (now (used .entry)) (now (votes .entry))))
         × (now (used .exit) ≡ length (rowsSince from (rowsOf makeVote (now (votes .entry)) (now (used .entry))))) ⌝ }
 {
     let before = *used;
@@ -161,7 +161,7 @@ pub fn clear(blocks: &mut [u64], votes: &mut [u64])
                 parent: zero_number,
                 slot: 0,
             },
-            shown: true,
+            viewed: true,
         },
     );
 }

@@ -1,2 +1,2 @@
--- The fast block by places. Assumes nothing.
+-- The fast block by rows. Assumes nothing.
 pub mod Top

@@ -1,4 +1,4 @@
--- The fast block's answer, and the last place with three quarters of the voters. Assumes nothing.
+-- The fast block's answer, and the last row with three quarters of the voters. Assumes nothing.
 use Prim.Native.Nat.{ℕ, zero, suc, _*_}
 use mathlib.Core.Bool.{_&&_, cond}
 use mathlib.Core.List.{List}
@@ -7,13 +7,13 @@ use Rattle.protocol.specs.Words.{value}
 use Rattle.protocol.specs.Filters.{Choice, chosen, nothing}
 use Rattle.protocol.specs.Lent.{makeBlock}
 use Rattle.rows.specs.Rows.{rowAt}
-use Rattle.subtrees.specs.Places.{blockAt}
-use Rattle.choice.specs.Weights.{weightAtPlace}
-use Rattle.confirm.specs.declared.Answer.{Answer}
-use Rattle.confirm.specs.declared.Answer.the-variants.{Chosen, Nothing}
+use Rattle.subtree_voters.specs.BlockRows.{blockAt}
+use Rattle.fork_choice.specs.Weights.{weightAtRow}
+use Rattle.confirm.specs.declared.Choice.{Choice as CodeChoice}
+use Rattle.confirm.specs.declared.Choice.the-variants.{Chosen, Nothing}
 
 -- the answer of code: a block's number, or none
-abbrev pub choiceIn : Answer → Choice
+abbrev pub choiceIn : CodeChoice → Choice
 choiceIn (Chosen x) = chosen (value x)
 choiceIn Nothing = nothing
 
@@ -21,4 +21,4 @@ choiceIn Nothing = nothing
 unfoldable pub topChoice : List ℕ → List ℕ → ℕ → ℕ → Choice
 topChoice ws masks n zero = nothing
 topChoice ws masks n (suc k) =
-    cond (rowAt makeBlock ws k .shown && leb (3 * n) (4 * weightAtPlace masks k)) (chosen (blockAt ws k .number)) (topChoice ws masks n k)
+    cond (rowAt makeBlock ws k .viewed && leb (3 * n) (4 * weightAtRow masks k)) (chosen (blockAt ws k .number)) (topChoice ws masks n k)

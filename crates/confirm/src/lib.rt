@@ -8,27 +8,27 @@ ghost use lib.Dec.{leb};
 ghost use lib.ListN.{length};
 ghost use Rattle.protocol.specs.Limits.{loom};
 ghost use Rattle.protocol.specs.Words.{value};
-ghost use Rattle.protocol.specs.Store.{inView};
+ghost use Rattle.protocol.specs.Store.{viewOf};
 ghost use Rattle.protocol.specs.Lent.{BlocksFit, rowsOf, makeBlock, makeVote};
-ghost use Rattle.protocol.specs.Walk.{count};
-ghost use Rattle.protocol.specs.Confirm.{deepFrom, deep, fast};
+ghost use Rattle.protocol.specs.Walk.{countBelow};
+ghost use Rattle.protocol.specs.Confirm.{deepFrom, deepBlock, fastBlock};
 ghost use Rattle.rows.specs.Rows.{rowAt};
 ghost use Rattle.masks.specs.Masks.{bitOf};
-ghost use Rattle.subtrees.specs.Places.{blockAt, blocksIn, BlocksSound, Parents};
-ghost use Rattle.choice.specs.Tables.{TablesSound};
+ghost use Rattle.subtree_voters.specs.BlockRows.{blockAt, blocksOf, BlocksSound, Parents};
+ghost use Rattle.fork_choice.specs.Tables.{TablesSound};
 ghost use Rattle.confirm.specs.Top.{choiceIn, topChoice};
 
 // A block's number, or none.
-pub enum Answer {
+pub enum Choice {
     Chosen(Number),
     Nothing,
 }
 
-// The number of the first block of a slot of at most m, from the block at a place down by the parents' places. One turn for each block on the way.
+// The number of the first block of a slot of at most m, from the block at a row down by the parents' rows. One turn for each block on the way.
 fn climb_down(blocks: &[u64], used: usize, parents: &[u16], from: usize, m: u64) -> Number
     requires { ⌜ BlocksFit used (now blocks) × (used ≤ length (now parents)) × BlocksSound (now blocks) used × Parents (now blocks) used (now parents)
-        × (from < used) × (rowAt makeBlock (now blocks) from .shown ≡ true) ⌝ }
-    ensures { λ r. ⌜ value r ≡ deepFrom (blocksIn false (now (blocks .entry)) used) m (blockAt (now (blocks .entry)) from .number) ⌝ }
+        × (from < used) × (rowAt makeBlock (now blocks) from .viewed ≡ true) ⌝ }
+    ensures { λ r. ⌜ value r ≡ deepFrom (blocksOf false (now (blocks .entry)) used) m (blockAt (now (blocks .entry)) from .number) ⌝ }
 {
     let mut i: usize = from;
     loop {
@@ -60,11 +60,11 @@ pub fn deep(
     t: u64,
 ) -> Number
     requires { ⌜ TablesSound settings (now blocks) «blocks_used» (now votes) «votes_used» × (t + 1 < 2 ^ 64) ⌝ }
-    ensures { λ r. ⌜ value r ≡ deep (inView (rowsOf makeBlock (now (blocks .entry)) «blocks_used»)) (inView (rowsOf makeVote (now (votes .entry)) «votes_used»))
+    ensures { λ r. ⌜ value r ≡ deepBlock (viewOf (rowsOf makeBlock (now (blocks .entry)) «blocks_used»)) (viewOf (rowsOf makeVote (now (votes .entry)) «votes_used»))
         (settings .nodes) (settings .expiry) (settings .depth) t ⌝ }
 {
     let mut parents = [0u16; limits::LOOM_BLOCKS];
-    let a = choice::heaviest_leaf(
+    let a = fork_choice::heaviest_leaf(
         settings,
         blocks,
         blocks_used,
@@ -87,13 +87,13 @@ pub fn deep(
 // Whether a set has three quarters of n voters.
 fn is_quorum(n: u64, mask: u64) -> bool
     requires { ⌜ n ≤ loom .nodes ⌝ }
-    ensures { λ r. ⌜ r ≡ leb (3 * n) (4 * count (bitOf mask) 64) ⌝ }
+    ensures { λ r. ⌜ r ≡ leb (3 * n) (4 * countBelow (bitOf mask) 64) ⌝ }
 {
     3 * n <= 4 * (masks::weight(mask) as u64)
 }
 
 // The last block in view with three quarters of n voters. The blocks with as many are on one chain, so it is the highest of them.
-fn top(blocks: &[u64], used: usize, masks: &[u64], n: u64) -> Answer
+fn top(blocks: &[u64], used: usize, masks: &[u64], n: u64) -> Choice
     requires { ⌜ BlocksFit used (now blocks) × (used ≤ length (now masks)) × (n ≤ loom .nodes) ⌝ }
     ensures { λ r. ⌜ choiceIn r ≡ topChoice (now (blocks .entry)) (now (masks .entry)) n used ⌝ }
 {
@@ -101,14 +101,14 @@ fn top(blocks: &[u64], used: usize, masks: &[u64], n: u64) -> Answer
     while 0 < i {
         i -= 1;
         let row = rows::block_at(blocks, i);
-        if row.shown {
+        if row.viewed {
             if is_quorum(n, masks[i]) {
                 let number = row.block.number;
-                return Answer::Chosen(number);
+                return Choice::Chosen(number);
             }
         }
     }
-    Answer::Nothing
+    Choice::Nothing
 }
 
 // The fast block of slot t, over the view: the weights are those of the votes of slot t.
@@ -120,14 +120,14 @@ pub fn fast(
     votes: &[u64],
     votes_used: usize,
     t: u64,
-) -> Answer
+) -> Choice
     requires { ⌜ TablesSound settings (now blocks) «blocks_used» (now votes) «votes_used» × (t + 1 < 2 ^ 64) ⌝ }
-    ensures { λ r. ⌜ choiceIn r ≡ fast (inView (rowsOf makeBlock (now (blocks .entry)) «blocks_used»)) (inView (rowsOf makeVote (now (votes .entry)) «votes_used»))
+    ensures { λ r. ⌜ choiceIn r ≡ fastBlock (viewOf (rowsOf makeBlock (now (blocks .entry)) «blocks_used»)) (viewOf (rowsOf makeVote (now (votes .entry)) «votes_used»))
         (settings .nodes) t ⌝ }
 {
     let mut parents = [0u16; limits::LOOM_BLOCKS];
     let mut masks = [0u64; limits::LOOM_BLOCKS];
-    choice::weigh(
+    fork_choice::weigh(
         settings,
         blocks,
         blocks_used,

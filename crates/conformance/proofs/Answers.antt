@@ -1,4 +1,4 @@
--- What an answer of the code puts in the log is what the call's own reply puts there in `resilience`; and replies with their values seen as
+-- What an answer of the code puts in the log is what the call's own answer puts there in `resilience`; and answers with their values seen as
 -- others. Assumes nothing.
 use Prim.Native.Nat.{ℕ}
 use mathlib.Core.Path.{_≡_, refl, ap, _∙_}
@@ -8,23 +8,23 @@ use native.Mathlib.Omega.{arith}
 use Rattle.protocol.specs.Refusal as rules
 use Rattle.protocol.specs.Calls.Write as writing
 use Rattle.protocol.specs.CallList.{refusedBy}
-use Rattle.answers.specs.Answers.{Value, nothingMore, received, block, replyOf, writtenOf, mapReply}
-use Rattle.answers.specs.declared.Reply.{Reply}
-use Rattle.answers.specs.declared.Reply.the-variants as reply
+use Rattle.answers.specs.Answers.{Value, nothingMore, received, block, answerOf, writtenOf, mapAnswer}
+use Rattle.answers.specs.declared.Answer.{Answer}
+use Rattle.answers.specs.declared.Answer.the-variants as answer
 use Rattle.answers.specs.declared.Written.{Written}
 use Rattle.answers.specs.declared.Written.the-variants as written
-use Rattle.resilience.specs.Run.{Event, carried, said, sends}
-use Rattle.conformance.specs.CodeRun.{logged, carriedOut, packetSent}
+use Rattle.resilience.specs.Run.{Event, carried, logged, sends}
+use Rattle.conformance.specs.CodeRun.{codeLogged, carriedOut, packetSent}
 
--- a reply that is done, with its value seen as another
-pub done-mapped : {A B : Type 0} (value : A → B) (o : rules.Reply A) (b : B) → mapReply value o ≡ rules.done b → (a : A) × (o ≡ rules.done a) × (b ≡ value a)
-unfolding mapReply
+-- an answer that is done, with its value seen as another
+pub done-mapped : {A B : Type 0} (value : A → B) (o : rules.Answer A) (b : B) → mapAnswer value o ≡ rules.done b → (a : A) × (o ≡ rules.done a) × (b ≡ value a)
+unfolding mapAnswer
 done-mapped value (rules.refused k) b e = let z : _≡_ {A = ℕ} 0 1 = cc in absurd (omega arith)
 done-mapped value (rules.done a) b e = (a, refl, cc)
 
 -- it is refused by the same numbers
-pub refused-mapped : {A B : Type 0} (value : A → B) (these : ℕ → Bool) (o : rules.Reply A) → refusedBy these (mapReply value o) ≡ refusedBy these o
-unfolding refusedBy mapReply
+pub refused-mapped : {A B : Type 0} (value : A → B) (these : ℕ → Bool) (o : rules.Answer A) → refusedBy these (mapAnswer value o) ≡ refusedBy these o
+unfolding refusedBy mapAnswer
 refused-mapped value these (rules.refused k) = refl
 refused-mapped value these (rules.done a) = refl
 
@@ -34,42 +34,42 @@ ofBlock f (block x) = f x
 ofBlock f nothingMore = []
 ofBlock f (received t) = []
 
-logged-said : (want : Event) (f : ℕ → List Event) (r : Reply) → logged want f r ≡ said want (ofBlock f) (replyOf r)
-logged-said want f (reply.Block x) = refl
-logged-said want f reply.Done = refl
-logged-said want f (reply.Received t) = refl
-logged-said want f (reply.Refused e) = refl
+logged-said : (want : Event) (f : ℕ → List Event) (r : Answer) → codeLogged want f r ≡ logged want (ofBlock f) (answerOf r)
+logged-said want f (answer.Block x) = refl
+logged-said want f answer.Done = refl
+logged-said want f (answer.Received t) = refl
+logged-said want f (answer.Refused e) = refl
 
-carried-same : (r : Reply) → carriedOut r ≡ carried (replyOf r)
-carried-same (reply.Block x) = refl
-carried-same reply.Done = refl
-carried-same (reply.Received t) = refl
-carried-same (reply.Refused e) = refl
+carried-same : (r : Answer) → carriedOut r ≡ carried (answerOf r)
+carried-same (answer.Block x) = refl
+carried-same answer.Done = refl
+carried-same (answer.Received t) = refl
+carried-same (answer.Refused e) = refl
 
 module _ {A : Type 0} (value : A → Value) where
-  said-mapped : (want : Event) (g : Value → List Event) (o : rules.Reply A) → said want g (mapReply value o) ≡ said want (λ a. g (value a)) o
-  unfolding mapReply
+  said-mapped : (want : Event) (g : Value → List Event) (o : rules.Answer A) → logged want g (mapAnswer value o) ≡ logged want (λ a. g (value a)) o
+  unfolding mapAnswer
   said-mapped want g (rules.refused k) = refl
   said-mapped want g (rules.done a) = refl
 
-  carried-mapped : (o : rules.Reply A) → carried (mapReply value o) ≡ carried o
-  unfolding mapReply
+  carried-mapped : (o : rules.Answer A) → carried (mapAnswer value o) ≡ carried o
+  unfolding mapAnswer
   carried-mapped (rules.refused k) = refl
   carried-mapped (rules.done a) = refl
 
-  -- the code answers r for a reply o
-  module _ (r : Reply) (o : rules.Reply A) (e : replyOf r ≡ mapReply value o) where
-    pub same-events : (want : Event) (f : ℕ → List Event) → logged want f r ≡ said want (λ a. ofBlock f (value a)) o
-    same-events want f = logged-said want f r ∙ ap (said want (ofBlock f)) e ∙ said-mapped want (ofBlock f) o
+  -- the code answers r where the call answers o
+  module _ (r : Answer) (o : rules.Answer A) (e : answerOf r ≡ mapAnswer value o) where
+    pub same-events : (want : Event) (f : ℕ → List Event) → codeLogged want f r ≡ logged want (λ a. ofBlock f (value a)) o
+    same-events want f = logged-said want f r ∙ ap (logged want (ofBlock f)) e ∙ said-mapped want (ofBlock f) o
 
     pub same-carried : carriedOut r ≡ carried o
     same-carried = carried-same r ∙ ap carried e ∙ carried-mapped o
 
-packet-said : (beat i : ℕ) (buffer : List ℕ) (r : Written) → packetSent beat i buffer r ≡ sends beat i (record { reply = writtenOf r; buffer = buffer })
-packet-said beat i buffer (written.Length n) = refl
+packet-said : (beat i : ℕ) (buffer : List ℕ) (r : Written) → packetSent beat i buffer r ≡ sends beat i (record { answer = writtenOf r; buffer = buffer })
+packet-said beat i buffer (written.Bytes n) = refl
 packet-said beat i buffer (written.Refused e) = refl
 
 -- the code answers r and leaves this buffer, where Write's own are o
-pub same-packet : (beat i : ℕ) (buffer : List ℕ) (r : Written) (o : writing.Written) → buffer ≡ o .buffer → writtenOf r ≡ o .reply
+pub same-packet : (beat i : ℕ) (buffer : List ℕ) (r : Written) (o : writing.Written) → buffer ≡ o .buffer → writtenOf r ≡ o .answer
     → packetSent beat i buffer r ≡ sends beat i o
-same-packet beat i buffer r o p q = packet-said beat i buffer r ∙ (λ k. sends beat i (record { reply = q k; buffer = p k }))
+same-packet beat i buffer r o p q = packet-said beat i buffer r ∙ (λ k. sends beat i (record { answer = q k; buffer = p k }))

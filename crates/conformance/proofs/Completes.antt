@@ -8,9 +8,9 @@ use lib.Dec.{eqb, T}
 use borrow.Author.Tests.{eqb-true, eqb-false}
 use Rattle.protocol.specs.declared.Width.the-variants.{Wide}
 use Rattle.protocol.specs.Lent.{Lent, openLent}
-use Rattle.protocol.proofs.Lent.Open.{open-lent-reply}
-use Rattle.answers.specs.Answers.{nothingMore, mapReply}
-use Rattle.answers.specs.declared.Reply.the-variants as reply
+use Rattle.protocol.proofs.Lent.Open.{open-lent-answer}
+use Rattle.answers.specs.Answers.{nothingMore, mapAnswer}
+use Rattle.answers.specs.declared.Answer.the-variants as answer
 use Rattle.answers.specs.Promises.{Opens}
 use Rattle.resilience.specs.Run as model
 use Rattle.resilience.specs.Run.{Step, Begin, Due, Gossip, Proposal, Receive, World, Run, settings, isHonest, allowed, step}
@@ -58,11 +58,11 @@ module _ (D : Deployment) (O : Opened (network D)) where
   memory : ℕ → Lent
   memory i = openLent (settings (network D) i) (D .lent i) .lent
 
-  opens : (i : ℕ) → T (isHonest (network D) i) → Opens (settings (network D) i) (D .lent i) (memory i) reply.Done
-  unfolding memory Opened mapReply
+  opens : (i : ℕ) → T (isHonest (network D) i) → Opens (settings (network D) i) (D .lent i) (memory i) answer.Done
+  unfolding memory Opened mapAnswer
   opens i h = record {
     memory = refl;
-    reply = sym (ap (mapReply (λ t. nothingMore)) (open-lent-reply (settings (network D) i) (D .lent i) ∙ O i h));
+    answer = sym (ap (mapAnswer (λ t. nothingMore)) (open-lent-answer (settings (network D) i) (D .lent i) ∙ O i h));
   }
 
   completed : (v : World) → Run (network D) v → (w : State) × CodeRun D w × (decoded D w ≡ v)

@@ -5,7 +5,7 @@ use mathlib.Core.Bool.{Bool, true, false, cond}
 use mathlib.Core.List.{[]}
 use lib.Dec.{T}
 use Rattle.protocol.specs.Lent.{Lent, nodeOf}
-use Rattle.answers.specs.declared.Reply.the-variants as reply
+use Rattle.answers.specs.declared.Answer.the-variants as answer
 use Rattle.answers.specs.Promises.{Opens}
 use Rattle.resilience.specs.Run as model
 use Rattle.resilience.specs.Run.{World, Run, Onward, settings, isHonest}
@@ -33,7 +33,7 @@ pub record Conforming (D : Deployment) (w : State) : Type 0 where
 -- ---- the start
 
 module _ (D : Deployment) (memory : ℕ → Lent)
-    (O : (i : ℕ) → T (isHonest (network D) i) → Opens (settings (network D) i) (D .lent i) (memory i) reply.Done) where
+    (O : (i : ℕ) → T (isHonest (network D) i) → Opens (settings (network D) i) (D .lent i) (memory i) answer.Done) where
   -- an honest node is as Open leaves it
   starts : (i : ℕ) (b : Bool) → isHonest (network D) i ≡ b
       → cond b (nodeOf (memory i)) (model.start (network D) .node i) ≡ model.start (network D) .node i

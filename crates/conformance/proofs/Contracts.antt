@@ -10,9 +10,9 @@ use denote.Ref.{RefT, now}
 use Rattle.protocol.specs.declared.Clock.{Clock}
 use Rattle.protocol.specs.Words.{value}
 use Rattle.protocol.specs.Lent.{Lent}
-use Rattle.verdicts.specs.Lent.{lent}
+use Rattle.verdicts.specs.Lent.{lent, behind}
 use Rattle.answers.specs.Promises.{Opens, Receives, Proposes, Votes, Merges, Carries, IsHead, IsDeep, IsFast, Writes}
-use Rattle.capi.specs.Structs.{settingsIn, clockIn, numberIn, widthIn, answerOf, foundOf, writtenOf, Stands}
+use Rattle.capi.specs.Structs.{nodeSettings, nodeClock, nodeNumber, nodeWidth, answerStruct, foundStruct, writtenStruct, Stands}
 use Rattle.node.proofs.«open».Reads as opening
 use Rattle.node.proofs.receive.Reads as receiving
 use Rattle.node.proofs.propose.Reads as proposing
@@ -54,36 +54,32 @@ asks-nothing-in-c = (refl, refl, refl, refl, refl, refl, refl, refl, refl)
 -- The arguments are the settings, the clock, the blocks and how many rows of them are used, the votes and how many rows of them are used, and then
 -- the call's own. Then comes the answer, and the arguments at the end of the call.
 
--- the memory that these references lend, with this clock
-abbrev behind : RefT (List ℕ) → RefT ℕ → RefT (List ℕ) → RefT ℕ → Clock → Lent
-behind bs m vs n c = lent (now bs) (now vs) (now m) (now n) c
-
--- the same, where the counts are no references: the memory is only read
+-- the memory behind these references where the counts are none: it is only read
 abbrev within : RefT (List ℕ) → ℕ → RefT (List ℕ) → ℕ → Clock → Lent
 within bs m vs n c = lent (now bs) (now vs) m n c
 
 pub open-told : opening.Learnt ≡ (λ κs (s, (c, (bs, (m, (vs, (n, _)))))) r (_, (_, (bs′, (m′, (vs′, (n′, _)))))).
-    Opens s (behind bs m vs n c) (behind bs′ m′ vs′ n′ (r .clock)) (r .reply))
+    Opens s (behind bs m vs n c) (behind bs′ m′ vs′ n′ (r .clock)) (r .answer))
 open-told = refl
 
 pub receive-told : receiving.Learnt ≡ (λ κs (s, (c, (bs, (m, (vs, (n, (beat, (bytes, _)))))))) r (_, (_, (bs′, (m′, (vs′, (n′, _)))))).
-    Receives s (behind bs m vs n c) beat (now bytes) (behind bs′ m′ vs′ n′ (r .clock)) (r .reply))
+    Receives s (behind bs m vs n c) beat (now bytes) (behind bs′ m′ vs′ n′ (r .clock)) (r .answer))
 receive-told = refl
 
 pub propose-told : proposing.Learnt ≡ (λ κs (s, (c, (bs, (m, (vs, (n, (beat, (number, _)))))))) r (_, (_, (bs′, (m′, (vs′, (n′, _)))))).
-    Proposes s (behind bs m vs n c) beat (value number) (behind bs′ m′ vs′ n′ (r .clock)) (r .reply))
+    Proposes s (behind bs m vs n c) beat (value number) (behind bs′ m′ vs′ n′ (r .clock)) (r .answer))
 propose-told = refl
 
 pub vote-told : voting.Learnt ≡ (λ κs (s, (c, (bs, (m, (vs, (n, (beat, _))))))) r (_, (_, (bs′, (m′, (vs′, (n′, _)))))).
-    Votes s (behind bs m vs n c) beat (behind bs′ m′ vs′ n′ (r .clock)) (r .reply))
+    Votes s (behind bs m vs n c) beat (behind bs′ m′ vs′ n′ (r .clock)) (r .answer))
 vote-told = refl
 
 pub merge-told : merging.Learnt ≡ (λ κs (s, (c, (bs, (m, (vs, (n, (beat, _))))))) r (_, (_, (bs′, (m′, (vs′, (n′, _)))))).
-    Merges s (behind bs m vs n c) beat (behind bs′ m′ vs′ n′ (r .clock)) (r .reply))
+    Merges s (behind bs m vs n c) beat (behind bs′ m′ vs′ n′ (r .clock)) (r .answer))
 merge-told = refl
 
 pub step-told : stepping.Learnt ≡ (λ κs (s, (c, (bs, (m, (vs, (n, (call, (beat, (bytes, _))))))))) r (_, (_, (bs′, (m′, (vs′, (n′, _)))))).
-    Carries s (behind bs m vs n c) call beat (now bytes) (behind bs′ m′ vs′ n′ (r .clock)) (r .reply))
+    Carries s (behind bs m vs n c) call beat (now bytes) (behind bs′ m′ vs′ n′ (r .clock)) (r .answer))
 step-told = refl
 
 -- The clock is lent too, and moved on in place. A function that is lent a struct has no `Asked` and `Learnt`, so this is its contract itself, in every model of
@@ -116,38 +112,38 @@ write-told = refl
 -- after the call is the one in the returned struct.
 
 pub open-told-in-c : opening-in-c.Learnt ≡ (λ κs (s, (c, (bs, (m, (vs, (n, _)))))) r (_, (_, (bs′, (m′, (vs′, (n′, _)))))).
-    Stands (Opens (settingsIn s) (behind bs m vs n (clockIn c)) (behind bs′ m′ vs′ n′ (clockIn (r .clock)))) (answerOf (r .clock)) r)
+    Stands (Opens (nodeSettings s) (behind bs m vs n (nodeClock c)) (behind bs′ m′ vs′ n′ (nodeClock (r .clock)))) (answerStruct (r .clock)) r)
 open-told-in-c = refl
 
 pub receive-told-in-c : receiving-in-c.Learnt ≡ (λ κs (s, (c, (bs, (m, (vs, (n, (beat, (bytes, _)))))))) r (_, (_, (bs′, (m′, (vs′, (n′, _)))))).
-    Stands (Receives (settingsIn s) (behind bs m vs n (clockIn c)) beat (now bytes) (behind bs′ m′ vs′ n′ (clockIn (r .clock)))) (answerOf (r .clock)) r)
+    Stands (Receives (nodeSettings s) (behind bs m vs n (nodeClock c)) beat (now bytes) (behind bs′ m′ vs′ n′ (nodeClock (r .clock)))) (answerStruct (r .clock)) r)
 receive-told-in-c = refl
 
 pub propose-told-in-c : proposing-in-c.Learnt ≡ (λ κs (s, (c, (bs, (m, (vs, (n, (beat, (number, _)))))))) r (_, (_, (bs′, (m′, (vs′, (n′, _)))))).
-    Stands (Proposes (settingsIn s) (behind bs m vs n (clockIn c)) beat (value (numberIn number)) (behind bs′ m′ vs′ n′ (clockIn (r .clock))))
-    (answerOf (r .clock)) r)
+    Stands (Proposes (nodeSettings s) (behind bs m vs n (nodeClock c)) beat (value (nodeNumber number)) (behind bs′ m′ vs′ n′ (nodeClock (r .clock))))
+    (answerStruct (r .clock)) r)
 propose-told-in-c = refl
 
 pub vote-told-in-c : voting-in-c.Learnt ≡ (λ κs (s, (c, (bs, (m, (vs, (n, (beat, _))))))) r (_, (_, (bs′, (m′, (vs′, (n′, _)))))).
-    Stands (Votes (settingsIn s) (behind bs m vs n (clockIn c)) beat (behind bs′ m′ vs′ n′ (clockIn (r .clock)))) (answerOf (r .clock)) r)
+    Stands (Votes (nodeSettings s) (behind bs m vs n (nodeClock c)) beat (behind bs′ m′ vs′ n′ (nodeClock (r .clock)))) (answerStruct (r .clock)) r)
 vote-told-in-c = refl
 
 pub merge-told-in-c : merging-in-c.Learnt ≡ (λ κs (s, (c, (bs, (m, (vs, (n, (beat, _))))))) r (_, (_, (bs′, (m′, (vs′, (n′, _)))))).
-    Stands (Merges (settingsIn s) (behind bs m vs n (clockIn c)) beat (behind bs′ m′ vs′ n′ (clockIn (r .clock)))) (answerOf (r .clock)) r)
+    Stands (Merges (nodeSettings s) (behind bs m vs n (nodeClock c)) beat (behind bs′ m′ vs′ n′ (nodeClock (r .clock)))) (answerStruct (r .clock)) r)
 merge-told-in-c = refl
 
 pub head-told-in-c : asking-head-in-c.Learnt ≡ (λ κs (s, (c, (bs, (m, (vs, (n, (slot, _))))))) r _.
-    Stands (IsHead (settingsIn s) (within bs m vs n (clockIn c)) slot) foundOf r)
+    Stands (IsHead (nodeSettings s) (within bs m vs n (nodeClock c)) slot) foundStruct r)
 head-told-in-c = refl
 
 pub deep-told-in-c : asking-deep-in-c.Learnt ≡ (λ κs (s, (c, (bs, (m, (vs, (n, (slot, _))))))) r _.
-    Stands (IsDeep (settingsIn s) (within bs m vs n (clockIn c)) slot) foundOf r)
+    Stands (IsDeep (nodeSettings s) (within bs m vs n (nodeClock c)) slot) foundStruct r)
 deep-told-in-c = refl
 
 pub fast-told-in-c : asking-fast-in-c.Learnt ≡ (λ κs (s, (c, (bs, (m, (vs, (n, (slot, _))))))) r _.
-    Stands (IsFast (settingsIn s) (within bs m vs n (clockIn c)) slot) foundOf r)
+    Stands (IsFast (nodeSettings s) (within bs m vs n (nodeClock c)) slot) foundStruct r)
 fast-told-in-c = refl
 
 pub write-told-in-c : writing-in-c.Learnt ≡ (λ κs (s, (c, (bs, (m, (vs, (n, (proposal, (wide, (buffer, _))))))))) r (_, (_, (_, (_, (_, (_, (_, (_, (buffer′, _))))))))).
-    Stands (Writes (settingsIn s) (within bs m vs n (clockIn c)) proposal (widthIn wide) (now buffer) (now buffer′)) writtenOf r)
+    Stands (Writes (nodeSettings s) (within bs m vs n (nodeClock c)) proposal (nodeWidth wide) (now buffer) (now buffer′)) writtenStruct r)
 write-told-in-c = refl

@@ -11,11 +11,10 @@ use Rattle.protocol.specs.Calls.Vote.{vote}
 use Rattle.protocol.specs.Calls.Query.{deepOf, deepQuery}
 use Rattle.protocol.specs.Lent.{askLent}
 use Rattle.protocol.proofs.Lent.Calls.{vote-lawful}
-use Rattle.answers.specs.Answers.{block, answerOf, mapReply}
-use Rattle.answers.specs.declared.Reply.the-variants as reply
-use Rattle.answers.specs.declared.Answer.{Answer}
+use Rattle.answers.specs.Answers.{block, foundOf, mapAnswer}
 use Rattle.answers.specs.declared.Answer.the-variants as answer
-use Rattle.resilience.specs.Run as model
+use Rattle.answers.specs.declared.Found.{Found}
+use Rattle.answers.specs.declared.Found.the-variants as found
 use Rattle.resilience.specs.Run.{settings, isHonest, Due}
 use Rattle.resilience.specs.Resilience.{Opened}
 use Rattle.resilience.specs.DeepAgreement.{HonestBlock, Agreed, JustVoted, DeepAfterVote, DeepAnswered, DeepWhileJoined}
@@ -51,14 +50,14 @@ module _ (D : Deployment) (i a : ℕ) (u : State) (A : CodeJustVoted D i a u) wh
   F : Follows D (A .before) (Due i (A .number)) u
   F =
       subst (λ (o : State). Follows D (A .before) (Due i (A .number)) o) (sym (A .left))
-      (follows D (A .before) (C .healthy) (Due i (A .number)) _ (is-true _ (A .due)) (votes i (A .number) (A .memory) (reply.Block (A .block)) phase (A .vote)))
+      (follows D (A .before) (C .healthy) (Due i (A .number)) _ (is-true _ (A .due)) (votes i (A .number) (A .memory) (answer.Block (A .block)) phase (A .vote)))
 
-  replied : vote (settings (network D) i) (network D .places i) (decoded D (A .before) .node i) (A .before .beat) .reply ≡ done (value (A .block))
+  replied : vote (settings (network D) i) (network D .places i) (decoded D (A .before) .node i) (A .before .beat) .answer ≡ done (value (A .block))
   replied =
       let s = settings (network D) i in
       let K = called s (network D .places i) (decoded D (A .before) .node i) (A .before .memory i) (C .healthy i honest)
-      (holds D (A .before) (C .healthy) i honest) block (λ p x. vote s p x (A .before .beat)) (vote-lawful s (A .before .beat)) (A .memory) (reply.Block (A .block)) (A .vote) in
-      let r = done-mapped block _ (block (value (A .block))) (sym (K .reply)) in
+      (holds D (A .before) (C .healthy) i honest) block (λ p x. vote s p x (A .before .beat)) (vote-lawful s (A .before .beat)) (A .memory) (answer.Block (A .block)) (A .vote) in
+      let r = done-mapped block _ (block (value (A .block))) (sym (K .answer)) in
       let e : r .0 ≡ value (A .block) = cc in
       r .1 ∙ ap done e
 
@@ -70,7 +69,7 @@ module _ (D : Deployment) (i a : ℕ) (u : State) (A : CodeJustVoted D i a u) wh
     due = A .due;
     beat = A .beat;
     value = value (A .block);
-    reply = replied;
+    answer = replied;
     left = sym (F .world);
   }
 
@@ -81,16 +80,16 @@ module _ (D : Deployment) (i a : ℕ) (u : State) (A : CodeJustVoted D i a u) wh
 
 -- ---- the claims
 
-answers-block : (r : Answer) (d : ℕ) → answerOf r ≡ done (chosen d) → (e : Number) × (r ≡ answer.Block e)
-answers-block (answer.Block b) d e = (b, λ i. answer.Block b)
-answers-block answer.Nothing d e = let z : _≡_ {A = ℕ} 0 1 = cc in absurd (omega arith)
-answers-block (answer.Refused k) d e = let z : _≡_ {A = ℕ} 0 1 = cc in absurd (omega arith)
+answers-block : (r : Found) (d : ℕ) → foundOf r ≡ done (chosen d) → (e : Number) × (r ≡ found.Block e)
+answers-block (found.Block b) d e = (b, λ i. found.Block b)
+answers-block found.Nothing d e = let z : _≡_ {A = ℕ} 0 1 = cc in absurd (omega arith)
+answers-block (found.Refused k) d e = let z : _≡_ {A = ℕ} 0 1 = cc in absurd (omega arith)
 
 pub code-deep-answered : CodeDeepAnswered
-unfolding CodeDeepAnswered DeepAnswered mapReply
+unfolding CodeDeepAnswered DeepAnswered mapAnswer
 code-deep-answered D i a u A r P =
     answers-block r (deepOf (settings (network D) i) (decoded D u .node i) a)
-    (P ∙ ap (mapReply chosen) (deep-asked D i a u A ∙ deep-answered (network D) i a (decoded D u) (just-voted D i a u A)))
+    (P ∙ ap (mapAnswer chosen) (deep-asked D i a u A ∙ deep-answered (network D) i a (decoded D u) (just-voted D i a u A)))
 
 decoded-deep : (D : Deployment) (w : State) (i a d : ℕ) → CodeDeepAfterVote D w i a d → DeepAfterVote (network D) (decoded D w) i a d
 decoded-deep D w i a d H =

@@ -1,5 +1,5 @@
 -- An old stock comes back narrow, said of the code. Assumes nothing.
-use mathlib.Core.Path.{_≡_, refl, sym, ap, _∙_}
+use mathlib.Core.Path.{refl, sym, ap, _∙_}
 use mathlib.Core.Bool.{false}
 use native.Mathlib.Omega.{arith}
 use Rattle.protocol.specs.declared.Width.the-variants.{Narrow, Wide}
@@ -20,8 +20,8 @@ code-old-stock-comes-back s m N old new n W s' before m' O same rb rv short y r 
     (omega (arith, rv, length-rowsOf makeVote (m .votes) (m .votesUsed))) short buffer room in
     let f = wrote s' (placesOf before) (taken s m Wide old new n W s' before m' O .node) y (C .healthy) (sym (C .node)) false Narrow buffer ∙ back .0 in
     let g = wrote s (placesOf m) (nodeOf m) m (sender-healthy s m Wide old new n W) refl false Narrow buffer ∙ back .1 in (
-      X .length ∙ ap (λ q. q .reply) f,
+      X .answer ∙ ap (λ q. q .answer) f,
       X .buffer ∙ ap (λ q. q .buffer) f,
-      Y .length ∙ ap (λ q. q .reply) g,
+      Y .answer ∙ ap (λ q. q .answer) g,
       Y .buffer ∙ ap (λ q. q .buffer) g,
     )

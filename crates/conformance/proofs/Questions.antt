@@ -3,7 +3,7 @@ use Prim.Native.Nat.{ℕ}
 use mathlib.Core.Path.{_≡_, sym, ap, _∙_}
 use mathlib.Core.Bool.{true, cond}
 use Rattle.protocol.specs.Store.{Places, Node}
-use Rattle.protocol.specs.Refusal.{Reply}
+use Rattle.protocol.specs.Refusal.{Answer}
 use Rattle.protocol.specs.Lent.{nodeOf, askLent}
 use Rattle.protocol.proofs.Lent.Calls.{ask-lent}
 use Rattle.resilience.specs.Run as model
@@ -18,5 +18,5 @@ module _ (D : Deployment) (u : State) (H : AllHealthy D u) (i : ℕ) (h : isHone
   pub holds : decoded D u .node i ≡ nodeOf (u .memory i)
   holds = ap (λ b. cond b (nodeOf (u .memory i)) (model.start N .node i)) h
 
-  pub asked : {A : Type 0} (ask : Places → Node → Reply A) → askLent (settings N i) ask (u .memory i) ≡ ask (N .places i) (decoded D u .node i)
+  pub asked : {A : Type 0} (ask : Places → Node → Answer A) → askLent (settings N i) ask (u .memory i) ≡ ask (N .places i) (decoded D u .node i)
   asked ask = ask-lent (settings N i) ask (u .memory i) (H i h .sound) ∙ (λ k. ask (H i h .places k) (sym holds k))

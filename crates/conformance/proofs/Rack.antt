@@ -8,7 +8,7 @@ use Rattle.protocol.specs.declared.Width.{Width}
 use Rattle.protocol.specs.Filters.{chosen}
 use Rattle.protocol.specs.Store.{Places, Node}
 use Rattle.protocol.specs.Sound.{sound}
-use Rattle.protocol.specs.Refusal.{Reply, Outcome}
+use Rattle.protocol.specs.Refusal.{Answer, Outcome}
 use Rattle.protocol.specs.Calls.Receive as receiving
 use Rattle.protocol.specs.Calls.Propose as proposing
 use Rattle.protocol.specs.Calls.Vote as voting
@@ -21,11 +21,11 @@ use Rattle.protocol.proofs.Calls.Open.{opened as opened-fresh}
 use Rattle.protocol.proofs.Lent.Memory.{lent-true}
 use Rattle.protocol.proofs.Lent.Calls.{Lawful, receive-lawful, propose-lawful, vote-lawful, merge-lawful, ask-lent}
 use Rattle.protocol.proofs.Rack.AsLoom.{Roomier, receive-same, propose-same, vote-same, merge-same, head-same, deep-same, fast-same, write-same}
-use Rattle.answers.specs.declared.Reply as replies
+use Rattle.answers.specs.declared.Answer as answers
 use Rattle.answers.specs.declared.Written as written
-use Rattle.answers.specs.Answers.{Value, nothingMore, received, block, replyOf, writtenOf, mapReply}
+use Rattle.answers.specs.Answers.{Value, nothingMore, received, block, answerOf, writtenOf, mapAnswer}
 use Rattle.answers.specs.Promises.{Leaves, Writes}
-use Rattle.conformance.specs.CodeCallList.{promised}
+use Rattle.conformance.specs.CodeCallList.{Promised}
 use Rattle.conformance.specs.CodeRack.{SameCalls, opened, then, CodeRackAsLoom}
 use Rattle.conformance.proofs.Answers.{refused-mapped}
 use Rattle.conformance.proofs.Memory.{Healthy, opened-done, opened-node, opened-healthy, called, wrote}
@@ -53,19 +53,19 @@ module _ (s : Settings) where
 
     -- ---- one call
 
-    record Alike (next next' : Lent) (r r' : replies.Reply) : Type 0 where
+    record Alike (next next' : Lent) (r r' : answers.Answer) : Type 0 where
       beside : Beside next next'
-      answers : replyOf r ≡ replyOf r'
+      answers : answerOf r ≡ answerOf r'
 
     alike : {A : Type 0} (value : A → Value) (call call' : Places → Node → Outcome A) → Lawful s call → Lawful (asLoom s) call'
-        → (refusedBy byRoom (call (placesOf m) x .reply) ≡ false → call (placesOf m) x ≡ call' (placesOf m') x)
-        → (next next' : Lent) (r r' : replies.Reply) → Leaves value (callLent s call m) next r → Leaves value (callLent (asLoom s) call' m') next' r'
-        → refusedBy byRoom (replyOf r) ≡ false → Alike next next' r r'
+        → (refusedBy byRoom (call (placesOf m) x .answer) ≡ false → call (placesOf m) x ≡ call' (placesOf m') x)
+        → (next next' : Lent) (r r' : answers.Answer) → Leaves value (callLent s call m) next r → Leaves value (callLent (asLoom s) call' m') next' r'
+        → refusedBy byRoom (answerOf r) ≡ false → Alike next next' r r'
     alike value call call' L L' f next next' r r' P P' n =
         let C = called s (placesOf m) x m on-rack refl value call L next r P in
         let C' = called (asLoom s) (placesOf m') x m' on-loom (B .same) value call' L' next' r' P' in
         let o = call (placesOf m) x in
-        let e = f (sym (refused-mapped value byRoom (o .reply)) ∙ sym (ap (refusedBy byRoom) (C .reply)) ∙ n) in
+        let e = f (sym (refused-mapped value byRoom (o .answer)) ∙ sym (ap (refusedBy byRoom) (C .answer)) ∙ n) in
         record {
           beside = record {
             rack = C .healthy .sound;
@@ -75,11 +75,11 @@ module _ (s : Settings) where
                 (subst (λ (p : Places). Roomier s (placesOf m) p) (sym (C' .healthy .places)) (B .roomier));
             same = C .node ∙ ap (λ q. q .node) e ∙ sym (C' .node);
           };
-          answers = C .reply ∙ ap (λ q. mapReply value (q .reply)) e ∙ sym (C' .reply);
+          answers = C .answer ∙ ap (λ q. mapAnswer value (q .answer)) e ∙ sym (C' .answer);
         }
 
-    next-alike : (c : Call) (next next' : Lent) (r r' : replies.Reply) → promised s m c next r → promised (asLoom s) m' c next' r'
-        → refusedBy byRoom (replyOf r) ≡ false → Alike next next' r r'
+    next-alike : (c : Call) (next next' : Lent) (r r' : answers.Answer) → Promised s m c next r → Promised (asLoom s) m' c next' r'
+        → refusedBy byRoom (answerOf r) ≡ false → Alike next next' r r'
     next-alike (Receive beat bytes) =
         alike received (λ p y. receiving.receive s p y beat bytes) (λ p y. receiving.receive (asLoom s) p y beat bytes)
         (receive-lawful s beat bytes) (receive-lawful (asLoom s) beat bytes) (receive-same (B .roomier) x node-sound beat bytes)
@@ -95,7 +95,7 @@ module _ (s : Settings) where
 
     -- ---- a question, and Write
 
-    asked-alike : {A : Type 0} (ask ask' : Places → Node → Reply A) → ask (placesOf m) x ≡ ask' (placesOf m') x → askLent s ask m ≡ askLent (asLoom s) ask' m'
+    asked-alike : {A : Type 0} (ask ask' : Places → Node → Answer A) → ask (placesOf m) x ≡ ask' (placesOf m') x → askLent s ask m ≡ askLent (asLoom s) ask' m'
     asked-alike ask ask' e = ask-lent s ask m (B .rack) ∙ e ∙ ap (ask' (placesOf m')) (B .same) ∙ sym (ask-lent (asLoom s) ask' m' (B .loom))
 
     written-alike : (proposal : Bool) (width : Width) (old new new' : List ℕ) (r r' : written.Written)
@@ -104,7 +104,7 @@ module _ (s : Settings) where
         let e =
         wrote s (placesOf m) x m on-rack refl proposal width old ∙ write-same (B .roomier) x node-sound proposal width old
         ∙ sym (wrote (asLoom s) (placesOf m') x m' on-loom (B .same) proposal width old) in
-        (W .length ∙ ap (λ q. q .reply) e ∙ sym (W' .length), W .buffer ∙ ap (λ q. q .buffer) e ∙ sym (W' .buffer))
+        (W .answer ∙ ap (λ q. q .answer) e ∙ sym (W' .answer), W .buffer ∙ ap (λ q. q .buffer) e ∙ sym (W' .buffer))
 
   -- ---- all calls
 
@@ -133,8 +133,8 @@ code-rack-as-loom s m m' R =
     let S = node-sound s m m' B in (
       B .same,
       λ c next next' r r' P P' n. next-alike s m m' B c next next' r r' P P' n .answers,
-      λ t a a' P P'. P ∙ ap (mapReply chosen) (asked-alike s m m' B (λ p y. headQuery s p y t) (λ p y. headQuery (asLoom s) p y t) (head-same (B .roomier) (nodeOf m) S t)) ∙ sym P',
-      λ t a a' P P'. P ∙ ap (mapReply chosen) (asked-alike s m m' B (λ p y. deepQuery s p y t) (λ p y. deepQuery (asLoom s) p y t) (deep-same (B .roomier) (nodeOf m) S t)) ∙ sym P',
+      λ t a a' P P'. P ∙ ap (mapAnswer chosen) (asked-alike s m m' B (λ p y. headQuery s p y t) (λ p y. headQuery (asLoom s) p y t) (head-same (B .roomier) (nodeOf m) S t)) ∙ sym P',
+      λ t a a' P P'. P ∙ ap (mapAnswer chosen) (asked-alike s m m' B (λ p y. deepQuery s p y t) (λ p y. deepQuery (asLoom s) p y t) (deep-same (B .roomier) (nodeOf m) S t)) ∙ sym P',
       λ t a a' P P'. P ∙ asked-alike s m m' B (λ p y. fastQuery s p y t) (λ p y. fastQuery (asLoom s) p y t) (fast-same (B .roomier) (nodeOf m) S t) ∙ sym P',
       written-alike s m m' B,
     )

@@ -4,11 +4,11 @@ use Prim.Native.Nat.{ℕ}
 use mathlib.Core.Path.{_≡_, refl, sym, ap, _∙_}
 use mathlib.Core.Bool.{true, false}
 use Rattle.protocol.specs.declared.Settings.{Settings}
-use Rattle.protocol.specs.Lists.{filter}
+use Rattle.protocol.specs.Lists.{passing}
 use Rattle.protocol.specs.Filters.{Choice, chosen}
 use Rattle.protocol.specs.Store.{rowsSince, Places, Node}
 use Rattle.protocol.specs.Sound.{sound}
-use Rattle.protocol.specs.Refusal.{Reply, done, Outcome}
+use Rattle.protocol.specs.Refusal.{Answer, done, Outcome}
 use Rattle.protocol.specs.Calls.Receive as receiving
 use Rattle.protocol.specs.Calls.Propose as proposing
 use Rattle.protocol.specs.Calls.Vote as voting
@@ -16,19 +16,19 @@ use Rattle.protocol.specs.Calls.Merge as merging
 use Rattle.protocol.specs.Calls.Vote.{headOf}
 use Rattle.protocol.specs.Calls.Query.{deepOf, fastOf, headQuery, deepQuery, fastQuery}
 use Rattle.protocol.specs.Lent.{Lent, placesOf, nodeOf, lentSound, callLent, askLent}
-use Rattle.protocol.specs.CallList.{Call, Receive, Propose, Vote, Merge, made, refusedBy, meets}
-use Rattle.protocol.specs.Removal.{byTen, madeKeeping}
+use Rattle.protocol.specs.CallList.{Call, Receive, Propose, Vote, Merge, afterCall, refusedBy, meets}
+use Rattle.protocol.specs.Removal.{byTen, afterCallKeeping}
 use Rattle.protocol.proofs.Calls.Open.{opened as opened-fresh}
 use Rattle.protocol.proofs.Lent.Memory.{lent-true}
 use Rattle.protocol.proofs.Lent.Calls.{Lawful, receive-lawful, propose-lawful, vote-lawful, merge-lawful, ask-lent}
 use Rattle.protocol.proofs.Removal.Calls.{made-pruned}
 use Rattle.protocol.proofs.Removal.Pruned.{pruned, head-pruned, deep-pruned, fast-pruned}
 use Rattle.protocol.proofs.Removal.Unseen.{answered}
-use Rattle.answers.specs.declared.Reply as replies
-use Rattle.answers.specs.Answers.{Value, nothingMore, received, block, replyOf}
+use Rattle.answers.specs.declared.Answer as answers
+use Rattle.answers.specs.Answers.{Value, nothingMore, received, block, answerOf}
 use Rattle.answers.specs.Promises.{Leaves}
-use Rattle.conformance.specs.CodeCallList.{promised}
-use Rattle.conformance.specs.CodeRemoval.{CodeCalls, opened, then, CodeRemovalUnseen}
+use Rattle.conformance.specs.CodeCallList.{Promised}
+use Rattle.conformance.specs.CodeRemoval.{CallsKeeping, opened, then, CodeRemovalUnseen}
 use Rattle.conformance.proofs.Answers.{done-mapped, refused-mapped}
 use Rattle.conformance.proofs.Memory.{opened-done, opened-node, opened-healthy, Called, called}
 
@@ -48,20 +48,20 @@ module _ (s : Settings) where
     node-sound = ap (sound s pl) (B .holds) ∙ lent-true s m (B .sound) .node
 
     -- the call on the node that the memory holds
-    told : {A : Type 0} (value : A → Value) (call : Places → Node → Outcome A) → Lawful s call → (next : Lent) (r : replies.Reply)
+    told : {A : Type 0} (value : A → Value) (call : Places → Node → Outcome A) → Lawful s call → (next : Lent) (r : answers.Answer)
         → Leaves value (callLent s call m) next r → Called s pl value (call pl (pruned s y)) next r
     told value call L next r P = called s pl (pruned s y) m (record { places = refl; sound = B .sound }) (B .holds) value call L next r P
 
-    beside : {A : Type 0} (c : Call) (value : A → Value) (o : Outcome A) (next : Lent) (r : replies.Reply) → Called s pl value o next r
-        → o .node ≡ made s pl (pruned s y) c → refusedBy byTen (o .reply) ≡ meets byTen s pl (pruned s y) c → refusedBy byTen (replyOf r) ≡ false
-        → Beside next (madeKeeping s pl y c)
+    beside : {A : Type 0} (c : Call) (value : A → Value) (o : Outcome A) (next : Lent) (r : answers.Answer) → Called s pl value o next r
+        → o .node ≡ afterCall s pl (pruned s y) c → refusedBy byTen (o .answer) ≡ meets byTen s pl (pruned s y) c → refusedBy byTen (answerOf r) ≡ false
+        → Beside next (afterCallKeeping s pl y c)
     beside c value o next r C n t ten = record {
       sound = C .healthy .sound;
-      holds = sym (C .node ∙ n ∙ made-pruned s pl y node-sound c (sym t ∙ sym (refused-mapped value byTen (o .reply)) ∙ sym (ap (refusedBy byTen) (C .reply)) ∙ ten));
+      holds = sym (C .node ∙ n ∙ made-pruned s pl y node-sound c (sym t ∙ sym (refused-mapped value byTen (o .answer)) ∙ sym (ap (refusedBy byTen) (C .answer)) ∙ ten));
     }
 
-    next-beside : (c : Call) (next : Lent) (r : replies.Reply) → promised s m c next r → refusedBy byTen (replyOf r) ≡ false → Beside next (madeKeeping s pl y c)
-    unfolding made meets
+    next-beside : (c : Call) (next : Lent) (r : answers.Answer) → Promised s m c next r → refusedBy byTen (answerOf r) ≡ false → Beside next (afterCallKeeping s pl y c)
+    unfolding afterCall meets
     next-beside (Receive beat bytes) next r P =
         beside (Receive beat bytes) received _ next r (told received (λ p x. receiving.receive s p x beat bytes) (receive-lawful s beat bytes) next r P) refl refl
     next-beside (Propose beat number) next r P =
@@ -72,8 +72,8 @@ module _ (s : Settings) where
 
   -- ---- all calls
 
-  along : (m : Lent) (y : Node) → CodeCalls s m y → Beside m y
-  unfolding rowsSince filter
+  along : (m : Lent) (y : Node) → CallsKeeping s m y → Beside m y
+  unfolding rowsSince passing
   along m y (opened old now O) = record {
     sound = opened-healthy s old now O .sound;
     holds = sym (opened-node s old now O ∙ opened-fresh s (placesOf old) (nodeOf old) (opened-done s old now O));
@@ -84,7 +84,7 @@ module _ (s : Settings) where
 
   module _ (m : Lent) (y : Node) (B : Beside m y) where
     -- on this node, of which `same` is known
-    asked : {A : Type 0} (ask : Places → Node → Reply A) (kept : A) → ((a : A) → ask (placesOf m) (pruned s y) ≡ done a → a ≡ kept)
+    asked : {A : Type 0} (ask : Places → Node → Answer A) (kept : A) → ((a : A) → ask (placesOf m) (pruned s y) ≡ done a → a ≡ kept)
         → (a : A) → askLent s ask m ≡ done a → a ≡ kept
     asked ask kept same a e = same a (ap (ask (placesOf m)) (B .holds) ∙ sym (ask-lent s ask m (B .sound)) ∙ e)
 

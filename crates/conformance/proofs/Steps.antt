@@ -12,14 +12,14 @@ use Rattle.protocol.specs.Calls.Write.{write}
 use Rattle.protocol.specs.Lent.{Lent, nodeOf, callLent}
 use Rattle.protocol.proofs.Lent.Calls.{Lawful, receive-lawful, propose-lawful, vote-lawful, merge-lawful}
 use Rattle.answers.specs.Answers.{Value, nothingMore, received, block}
-use Rattle.answers.specs.declared.Reply.{Reply}
+use Rattle.answers.specs.declared.Answer.{Answer}
 use Rattle.answers.specs.declared.Written.{Written}
 use Rattle.answers.specs.Promises.{Leaves, Writes}
 use Rattle.resilience.specs.Run as model
-use Rattle.resilience.specs.Run.{Network, World, Step, Due, Gossip, Proposal, Receive, Event, woke, voted, built, given, lacked, turnedAway, carried, said, sends, Turn, owes, afterGossip, afterProposal, settings, isHonest, update, allowed, dueAt, step}
+use Rattle.resilience.specs.Run.{Network, World, Step, Due, Gossip, Proposal, Receive, Event, woke, voted, built, given, lacked, turnedAway, carried, logged, sends, Turn, owes, afterGossip, afterProposal, settings, isHonest, update, allowed, dueAt, step}
 use Rattle.resilience.proofs.Steps.Allowed.{due-honest, send-honest, receive-honest}
 use Rattle.conformance.specs.State.{Deployment, State, network, decoded}
-use Rattle.conformance.specs.CodeRun.{logged, carriedOut, packetSent, after, CodeStep, begins, proposes, waits, votes, merges, gossips, sendsProposal, receives}
+use Rattle.conformance.specs.CodeRun.{codeLogged, carriedOut, packetSent, stateAfter, CodeStep, begins, proposes, waits, votes, merges, gossips, sendsProposal, receives}
 use Rattle.conformance.proofs.Answers.{ofBlock, same-events, same-carried, same-packet}
 use Rattle.conformance.proofs.Memory.{Healthy, called, wrote}
 
@@ -44,7 +44,7 @@ module _ (D : Deployment) (w : State) (H : AllHealthy D w) where
     holds = ap (λ b. cond b (nodeOf (w .memory i)) (model.start N .node i)) h
 
     -- node i alone is changed
-    decoded-after : (m : Lent) (u : Turn) (es : List Event) → decoded D (after w i m u es) ≡ model.after W i (nodeOf m) u es
+    decoded-after : (m : Lent) (u : Turn) (es : List Event) → decoded D (stateAfter w i m u es) ≡ model.worldAfter W i (nodeOf m) u es
     decoded-after m u es =
         λ k. record { beat = w .beat; node = λ j. go j (eqb i j) refl k; turn = update (w .turn) i u; log = es ++ (w .log) }
       where
@@ -54,8 +54,8 @@ module _ (D : Deployment) (w : State) (H : AllHealthy D w) where
         go j false e = refl
 
     moved : (m : Lent) (x : Node) (u v : Turn) (es fs : List Event) → nodeOf m ≡ x → u ≡ v → es ≡ fs
-        → model.after W i x v fs ≡ decoded D (after w i m u es)
-    moved m x u v es fs p q r = sym (decoded-after m u es ∙ (λ k. model.after W i (p k) (q k) (r k)))
+        → model.worldAfter W i x v fs ≡ decoded D (stateAfter w i m u es)
+    moved m x u v es fs p q r = sym (decoded-after m u es ∙ (λ k. model.worldAfter W i (p k) (q k) (r k)))
 
     healthy-after : (m : Lent) → Healthy (settings N i) (N .places i) m
         → (j : ℕ) → isHonest N j ≡ true → Healthy (settings N j) (N .places j) (update (w .memory) i m j)
@@ -67,24 +67,24 @@ module _ (D : Deployment) (w : State) (H : AllHealthy D w) where
 
     -- a call that changes the memory: its answer puts f in the log for a block and `want` if it is refused for want, then come the events es, and u is the turn
     by-call : {A : Type 0} (value : A → Value) (call : Places → Node → Outcome A) → Lawful (settings N i) call
-        → (m : Lent) (r : Reply) → Leaves value (callLent (settings N i) call (w .memory i)) m r
+        → (m : Lent) (r : Answer) → Leaves value (callLent (settings N i) call (w .memory i)) m r
         → (s : Step) (want : Event) (f : ℕ → List Event) (u : Bool → Turn) (es : Bool → List Event)
         → (let o = call (N .places i) (W .node i) in step N W s
-        ≡ model.after W i (o .node) (u (carried (o .reply))) (said want (λ a. ofBlock f (value a)) (o .reply) ++ es (carried (o .reply))))
-        → Follows D w s (after w i m (u (carriedOut r)) (logged want f r ++ es (carriedOut r)))
+        ≡ model.worldAfter W i (o .node) (u (carried (o .answer))) (logged want (λ a. ofBlock f (value a)) (o .answer) ++ es (carried (o .answer))))
+        → Follows D w s (stateAfter w i m (u (carriedOut r)) (codeLogged want f r ++ es (carriedOut r)))
     by-call value call L m r P s want f u es e =
         let o = call (N .places i) (W .node i) in
         let C = called (settings N i) (N .places i) (W .node i) (w .memory i) (H i h) holds value call L m r P in
-        let c : carriedOut r ≡ carried (o .reply) = same-carried value r (o .reply) (C .reply) in
+        let c : carriedOut r ≡ carried (o .answer) = same-carried value r (o .answer) (C .answer) in
         record {
-          world = e ∙ moved m (o .node) (u (carriedOut r)) (u (carried (o .reply))) _ _ (C .node) (ap u c)
-              (λ k. same-events value r (o .reply) (C .reply) want f k ++ es (c k));
+          world = e ∙ moved m (o .node) (u (carriedOut r)) (u (carried (o .answer))) _ _ (C .node) (ap u c)
+              (λ k. same-events value r (o .answer) (C .answer) want f k ++ es (c k));
           healthy = healthy-after m (C .healthy);
         }
 
     -- Write, and a node that has no call to make: the memory is as it was
     by-reading : (s : Step) (u : Turn) (es fs : List Event) → es ≡ fs
-        → step N W s ≡ model.after W i (W .node i) u fs → Follows D w s (after w i (w .memory i) u es)
+        → step N W s ≡ model.worldAfter W i (W .node i) u fs → Follows D w s (stateAfter w i (w .memory i) u es)
     by-reading s u es fs q e = record {
       world = e ∙ moved (w .memory i) (W .node i) u u es fs (sym holds) refl q;
       healthy = healthy-after (w .memory i) (H i h);
@@ -96,7 +96,7 @@ module _ (D : Deployment) (w : State) (H : AllHealthy D w) where
     written proposal old new r P =
         let e = wrote (settings N i) (N .places i) (W .node i) (w .memory i) (H i h) holds proposal Wide old in
         same-packet (w .beat) i new r (write (settings N i) (N .places i) (W .node i) proposal Wide old)
-        (P .buffer ∙ ap (λ y. y .buffer) e) (P .length ∙ ap (λ y. y .reply) e)
+        (P .buffer ∙ ap (λ y. y .buffer) e) (P .answer ∙ ap (λ y. y .answer) e)
 
   -- ---- the step
 

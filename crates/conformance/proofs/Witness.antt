@@ -3,7 +3,7 @@
 use mathlib.Core.Path.{_≡_}
 use mathlib.Core.List.{_∷_}
 use lib.ListN.{replicate}
-use Rattle.protocol.specs.Words.{join}
+use Rattle.protocol.specs.Words.{fromHalves}
 use Rattle.protocol.specs.Store.{freshClock}
 use Rattle.protocol.specs.Lent.{rowsOf, placesIn, placesOf, nodeOf}
 use Rattle.protocol.proofs.Basics.Tests.{and-left}
@@ -29,7 +29,7 @@ deployment =
     }
 
 pub five-nodes : (w : State) × CodeRun deployment w × (decoded deployment w ≡ end)
-unfolding Completeness meetsTest placesOf placesIn nodeOf rowsOf join
+unfolding Completeness meetsTest placesOf placesIn nodeOf rowsOf fromHalves
 five-nodes =
     let P = proposed-true five acts 6 2 twin 11 (and-left (proposedTest five acts 6 2 twin 11) _ met) .started in
     completes deployment (P .opened) end (P .run)

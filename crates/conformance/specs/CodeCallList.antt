@@ -2,12 +2,12 @@
 use Rattle.protocol.specs.declared.Settings.{Settings}
 use Rattle.protocol.specs.Lent.{Lent}
 use Rattle.protocol.specs.CallList.{Call, Receive, Propose, Vote, Merge}
-use Rattle.answers.specs.declared.Reply.{Reply}
+use Rattle.answers.specs.declared.Answer.{Answer}
 use Rattle.answers.specs.Promises.{Receives, Proposes, Votes, Merges}
 
 -- on the memory m
-abbrev pub promised : Settings → Lent → Call → Lent → Reply → Type 0
-promised s m (Receive beat bytes) = Receives s m beat bytes
-promised s m (Propose beat number) = Proposes s m beat number
-promised s m (Vote beat) = Votes s m beat
-promised s m (Merge beat) = Merges s m beat
+abbrev pub Promised : Settings → Lent → Call → Lent → Answer → Type 0
+Promised s m (Receive beat bytes) = Receives s m beat bytes
+Promised s m (Propose beat number) = Proposes s m beat number
+Promised s m (Vote beat) = Votes s m beat
+Promised s m (Merge beat) = Merges s m beat

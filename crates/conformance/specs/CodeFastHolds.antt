@@ -5,7 +5,7 @@ use mathlib.Core.Path.{_≡_}
 use lib.Dec.{T}
 use Rattle.protocol.specs.declared.Number.{Number}
 use Rattle.protocol.specs.Words.{value}
-use Rattle.answers.specs.declared.Answer.the-variants as answer
+use Rattle.answers.specs.declared.Found.the-variants as found
 use Rattle.answers.specs.Promises.{IsFast}
 use Rattle.resilience.specs.Run.{settings, isHonest}
 use Rattle.resilience.specs.Resilience.{Enough}
@@ -20,7 +20,7 @@ pub record CodeHasFast (D : Deployment) (w : State) (i t F : ℕ) : Type 0 where
   pub run : CodeRun D state
   pub honest : T (isHonest (network D) i)
   pub number : Number
-  pub fast : IsFast (settings (network D) i) (state .memory i) t (answer.Block number)
+  pub fast : IsFast (settings (network D) i) (state .memory i) t (found.Block number)
   pub block : F ≡ value number
   pub onward : CodeOnward D state w
 

@@ -13,8 +13,8 @@ use Rattle.protocol.specs.Calls.Write.{packetOut, over}
 use Rattle.protocol.specs.Lent.{Lent, placesOf, nodeOf}
 use Rattle.protocol.specs.RoundTrip.{NumbersBelow}
 use Rattle.answers.specs.Answers.{writtenOf}
-use Rattle.answers.specs.declared.Reply.{Reply}
-use Rattle.answers.specs.declared.Reply.the-variants as reply
+use Rattle.answers.specs.declared.Answer.{Answer}
+use Rattle.answers.specs.declared.Answer.the-variants as answer
 use Rattle.answers.specs.declared.Written.{Written}
 use Rattle.answers.specs.declared.Written.the-variants as written
 use Rattle.answers.specs.Promises.{Opens, Receives, Writes}
@@ -25,12 +25,12 @@ CodeOldStock =
     -- "An old stock": its numbers have 64 bits
     NumbersBelow (2 ^ 64) (nodeOf m) →
     -- "written wide": a Write answered n and left the buffer so
-    (old new : List ℕ) (n : ℕ) → Writes s m false Wide old new (written.Length n) →
+    (old new : List ℕ) (n : ℕ) → Writes s m false Wide old new (written.Bytes n) →
     -- "received as in the second demand": by a fresh node of the same n with places enough and a limit that the packet keeps to, at the sender's beat
-    (s' : Settings) (before m' : Lent) → Opens s' before m' reply.Done →
+    (s' : Settings) (before m' : Lent) → Opens s' before m' answer.Done →
     s' .nodes ≡ s .nodes →
     m .blocksUsed ≤ placesOf before .blocks → m .votesUsed ≤ placesOf before .votes → limitsOf (s' .profile) .tooLong n ≡ false →
-    (y : Lent) (r : Reply) → Receives s' m' (m .clock .seen) (take n new) y r →
+    (y : Lent) (r : Answer) → Receives s' m' (m .clock .seen) (take n new) y r →
     let bytes = packetOut false Narrow (nodeOf m) in
     -- "and then written narrow", to any buffer that has room, as its sender would write it
     (buffer : List ℕ) → length bytes ≤ length buffer →

@@ -8,21 +8,21 @@ use Rattle.protocol.specs.declared.Width.{Width}
 use Rattle.protocol.specs.Lent.{Lent, placesOf, nodeOf}
 use Rattle.protocol.specs.CallList.{Call, refusedBy}
 use Rattle.protocol.specs.Rack.{asLoom, byRoom}
+use Rattle.answers.specs.declared.Found.{Found}
 use Rattle.answers.specs.declared.Answer.{Answer}
-use Rattle.answers.specs.declared.Reply.{Reply}
-use Rattle.answers.specs.declared.Reply.the-variants as reply
+use Rattle.answers.specs.declared.Answer.the-variants as answer
 use Rattle.answers.specs.declared.Written.{Written}
-use Rattle.answers.specs.Answers.{replyOf, answerOf, writtenOf}
+use Rattle.answers.specs.Answers.{answerOf, foundOf, writtenOf}
 use Rattle.answers.specs.Promises.{Opens, IsHead, IsDeep, IsFast, Writes}
-use Rattle.conformance.specs.CodeCallList.{promised}
+use Rattle.conformance.specs.CodeCallList.{Promised}
 
 -- The memories that an Open of a rack, one of a loom with as many places and the same other settings, and then the same calls of the code on both left,
 -- none of which the rack refused by 10 or 24.
 pub data SameCalls (s : Settings) : Lent → Lent → Type 0 where
-  opened : (old m old' m' : Lent) → Opens s old m reply.Done → Opens (asLoom s) old' m' reply.Done →
+  opened : (old m old' m' : Lent) → Opens s old m answer.Done → Opens (asLoom s) old' m' answer.Done →
       placesOf old .blocks ≤ placesOf old' .blocks → placesOf old .votes ≤ placesOf old' .votes → SameCalls s m m'
-  then : {m m' : Lent} → SameCalls s m m' → (c : Call) (next next' : Lent) (r r' : Reply) →
-      promised s m c next r → promised (asLoom s) m' c next' r' → refusedBy byRoom (replyOf r) ≡ false → SameCalls s next next'
+  then : {m m' : Lent} → SameCalls s m m' → (c : Call) (next next' : Lent) (r r' : Answer) →
+      Promised s m c next r → Promised (asLoom s) m' c next' r' → refusedBy byRoom (answerOf r) ≡ false → SameCalls s next next'
 
 -- They hold the same used rows, marks and clock; the next call that the rack does not refuse so, every question and every Write is answered alike, a
 -- refusal with its index, and Write leaves the same buffer.
@@ -30,10 +30,10 @@ unfoldable pub CodeRackAsLoom : Type 0
 CodeRackAsLoom =
     (s : Settings) (m m' : Lent) → SameCalls s m m' →
     (nodeOf m ≡ nodeOf m')
-    × ((c : Call) (next next' : Lent) (r r' : Reply) → promised s m c next r → promised (asLoom s) m' c next' r' →
-    refusedBy byRoom (replyOf r) ≡ false → replyOf r ≡ replyOf r')
-    × ((t : ℕ) (a a' : Answer) → IsHead s m t a → IsHead (asLoom s) m' t a' → answerOf a ≡ answerOf a')
-    × ((t : ℕ) (a a' : Answer) → IsDeep s m t a → IsDeep (asLoom s) m' t a' → answerOf a ≡ answerOf a')
-    × ((t : ℕ) (a a' : Answer) → IsFast s m t a → IsFast (asLoom s) m' t a' → answerOf a ≡ answerOf a')
+    × ((c : Call) (next next' : Lent) (r r' : Answer) → Promised s m c next r → Promised (asLoom s) m' c next' r' →
+    refusedBy byRoom (answerOf r) ≡ false → answerOf r ≡ answerOf r')
+    × ((t : ℕ) (a a' : Found) → IsHead s m t a → IsHead (asLoom s) m' t a' → foundOf a ≡ foundOf a')
+    × ((t : ℕ) (a a' : Found) → IsDeep s m t a → IsDeep (asLoom s) m' t a' → foundOf a ≡ foundOf a')
+    × ((t : ℕ) (a a' : Found) → IsFast s m t a → IsFast (asLoom s) m' t a' → foundOf a ≡ foundOf a')
     × ((proposal : Bool) (width : Width) (old new new' : List ℕ) (r r' : Written) →
     Writes s m proposal width old new r → Writes (asLoom s) m' proposal width old new' r' → (writtenOf r ≡ writtenOf r') × (new ≡ new'))

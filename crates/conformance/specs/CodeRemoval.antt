@@ -11,23 +11,23 @@ use Rattle.protocol.specs.Calls.Vote.{headOf}
 use Rattle.protocol.specs.Calls.Query.{deepOf, fastOf}
 use Rattle.protocol.specs.Lent.{Lent, placesOf}
 use Rattle.protocol.specs.CallList.{Call, refusedBy}
-use Rattle.protocol.specs.Removal.{byTen, madeKeeping}
+use Rattle.protocol.specs.Removal.{byTen, afterCallKeeping}
+use Rattle.answers.specs.declared.Found.{Found}
 use Rattle.answers.specs.declared.Answer.{Answer}
-use Rattle.answers.specs.declared.Reply.{Reply}
-use Rattle.answers.specs.declared.Reply.the-variants as reply
-use Rattle.answers.specs.Answers.{replyOf, answerOf}
+use Rattle.answers.specs.declared.Answer.the-variants as answer
+use Rattle.answers.specs.Answers.{answerOf, foundOf}
 use Rattle.answers.specs.Promises.{Opens, IsHead, IsDeep, IsFast}
-use Rattle.conformance.specs.CodeCallList.{promised}
+use Rattle.conformance.specs.CodeCallList.{Promised}
 
 -- The memory that an Open and then calls of the code left, none of which answered 10; and the node that the same calls leave where no vote
 -- is ever removed.
-pub data CodeCalls (s : Settings) : Lent → Node → Type 0 where
-  opened : (old m : Lent) → Opens s old m reply.Done → CodeCalls s m fresh
-  then : {m : Lent} {y : Node} → CodeCalls s m y → (c : Call) (next : Lent) (r : Reply) → promised s m c next r →
-      refusedBy byTen (replyOf r) ≡ false → CodeCalls s next (madeKeeping s (placesOf m) y c)
+pub data CallsKeeping (s : Settings) : Lent → Node → Type 0 where
+  opened : (old m : Lent) → Opens s old m answer.Done → CallsKeeping s m fresh
+  then : {m : Lent} {y : Node} → CallsKeeping s m y → (c : Call) (next : Lent) (r : Answer) → Promised s m c next r →
+      refusedBy byTen (answerOf r) ≡ false → CallsKeeping s next (afterCallKeeping s (placesOf m) y c)
 
 -- What Head, Deep and Fast answer of a slot, where they are not refused, that node finds.
 unfoldable pub CodeRemovalUnseen : Type 0
 CodeRemovalUnseen =
-    (s : Settings) (m : Lent) (y : Node) → CodeCalls s m y → (t : ℕ) (a : Answer) (o : Choice) → answerOf a ≡ done o →
+    (s : Settings) (m : Lent) (y : Node) → CallsKeeping s m y → (t : ℕ) (a : Found) (o : Choice) → foundOf a ≡ done o →
     (IsHead s m t a → o ≡ chosen (headOf s y t)) × (IsDeep s m t a → o ≡ chosen (deepOf s y t)) × (IsFast s m t a → o ≡ fastOf s y t)

@@ -1,4 +1,4 @@
--- The set of first places, one entry more: which rows it names, and which of the packet's entries are new. Assumes nothing.
+-- The set of first rows, one entry more: which rows it names, and which of the packet's entries are new. Assumes nothing.
 use Prim.Native.Nat.{ℕ, zero, suc, _+_, _*_, _≤_, _<_}
 use mathlib.Core.Bool.{Bool, true, false, _||_, false≢true}
 use mathlib.Core.List.{List}
@@ -9,31 +9,31 @@ use borrow.Author.Tests.{eq-eqb, ne-eqb, eqb-true}
 use lib.Dec.{eqb, eqb·suc-zero}
 use lib.ListN.{length, replicate}
 use Rattle.protocol.proofs.Basics.Tests.{same-test, not-passes, clashing}
-use Rattle.search_tree.specs.Tree.{First, Placed}
+use Rattle.search_tree.specs.Tree.{First, Points}
 use Rattle.bitset.specs.Bitset.{inSet, inserted}
 use Rattle.bitset.proofs.Bitset.{in-inserted, none-in}
 use Rattle.index.specs.declared.Key.{Key}
 use Rattle.index.specs.Keys.{sameKey}
-use Rattle.index.specs.Firsts.{firstPlace, News, Names}
+use Rattle.index.specs.Firsts.{firstRow, News, Names}
 use Rattle.index.proofs.Keys.{key-same, same-key}
-use Rattle.index.proofs.Places.{Differ}
+use Rattle.index.proofs.Links.{Differ}
 
 module _ {key : ℕ → Key} {n : ℕ} {k : Key} where
-  -- a place that was found is among the n
-  pub placed-within : (place : ℕ) → Placed key n k place → place ≤ n
-  placed-within zero s = omega arith
-  placed-within (suc p) s = omega (arith, s .hit p refl .below)
+  -- a link that was found is to one of the n
+  pub linked-within : (link : ℕ) → Points key n k link → link ≤ n
+  linked-within zero s = omega arith
+  linked-within (suc p) s = omega (arith, s .hit p refl .below)
 
-  pub first-most : (place : ℕ) → Placed key n k place → firstPlace n place ≤ n
+  pub first-most : (link : ℕ) → Points key n k link → firstRow n link ≤ n
   first-most zero s = omega arith
   first-most (suc p) s = omega (arith, s .hit p refl .below)
 
-  pub first-found : (place : ℕ) → Placed key n k place → (place ≡ 0 → ⊥) → firstPlace n place < n
+  pub first-found : (link : ℕ) → Points key n k link → (link ≡ 0 → ⊥) → firstRow n link < n
   first-found zero s f = absurd (f refl)
   first-found (suc p) s f = s .hit p refl .below
 
-  -- a row is the first place of k if its key is k
-  pub first-row : (place used j : ℕ) → Placed key n k place → used ≤ n → Differ key used → j < used → eqb j (firstPlace n place) ≡ sameKey (key j) k
+  -- a row of the table is the first of k if its key is k
+  pub first-row : (link used j : ℕ) → Points key n k link → used ≤ n → Differ key used → j < used → eqb j (firstRow n link) ≡ sameKey (key j) k
   first-row zero used j s l d h = ne-eqb j n (λ e. omega arith) ∙ sym (not-passes (λ e. s .none refl j (omega arith) (key-same (key j) k e)))
   first-row (suc p) used j s l d h =
       let f = s .hit p refl in
@@ -47,13 +47,13 @@ module _ {key : ℕ → Key} {n : ℕ} {k : Key} where
           go (no a) (yes b) = absurd (d p j b h (f .has ∙ sym e))
           go (no a) (no b) = omega arith
 
--- the rows that are named, a key more: it was looked for among the first n places
-pub names-next : {key : ℕ → Key} (used n : ℕ) (k : Key) {place : ℕ} → Placed key n k place → used ≤ n → Differ key used
+-- the rows that are named, a key more: it was looked for among the first n rows
+pub names-next : {key : ℕ → Key} (used n : ℕ) (k : Key) {link : ℕ} → Points key n k link → used ≤ n → Differ key used
     → {named named′ : ℕ → Bool} → ((j : ℕ) → j < used → named′ j ≡ (named j || sameKey (key j) k)) → (set set′ : List ℕ)
-    → firstPlace n place < 64 * length set → set′ ≡ inserted set (firstPlace n place) → Names used named set → Names used named′ set′
-names-next used n k {place} s l d {named} told set set′ h e x j i =
-    ap (λ (w : List ℕ). inSet w j) e ∙ in-inserted set (firstPlace n place) j h
-    ∙ ap (λ (b : Bool). b || eqb j (firstPlace n place)) (x j i) ∙ ap (λ (b : Bool). named j || b) (first-row place used j s l d i) ∙ sym (told j i)
+    → firstRow n link < 64 * length set → set′ ≡ inserted set (firstRow n link) → Names used named set → Names used named′ set′
+names-next used n k {link} s l d {named} told set set′ h e x j i =
+    ap (λ (w : List ℕ). inSet w j) e ∙ in-inserted set (firstRow n link) j h
+    ∙ ap (λ (b : Bool). b || eqb j (firstRow n link)) (x j i) ∙ ap (λ (b : Bool). named j || b) (first-row link used j s l d i) ∙ sym (told j i)
 
 absorbed : (a b : Bool) → (b ≡ true → a ≡ true) → (a || b) ≡ a
 absorbed true b f = refl
@@ -63,7 +63,7 @@ absorbed false false f = refl
 -- ---- the `count` entries of a packet, behind `used` rows: `new m` tells whether entry m is new
 
 module _ (key : ℕ → Key) (used count : ℕ) (new : ℕ → Bool)
-    (told : (m place : ℕ) → m < count → Placed key (used + m) (key (used + m)) place → eqb place 0 ≡ new m) where
+    (told : (m link : ℕ) → m < count → Points key (used + m) (key (used + m)) link → eqb link 0 ≡ new m) where
   pub news-none : (w : ℕ) → News used new 0 (replicate w 0)
   news-none w = record { seen = λ m h. absurd (omega arith); unseen = λ m h. none-in w (used + m) }
 
@@ -71,7 +71,7 @@ module _ (key : ℕ → Key) (used count : ℕ) (new : ℕ → Bool)
   fresh-new : (m : ℕ) → m < count → ((j : ℕ) → j < used + m → key j ≡ key (used + m) → ⊥) → new m ≡ true
   fresh-new m l f = sym (told m 0 l (record { hit = λ p e. absurd (omega arith); none = λ e j h. f j h })) ∙ refl
 
-  -- place q joins: those from i to i′ that are new, and besides only what is new already, or a row
+  -- row q joins: those from i to i′ that are new, and besides only what is new already, or a row of the table
   joins : {i : ℕ} {set set′ : List ℕ} → News used new i set → (q : ℕ) → q < 64 * length set → set′ ≡ inserted set q → (i′ : ℕ) → i ≤ i′
       → ((m : ℕ) → used + m ≡ q → (m < i′) × (new m ≡ true)) → ((m : ℕ) → i ≤ m → m < i′ → new m ≡ true → used + m ≡ q) → News used new i′ set′
   joins {i} {set} {set′} x q h e i′ l only all = record { seen = λ m k. go m k (decLt m i); unseen = λ m k. later m k }
@@ -90,13 +90,13 @@ module _ (key : ℕ → Key) (used count : ℕ) (new : ℕ → Bool)
           now-in m ∙ ap (λ (b : Bool). b || eqb (used + m) q) (x .unseen m (omega arith))
           ∙ ne-eqb (used + m) q (λ z. let b = only m z .0 in absurd (omega arith))
 
-  -- the first place of a key is a row, or that of a new entry
+  -- the first row of a key is one of the table, or that of a new entry
   first-new : (n : ℕ) (k : Key) (p m : ℕ) → m < count → First key n k p → used + m ≡ p → new m ≡ true
   first-new n k p m l f z = fresh-new m l (λ j h e. f .fresh j (omega arith) (e ∙ ap key z ∙ f .has))
 
-  -- entry i was looked for among the places before it
-  pub news-next : {i : ℕ} {set set′ : List ℕ} → News used new i set → i < count → (place : ℕ) → Placed key (used + i) (key (used + i)) place
-      → used + i < 64 * length set → set′ ≡ inserted set (firstPlace (used + i) place) → News used new (i + 1) set′
+  -- entry i was looked for among the rows before it
+  pub news-next : {i : ℕ} {set set′ : List ℕ} → News used new i set → i < count → (link : ℕ) → Points key (used + i) (key (used + i)) link
+      → used + i < 64 * length set → set′ ≡ inserted set (firstRow (used + i) link) → News used new (i + 1) set′
   news-next {i} x c zero s h e =
       joins x (used + i) h e (i + 1) (omega arith)
       (λ m z. (omega arith, let y : i ≡ m = omega arith in ap new (sym y) ∙ sym (told i 0 c s)))
@@ -108,9 +108,9 @@ module _ (key : ℕ → Key) (used count : ℕ) (new : ℕ → Bool)
       (λ m z. (omega arith, first-new (used + i) (key (used + i)) p m (omega arith) f z))
       (λ m a b d. let y : m ≡ i = omega arith in absurd (clashing (sym (ap new y) ∙ d) (sym (told i (suc p) c s) ∙ eqb·suc-zero p)))
 
-  -- a key was found among all places
-  pub news-named : {i : ℕ} {set set′ : List ℕ} → News used new i set → i ≤ count → (k : Key) (place : ℕ) → Placed key (used + i) k place → (place ≡ 0 → ⊥)
-      → used + i ≤ 64 * length set → set′ ≡ inserted set (firstPlace (used + i) place) → News used new i set′
+  -- a key was found among all rows
+  pub news-named : {i : ℕ} {set set′ : List ℕ} → News used new i set → i ≤ count → (k : Key) (link : ℕ) → Points key (used + i) k link → (link ≡ 0 → ⊥)
+      → used + i ≤ 64 * length set → set′ ≡ inserted set (firstRow (used + i) link) → News used new i set′
   news-named x c k zero s f h e = absurd (f refl)
   news-named {i} x c k (suc p) s f h e =
       let g = s .hit p refl in

@@ -10,7 +10,7 @@ use lib.ListN.{length, getD, drop}
 use lib.Seq.{getD-drop}
 use Rattle.protocol.specs.Entry.{Block}
 use Rattle.protocol.specs.Chain.{genesis}
-use Rattle.protocol.specs.Store.{visible}
+use Rattle.protocol.specs.Store.{inView}
 use Rattle.protocol.specs.Packet.{packetOf}
 use Rattle.protocol.specs.Lent.{blockWords, voteWords, makeBlock, makeVote}
 use Rattle.packets.specs.Header.{noVote}
@@ -56,7 +56,7 @@ carry-fits a b h = go (a / 4) (b % 4) (quarter a h) (omega arith)
     go : (x y : ℕ) → x < 4611686018427387904 → y ≤ 3 → x + y * 4611686018427387904 < 18446744073709551616
     go x y p q = omega arith
 
--- fewer places can be read
+-- fewer rows can be read
 pub readable-less : (kind : Kind) (ws : List ℕ) (used : ℕ) (bytes : List ℕ) (n m : ℕ) → m ≤ n → Readable kind ws used bytes n → Readable kind ws used bytes m
 readable-less Blocks ws used bytes n m h r = omega arith
 readable-less Votes ws used bytes n m h r = omega arith
@@ -119,8 +119,8 @@ module _ (ws : List ℕ) (used : ℕ) (bytes : List ℕ) (j : ℕ) where
     row-keyed Slots h = refl
     row-keyed View h = refl
     row-keyed KnownBlocks h =
-        number-row ∙ ap (λ (b : Block). numberKey (b .number)) (known-row makeBlock ws used (packetOf bytes .blocks) j (visible genesis) (ltb-true j used h) refl)
-    row-keyed KnownVotes h = vote-row ∙ ap voteKey (known-row makeVote ws used (packetOf bytes .votes) j (visible noVote) (ltb-true j used h) refl)
+        number-row ∙ ap (λ (b : Block). numberKey (b .number)) (known-row makeBlock ws used (packetOf bytes .blocks) j (inView genesis) (ltb-true j used h) refl)
+    row-keyed KnownVotes h = vote-row ∙ ap voteKey (known-row makeVote ws used (packetOf bytes .votes) j (inView noVote) (ltb-true j used h) refl)
 
   pub packet-keyed : (kind : Kind) → Readable kind ws used bytes (j + 1) → inTable kind used j ≡ false → packetKey kind bytes (j - used) ≡ keyAt kind ws used bytes j
   packet-keyed Blocks r h = absurd (no-flag h)

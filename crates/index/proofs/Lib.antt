@@ -1,7 +1,7 @@
 -- The proofs of the functions, and what the index says of blocks and votes. Assumes nothing.
 pub mod Keys
 pub mod Known
-pub mod Places
+pub mod Links
 pub mod Tables
 pub mod Found
 pub mod Joined

@@ -1,4 +1,4 @@
--- The key at each place, for each kind of entry, and the links that are an index of the first places. Assumes nothing.
+-- The key of each row, for each kind of entry, and the links that are an index of the first rows. Assumes nothing.
 use Prim.Native.Nat.{ℕ, zero, suc, _+_, _*_, _≤_, _<_}
 use mathlib.Core.Bool.{Bool, true, false, cond}
 use mathlib.Core.List.{List, [], _∷_, _++_}
@@ -19,8 +19,8 @@ use Rattle.index.specs.declared.Kind.the-variants.{Blocks, Votes, Slots,
 use Rattle.index.specs.Keys.{numberKey, voteKey, sameKey, keyShape}
 
 -- the first `used` rows of a table, and then a packet's entries
-unfoldable pub joined : {A : Type 0} → Make (Marked A) → List ℕ → ℕ → List A → List A
-joined make ws used ys = entries (rowsOf make ws used) ++ ys
+unfoldable pub rowsThenEntries : {A : Type 0} → Make (Marked A) → List ℕ → ℕ → List A → List A
+rowsThenEntries make ws used ys = entries (rowsOf make ws used) ++ ys
 
 -- how many words a row has, and where those of a key stand in it
 abbrev pub offsetsOf : Kind → Offsets
@@ -48,17 +48,17 @@ packetKey Votes bytes i = noKey
 packetKey Slots bytes i = noKey
 packetKey View bytes i = noKey
 
--- the key at place j: of a row, or of the table's rows and then the packet's entries; by voter and slot a row has its slot or its mark in the
--- place of the number
+-- the key of row j: of the table's rows alone, or of these and then the packet's entries; by voter and slot its slot or its mark stands where the
+-- number does
 abbrev pub keyAt : Kind → List ℕ → ℕ → List ℕ → ℕ → Key
 keyAt Blocks ws used bytes j = numberKey (rowAt makeBlock ws j .entry .number)
 keyAt Votes ws used bytes j = voteKey (rowAt makeVote ws j .entry)
 keyAt Slots ws used bytes j = let v = rowAt makeVote ws j .entry in record { a = v .slot; b = v .slot; c = v .voter; d = 0 }
 keyAt View ws used bytes j = let v = rowAt makeVote ws j .entry in record { a = getD (drop (voteWords * j) ws) 4 0; b = v .slot; c = v .voter; d = 0 }
-keyAt KnownBlocks ws used bytes j = numberKey (getD (joined makeBlock ws used (packetOf bytes .blocks)) j genesis .number)
-keyAt KnownVotes ws used bytes j = voteKey (getD (joined makeVote ws used (packetOf bytes .votes)) j noVote)
+keyAt KnownBlocks ws used bytes j = numberKey (getD (rowsThenEntries makeBlock ws used (packetOf bytes .blocks)) j genesis .number)
+keyAt KnownVotes ws used bytes j = voteKey (getD (rowsThenEntries makeVote ws used (packetOf bytes .votes)) j noVote)
 
--- place j is a row
+-- row j is one of the table's
 abbrev pub inTable : Kind → ℕ → ℕ → Bool
 inTable KnownBlocks used j = ltb j used
 inTable KnownVotes used j = ltb j used
@@ -67,7 +67,7 @@ inTable Votes used j = true
 inTable Slots used j = true
 inTable View used j = true
 
--- place i is one of the packet's
+-- entry i is one of the packet's
 abbrev pub InPacket : Kind → List ℕ → ℕ → Type 0
 InPacket KnownBlocks bytes i = i < length (packetOf bytes .blocks)
 InPacket KnownVotes bytes i = i < length (packetOf bytes .votes)
@@ -76,7 +76,7 @@ InPacket Votes bytes i = ⊥
 InPacket Slots bytes i = ⊥
 InPacket View bytes i = ⊥
 
--- the first n places can be read
+-- the first n rows can be read
 abbrev pub Readable : Kind → List ℕ → ℕ → List ℕ → ℕ → Type 0
 Readable Blocks ws used bytes n = BlocksFit n ws
 Readable Votes ws used bytes n = VotesFit n ws
@@ -88,11 +88,11 @@ Readable KnownVotes ws used bytes n = VotesFit used ws × (n ≤ used + length (
 abbrev pub IndexOf : Kind → List ℕ → ℕ → List ℕ → ℕ → List ℕ → Type 0
 IndexOf kind ws used bytes n ls = Index keyShape (keyAt kind ws used bytes) n ls
 
--- links with room for n places
+-- links with room for n rows
 abbrev pub Room : ℕ → List ℕ → Type 0
 Room n ls = (n ≤ 65535) × (8192 + 4 * n ≤ length ls)
 
--- the keys of the first n places
+-- the keys of the first n rows
 unfoldable pub listed : (ℕ → Key) → ℕ → List Key
 listed key zero = []
 listed key (suc n) = listed key n ++ (key n ∷ [])

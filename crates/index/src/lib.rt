@@ -1,5 +1,5 @@
 // One index for every kind of entry, in links that a caller lends: blocks by number, votes, and votes by voter and slot; of a table alone, or of
-// a table and then a packet. What differs between the kinds is the key that stands at a place. The descent, adding and building are the same.
+// a table and then a packet. What differs between the kinds is the key of a row. The descent, adding and building are the same.
 // Two keys that differ part at the first digit in which they differ, so a descent meets at most 65 blocks, 77 votes (81 of a packet, whose voters
 // are below 256), and 14 votes by voter and slot, where voters are below 64 and slots below 2^30. Honest entries meet one or two.
 // No function keeps an array: the largest call takes less than 1 KB of stack.
@@ -17,12 +17,12 @@ ghost use Rattle.protocol.specs.Packet.{packetOf};
 ghost use Rattle.packets.specs.Header.{noVote};
 ghost use Rattle.protocol.specs.Lent.{BlocksFit, VotesFit, rowsOf, makeBlock, makeVote};
 ghost use Rattle.bitset.specs.Bitset.{inserted};
-ghost use Rattle.search_tree.specs.Tree.{Placed, Sought, Blank};
+ghost use Rattle.search_tree.specs.Tree.{Points, Sought, Blank};
 ghost use Rattle.index.specs.Keys.{numberKey, voteKey, sameKey, rootOf, firstOf, restOf, keyShape};
 ghost use Rattle.index.specs.declared.Kind.the-variants.{KnownBlocks, KnownVotes};
 ghost use Rattle.index.specs.Index.{offsetsOf, rowKey, packetKey, keyAt, inTable, InPacket, Readable, IndexOf, Room, keysDiffer};
-ghost use Rattle.index.specs.Places.{placeOfNumber, numbersDiffer, votesDiffer, BlockIndex, VoteIndex, SlotIndex, slotKey, knownBlocks, knownVotes};
-ghost use Rattle.index.specs.Firsts.{firstPlace};
+ghost use Rattle.index.specs.Links.{linkToNumber, numbersDiffer, votesDiffer, BlockIndex, VoteIndex, SlotIndex, slotKey, knownBlocks, knownVotes};
+ghost use Rattle.index.specs.Firsts.{firstRow};
 
 // The links of an index: its roots, and four for each row. Those of the largest tables.
 pub const ROOTS: usize = 8192;
@@ -197,7 +197,7 @@ fn offsets_of(kind: Kind) -> Offsets
     }
 }
 
-// The word at a place, or 0 where the key has no upper half.
+// The word at an offset, or 0 where the key has no upper half.
 fn upper_at(words: &[u64], at: usize, wide: bool) -> u64
     requires { ⌜ at < length (now words) ⌝ }
     ensures { λ r. ⌜ r ≡ cond wide (getD (now (words .entry)) at 0) 0 ⌝ }
@@ -268,7 +268,7 @@ fn packet_key(kind: Kind, bytes: &[u8], i: usize) -> Key
     }
 }
 
-// Whether place j is a row.
+// Whether row j is one of the table's.
 fn in_table(kind: Kind, used: usize, j: usize) -> bool
     ensures { λ r. ⌜ r ≡ inTable kind used j ⌝ }
 {
@@ -282,7 +282,7 @@ fn in_table(kind: Kind, used: usize, j: usize) -> bool
     }
 }
 
-// The key at place j.
+// The key of row j, which is one of the table's or, behind these, an entry of the packet.
 fn key_at(kind: Kind, words: &[u64], used: usize, bytes: &[u8], j: usize) -> Key
     requires { ⌜ Readable kind (now words) used (now bytes) (j + 1) ⌝ }
     ensures { λ r. ⌜ r ≡ keyAt kind (now (words .entry)) used (now (bytes .entry)) j ⌝ }
@@ -295,7 +295,7 @@ fn key_at(kind: Kind, words: &[u64], used: usize, bytes: &[u8], j: usize) -> Key
 
 // ---- the index
 
-// The descent for a key, among the first n places. The cost is one step for each entry that it meets.
+// The descent for a key, among the first n rows. The cost is one step for each entry that it meets.
 fn descend(
     kind: Kind,
     words: &[u64],
@@ -306,28 +306,25 @@ fn descend(
     key: Key,
 ) -> Spot
     requires { ⌜ Readable kind (now words) used (now bytes) n × IndexOf kind (now words) used (now bytes) n (now links) ⌝ }
-    ensures { λ r. ⌜ Sought keyShape (keyAt kind (now (words .entry)) used (now (bytes .entry))) n (now (links .entry)) key (r .at) (r .place) ⌝ }
+    ensures { λ r. ⌜ Sought keyShape (keyAt kind (now (words .entry)) used (now (bytes .entry))) n (now (links .entry)) key (r .at) (r .link) ⌝ }
 {
     let mut at = root(key);
     let mut digits = first(key);
     let mut link = search_tree::link_at(links, at);
     while link != 0 {
-        let place = link - 1;
-        let met = key_at(kind, words, used, bytes, place);
+        let row = link - 1;
+        let met = key_at(kind, words, used, bytes, row);
         if same_key(met, key) {
-            return Spot {
-                at: at,
-                place: link,
-            };
+            return Spot { at: at, link: link };
         }
-        at = ROOTS + 4 * place + (digits.low % 4) as usize;
+        at = ROOTS + 4 * row + (digits.low % 4) as usize;
         digits = rest(digits);
         link = search_tree::link_at(links, at);
     }
-    Spot { at: at, place: 0 }
+    Spot { at: at, link: 0 }
 }
 
-// One more than the first place that has the key among the first n, or 0. The cost is a descent.
+// One more than the first row that has the key among the first n, or 0. The cost is a descent.
 fn find(
     kind: Kind,
     words: &[u64],
@@ -338,13 +335,13 @@ fn find(
     key: Key,
 ) -> usize
     requires { ⌜ Readable kind (now words) used (now bytes) n × IndexOf kind (now words) used (now bytes) n (now links) ⌝ }
-    ensures { λ r. ⌜ Placed (keyAt kind (now (words .entry)) used (now (bytes .entry))) n key r ⌝ }
+    ensures { λ r. ⌜ Points (keyAt kind (now (words .entry)) used (now (bytes .entry))) n key r ⌝ }
 {
     let spot = descend(kind, words, used, bytes, n, links, key);
-    spot.place
+    spot.link
 }
 
-// Place n, which has this key, joins the index of those before it; the answer is one more than the first of these that has the key, or 0.
+// Row n, which has this key, joins the index of those before it; the answer is one more than the first of these that has the key, or 0.
 // The cost is a descent.
 fn add_key(
     kind: Kind,
@@ -357,28 +354,28 @@ fn add_key(
 ) -> usize
     requires { ⌜ Readable kind (now words) used (now bytes) (n + 1) × Room (n + 1) (now links) × IndexOf kind (now words) used (now bytes) n (now links)
         × (key ≡ keyAt kind (now words) used (now bytes) n) ⌝ }
-    ensures { λ r. ⌜ Placed (keyAt kind (now (words .entry)) used (now (bytes .entry))) n (keyAt kind (now (words .entry)) used (now (bytes .entry)) n) r
+    ensures { λ r. ⌜ Points (keyAt kind (now (words .entry)) used (now (bytes .entry))) n (keyAt kind (now (words .entry)) used (now (bytes .entry)) n) r
         × IndexOf kind (now (words .entry)) used (now (bytes .entry)) (n + 1) (now (links .exit)) ⌝ }
 {
     let spot = descend(kind, words, used, bytes, n, links, key);
-    let place = spot.place;
-    if place == 0 {
+    let link = spot.link;
+    if link == 0 {
         search_tree::put_link(links, spot.at, n + 1);
     }
-    place
+    link
 }
 
 // The same, with the key that is read there.
 fn add(kind: Kind, words: &[u64], used: usize, bytes: &[u8], n: usize, links: &mut [u16]) -> usize
     requires { ⌜ Readable kind (now words) used (now bytes) (n + 1) × Room (n + 1) (now links) × IndexOf kind (now words) used (now bytes) n (now links) ⌝ }
-    ensures { λ r. ⌜ Placed (keyAt kind (now (words .entry)) used (now (bytes .entry))) n (keyAt kind (now (words .entry)) used (now (bytes .entry)) n) r
+    ensures { λ r. ⌜ Points (keyAt kind (now (words .entry)) used (now (bytes .entry))) n (keyAt kind (now (words .entry)) used (now (bytes .entry)) n) r
         × IndexOf kind (now (words .entry)) used (now (bytes .entry)) (n + 1) (now (links .exit)) ⌝ }
 {
     let key = key_at(kind, words, used, bytes, n);
     add_key(kind, words, used, bytes, n, links, key)
 }
 
-// The index of the first n places, in links that are all free; and whether their keys differ. The cost is a descent for each place.
+// The index of the first n rows, in links that are all free; and whether their keys differ. The cost is a descent for each row.
 fn build(kind: Kind, words: &[u64], used: usize, bytes: &[u8], n: usize, links: &mut [u16]) -> bool
     requires { ⌜ Readable kind (now words) used (now bytes) n × Room n (now links) × Blank (now links) ⌝ }
     ensures { λ r. ⌜ (r ≡ keysDiffer (keyAt kind (now (words .entry)) used (now (bytes .entry))) n)
@@ -395,10 +392,10 @@ fn build(kind: Kind, words: &[u64], used: usize, bytes: &[u8], n: usize, links: 
     differ
 }
 
-// What `find` answers, with no index: the places are searched. The cost is a step for each.
+// What `find` answers, with no index: the rows are searched. The cost is a step for each.
 fn search(kind: Kind, words: &[u64], used: usize, bytes: &[u8], n: usize, key: Key) -> usize
     requires { ⌜ Readable kind (now words) used (now bytes) n ⌝ }
-    ensures { λ r. ⌜ Placed (keyAt kind (now (words .entry)) used (now (bytes .entry))) n key r ⌝ }
+    ensures { λ r. ⌜ Points (keyAt kind (now (words .entry)) used (now (bytes .entry))) n key r ⌝ }
 {
     let mut j: usize = 0;
     while j < n {
@@ -423,7 +420,7 @@ fn seek(
     key: Key,
 ) -> usize
     requires { ⌜ Readable kind (now words) used (now bytes) n × (indexed ≡ true → IndexOf kind (now words) used (now bytes) n (now links)) ⌝ }
-    ensures { λ r. ⌜ Placed (keyAt kind (now (words .entry)) used (now (bytes .entry))) n key r ⌝ }
+    ensures { λ r. ⌜ Points (keyAt kind (now (words .entry)) used (now (bytes .entry))) n key r ⌝ }
 {
     if indexed {
         return find(kind, words, used, bytes, n, links, key);
@@ -444,7 +441,7 @@ fn join(
 ) -> usize
     requires { ⌜ Readable kind (now words) used (now bytes) (n + 1) × (indexed ≡ true → Room (n + 1) (now links) × IndexOf kind (now words) used (now bytes) n (now links))
         × (key ≡ keyAt kind (now words) used (now bytes) n) ⌝ }
-    ensures { λ r. ⌜ Placed (keyAt kind (now (words .entry)) used (now (bytes .entry))) n (keyAt kind (now (words .entry)) used (now (bytes .entry)) n) r
+    ensures { λ r. ⌜ Points (keyAt kind (now (words .entry)) used (now (bytes .entry))) n (keyAt kind (now (words .entry)) used (now (bytes .entry)) n) r
         × (indexed ≡ true → IndexOf kind (now (words .entry)) used (now (bytes .entry)) (n + 1) (now (links .exit))) ⌝ }
 {
     if indexed {
@@ -473,10 +470,10 @@ pub fn build_votes(votes: &[u64], used: usize, links: &mut [u16]) -> bool
     build(Kind::Votes, votes, 0, b"", used, links)
 }
 
-// One more than the place of the first block with the number among the first n, or 0. The cost is a descent.
-pub fn place(blocks: &[u64], n: usize, links: &[u16], number: Number) -> usize
+// One more than the row of the first block with the number among the first n, or 0. The cost is a descent.
+pub fn link(blocks: &[u64], n: usize, links: &[u16], number: Number) -> usize
     requires { ⌜ BlocksFit n (now blocks) × BlockIndex (now blocks) n (now links) ⌝ }
-    ensures { λ r. ⌜ r ≡ placeOfNumber (rowsOf makeBlock (now (blocks .entry)) n) (value number) ⌝ }
+    ensures { λ r. ⌜ r ≡ linkToNumber (rowsOf makeBlock (now (blocks .entry)) n) (value number) ⌝ }
 {
     let key = number_key(number);
     find(Kind::Blocks, blocks, 0, b"", n, links, key)
@@ -490,11 +487,11 @@ pub fn add_block(blocks: &[u64], n: usize, links: &mut [u16])
     add(Kind::Blocks, blocks, 0, b"", n, links);
 }
 
-// Row n joins the index by voter and slot of the rows before it; the answer is one more than the place of the first of these with its voter
+// Row n joins the index by voter and slot of the rows before it; the answer is one more than the row of the first of these with its voter
 // and slot, or 0. Of the view, rows that wait are kept apart. The cost is a descent.
 pub fn slot_add(votes: &[u64], n: usize, whole: bool, links: &mut [u16]) -> usize
     requires { ⌜ VotesFit (n + 1) (now votes) × Room (n + 1) (now links) × SlotIndex whole (now votes) n (now links) ⌝ }
-    ensures { λ r. ⌜ Placed (slotKey whole (now (votes .entry))) n (slotKey whole (now (votes .entry)) n) r
+    ensures { λ r. ⌜ Points (slotKey whole (now (votes .entry))) n (slotKey whole (now (votes .entry)) n) r
         × SlotIndex whole (now (votes .entry)) (n + 1) (now (links .exit)) ⌝ }
 {
     if whole {
@@ -505,7 +502,7 @@ pub fn slot_add(votes: &[u64], n: usize, whole: bool, links: &mut [u16]) -> usiz
 
 // ---- of a table and then a packet
 
-// The block at place j.
+// The block at row j.
 pub fn block_at(blocks: &[u64], used: usize, bytes: &[u8], j: usize) -> Block
     requires { ⌜ BlocksFit used (now blocks) × (j < used + length (packetOf (now bytes) .blocks)) ⌝ }
     ensures { λ r. ⌜ blockOf r ≡ getD (knownBlocks (now (blocks .entry)) used (now (bytes .entry))) j genesis ⌝ }
@@ -517,7 +514,7 @@ pub fn block_at(blocks: &[u64], used: usize, bytes: &[u8], j: usize) -> Block
     packets::block_at(bytes, j - used)
 }
 
-// One more than the first place that has the number among the first n, or 0. The cost is a descent; where the links are no index, a search.
+// One more than the first row that has the number among the first n, or 0. The cost is a descent; where the links are no index, a search.
 pub fn known_block(
     blocks: &[u64],
     used: usize,
@@ -528,7 +525,7 @@ pub fn known_block(
     number: Number,
 ) -> usize
     requires { ⌜ Readable KnownBlocks (now blocks) used (now bytes) n × (indexed ≡ true → IndexOf KnownBlocks (now blocks) used (now bytes) n (now links)) ⌝ }
-    ensures { λ r. ⌜ Placed (keyAt KnownBlocks (now (blocks .entry)) used (now (bytes .entry))) n (numberKey (value number)) r ⌝ }
+    ensures { λ r. ⌜ Points (keyAt KnownBlocks (now (blocks .entry)) used (now (bytes .entry))) n (numberKey (value number)) r ⌝ }
 {
     let key = number_key(number);
     seek(
@@ -543,7 +540,7 @@ pub fn known_block(
     )
 }
 
-// The block at place n, which has this number, joins those before it; the answer is one more than the first of these that has it, or 0. The cost
+// The block at row n, which has this number, joins those before it; the answer is one more than the first of these that has it, or 0. The cost
 // is a descent; where the links are no index, a search.
 pub fn join_block(
     blocks: &[u64],
@@ -557,7 +554,7 @@ pub fn join_block(
     requires { ⌜ Readable KnownBlocks (now blocks) used (now bytes) (n + 1)
         × (indexed ≡ true → Room (n + 1) (now links) × IndexOf KnownBlocks (now blocks) used (now bytes) n (now links))
         × (value number ≡ getD (knownBlocks (now blocks) used (now bytes)) n genesis .number) ⌝ }
-    ensures { λ r. ⌜ Placed (keyAt KnownBlocks (now (blocks .entry)) used (now (bytes .entry))) n (keyAt KnownBlocks (now (blocks .entry)) used (now (bytes .entry)) n) r
+    ensures { λ r. ⌜ Points (keyAt KnownBlocks (now (blocks .entry)) used (now (bytes .entry))) n (keyAt KnownBlocks (now (blocks .entry)) used (now (bytes .entry)) n) r
         × (indexed ≡ true → IndexOf KnownBlocks (now (blocks .entry)) used (now (bytes .entry)) (n + 1) (now (links .exit))) ⌝ }
 {
     let key = number_key(number);
@@ -573,7 +570,7 @@ pub fn join_block(
     )
 }
 
-// The same for the vote at place n, which is this one.
+// The same for the vote at row n, which is this one.
 pub fn join_vote(
     votes: &[u64],
     used: usize,
@@ -586,20 +583,20 @@ pub fn join_vote(
     requires { ⌜ Readable KnownVotes (now votes) used (now bytes) (n + 1)
         × (indexed ≡ true → Room (n + 1) (now links) × IndexOf KnownVotes (now votes) used (now bytes) n (now links))
         × (voteOf vote ≡ getD (knownVotes (now votes) used (now bytes)) n noVote) ⌝ }
-    ensures { λ r. ⌜ Placed (keyAt KnownVotes (now (votes .entry)) used (now (bytes .entry))) n (keyAt KnownVotes (now (votes .entry)) used (now (bytes .entry)) n) r
+    ensures { λ r. ⌜ Points (keyAt KnownVotes (now (votes .entry)) used (now (bytes .entry))) n (keyAt KnownVotes (now (votes .entry)) used (now (bytes .entry)) n) r
         × (indexed ≡ true → IndexOf KnownVotes (now (votes .entry)) used (now (bytes .entry)) (n + 1) (now (links .exit))) ⌝ }
 {
     let key = vote_key(vote);
     join(Kind::KnownVotes, votes, used, bytes, n, indexed, links, key)
 }
 
-// The first place of an entry joins the set: place - 1, or n if `place` is 0, where it was looked for among the first n.
-pub fn note_first(firsts: &mut [u64], n: usize, place: usize)
-    requires { ⌜ firstPlace n place < 64 * length (now firsts) ⌝ }
-    ensures { λ r. ⌜ now (firsts .exit) ≡ inserted (now (firsts .entry)) (firstPlace n place) ⌝ }
+// The first row of an entry joins the set: link - 1, or n if the link is 0, where it was looked for among the first n.
+pub fn note_first(firsts: &mut [u64], n: usize, link: usize)
+    requires { ⌜ firstRow n link < 64 * length (now firsts) ⌝ }
+    ensures { λ r. ⌜ now (firsts .exit) ≡ inserted (now (firsts .entry)) (firstRow n link) ⌝ }
 {
-    if place != 0 {
-        bitset::insert(firsts, place - 1);
+    if link != 0 {
+        bitset::insert(firsts, link - 1);
     } else {
         bitset::insert(firsts, n);
     }

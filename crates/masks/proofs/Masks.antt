@@ -11,7 +11,7 @@ use borrow.Author.Tests.{ltb-true, lt-ltb}
 use Rattle.protocol.proofs.Basics.Tests.{same-test}
 use lib.Bits.{bitOr, or-step}
 use lib.Count.{ones, ones-step}
-use Rattle.protocol.specs.Walk.{count}
+use Rattle.protocol.specs.Walk.{countBelow}
 use Rattle.masks.specs.Masks.{bitOf, maskOf, added}
 
 bit-lt : (b : Bool) → cond b 1 0 < 2
@@ -28,22 +28,22 @@ unfolding maskOf
 mask-high k p = omega (arith, bit-lt (p 0))
 
 -- counted from the lowest
-count-low : (p : ℕ → Bool) (k : ℕ) → count p (suc k) ≡ cond (p 0) 1 0 + count (λ i. p (suc i)) k
-unfolding count
+count-low : (p : ℕ → Bool) (k : ℕ) → countBelow p (suc k) ≡ cond (p 0) 1 0 + countBelow (λ i. p (suc i)) k
+unfolding countBelow
 count-low p zero = go (p 0)
   where
     go : (b : Bool) → cond b 1 0 ≡ cond b 1 0 + 0
     go true = refl
     go false = refl
-count-low p (suc k) = go (p (suc k)) (count p (suc k)) (count (λ i. p (suc i)) k) (count-low p k)
+count-low p (suc k) = go (p (suc k)) (countBelow p (suc k)) (countBelow (λ i. p (suc i)) k) (count-low p k)
   where
     go : (b : Bool) (x y : ℕ) → x ≡ cond (p 0) 1 0 + y → cond b (suc x) x ≡ cond (p 0) 1 0 + cond b (suc y) y
     go true x y e = omega arith
     go false x y e = e
 
 -- the number of ones is the number of voters
-pub ones-mask : (k : ℕ) (p : ℕ → Bool) → ones (maskOf k p) ≡ count p k
-unfolding maskOf count ones
+pub ones-mask : (k : ℕ) (p : ℕ → Bool) → ones (maskOf k p) ≡ countBelow p k
+unfolding maskOf countBelow ones
 ones-mask zero p = refl
 ones-mask (suc k) p =
     ones-step (maskOf (suc k) p) ∙ rw (mask-low, mask-high, ones-mask k (λ i. p (suc i))) (sym (count-low p k))

@@ -1,7 +1,7 @@
 // Sets of voters as words: bit v is voter v, and the weight of a set is its number of ones.
 ghost use mathlib.Core.Path.{_≡_};
 ghost use Prim.Native.Nat.{_<_};
-ghost use Rattle.protocol.specs.Walk.{count};
+ghost use Rattle.protocol.specs.Walk.{countBelow};
 ghost use Rattle.masks.specs.Masks.{maskOf, bitOf, added};
 
 // The set with one voter more.
@@ -22,7 +22,7 @@ pub fn has(mask: u64, v: u64) -> bool
 
 // The weight of a set: how many voters are in it.
 pub fn weight(mask: u64) -> u32
-    ensures { λ r. ⌜ r ≡ count (bitOf mask) 64 ⌝ }
+    ensures { λ r. ⌜ r ≡ countBelow (bitOf mask) 64 ⌝ }
 {
     u64::count_ones(mask)
 }

@@ -13,15 +13,15 @@ use Rattle.protocol.specs.Words.{value}
 use Rattle.protocol.specs.declared.Settings.{Settings}
 use Rattle.protocol.specs.declared.Clock.{Clock}
 use Rattle.protocol.specs.Entry.{Block, Vote}
-use Rattle.protocol.specs.Lists.{any}
+use Rattle.protocol.specs.Lists.{anyPass}
 use Rattle.protocol.specs.Walk as walk
 use Rattle.protocol.specs.Limits.{loom, limitsOf}
-use Rattle.protocol.specs.Store.{Marked, entries, inView, waiting, visible, showAll, sameVote, keptFrom, rowsSince, Node}
+use Rattle.protocol.specs.Store.{Marked, entries, viewOf, waiting, inView, viewAll, sameVote, keptFrom, rowsSince, Node}
 use Rattle.protocol.specs.Sound.{between, placesSound}
 use Rattle.protocol.specs.Packet.{Packet, packetOf, isProposal}
 use Rattle.protocol.specs.Refusal.{first, done}
 use Rattle.protocol.specs.Calls.Open.{openTests}
-use Rattle.protocol.specs.Calls.Receive.{receiveTests, addBlocks, addSince, blocksAfter, votesAfter, brings, stoodOn, receivedOf, receiveInto}
+use Rattle.protocol.specs.Calls.Receive.{receiveTests, addBlocks, addSince, blocksAfter, votesAfter, viewedAtOnce, stoodOn, receiveAnswer, receiveInto}
 use Rattle.protocol.specs.Calls.Propose.{proposeTests, baseOf}
 use Rattle.protocol.specs.Calls.Vote.{voteTests, headOf}
 use Rattle.protocol.specs.Calls.Merge.{mergeTests}
@@ -29,7 +29,7 @@ use Rattle.protocol.specs.Lent.{blockWords, voteWords, BlocksFit, VotesFit, Len
 use Rattle.protocol.proofs.Basics.Tests.{and-left, and-right}
 use Rattle.protocol.proofs.Calls.Passed as passed
 use Rattle.protocol.proofs.Calls.Passed.{opens}
-use Rattle.protocol.proofs.Store.Views.{length-show}
+use Rattle.protocol.proofs.Store.Views.{length-viewing}
 use Rattle.protocol.proofs.Lent.Rows.{blocks-fit, block-codec, vote-codec, stored-same, length-rowsOf}
 use Rattle.storing.specs.Grown.{Holds}
 use Rattle.receiving.specs.Accepted.{Accepted, onlyBlocks, onlyVotes, onlyClock}
@@ -47,22 +47,22 @@ use Rattle.verdicts.proofs.Calls.{receive-refused, receive-done, propose-refuse
 use Rattle.answers.specs.declared.Call.{Call}
 use Rattle.answers.specs.declared.Call.the-variants as call
 use Rattle.answers.specs.declared.Moved.{Moved}
-use Rattle.answers.specs.declared.Reply.{Reply}
-use Rattle.answers.specs.declared.Reply.the-variants as reply
+use Rattle.answers.specs.declared.Answer.{Answer}
+use Rattle.answers.specs.declared.Answer.the-variants as answer
 use Rattle.answers.specs.Answers.{received, block}
 use Rattle.answers.specs.Promises.{Opens, Receives, Proposes, Votes, Merges, Carries}
 use Rattle.answers.proofs.Verdict.{said, passed-ready}
 use Rattle.answers.proofs.Leaves.{left-refused, left-done}
-use Rattle.node.proofs.Tables.{store-is, store-grown, length-more, length-received, length-shown, append-shown, length-append-shown}
+use Rattle.node.proofs.Tables.{store-is, store-grown, length-more, length-received, length-viewed, append-viewed, length-append-viewed}
 
 -- ---- Open
 
 module _ (s : Settings) (m : Lent) {v : Verdict} (h : verdictOf v ≡ first (openTests s (record { blocks = placesIn blockWords (m .blocks); votes = placesIn voteWords (m .votes) }))) where
-  pub open-leaves : {e : Refusal} {r : Moved} → v ≡ Refuse e → r ≡ record { reply = reply.Refused e; clock = m .clock } → Opens s m (lent (m .blocks) (m .votes) (m .blocksUsed) (m .votesUsed) (r .clock)) (r .reply)
+  pub open-leaves : {e : Refusal} {r : Moved} → v ≡ Refuse e → r ≡ record { answer = answer.Refused e; clock = m .clock } → Opens s m (lent (m .blocks) (m .votes) (m .blocksUsed) (m .votesUsed) (r .clock)) (r .answer)
   unfolding placesOf
   open-leaves e f = left-refused (open-refused s m _ (said (Refuse _) h e)) f
 
-  pub open-clears : {x : Lent} → v ≡ Pass → x ≡ cleared m → Opens s m x reply.Done
+  pub open-clears : {x : Lent} → v ≡ Pass → x ≡ cleared m → Opens s m x answer.Done
   unfolding placesOf
   open-clears e k = left-done (open-done s m (said Pass h e)) k refl
 
@@ -77,32 +77,32 @@ open-room s bw vw h e =
 -- ---- Receive
 
 abbrev received-clock : Clock → ℕ → Bool → Clock
-received-clock k beat brought = record { seen = beat; done = k .done; merged = k .merged; proposed = cond brought (beat / 3) (k .proposed) }
+received-clock k beat viewed = record { seen = beat; done = k .done; merged = k .merged; proposed = cond viewed (beat / 3) (k .proposed) }
 
 -- a packet that comes into view is of the beat's slot
-brought-slot : (x : Node) (beat : ℕ) (p : Packet) {b : Bool} → b ≡ brings x beat p → cond b (beat / 3) (x .clock .proposed) ≡ cond b (p .slot) (x .clock .proposed)
-unfolding brings
-brought-slot x beat p {b = true} e =
+viewed-slot : (x : Node) (beat : ℕ) (p : Packet) {b : Bool} → b ≡ viewedAtOnce x beat p → cond b (beat / 3) (x .clock .proposed) ≡ cond b (p .slot) (x .clock .proposed)
+unfolding viewedAtOnce
+viewed-slot x beat p {b = true} e =
     let q : p .slot * 3 ≡ beat = eqb-true _ _ (and-left _ _ (and-right (isProposal (p .kind)) _ (sym e))) in omega arith
-brought-slot x beat p {b = false} e = refl
+viewed-slot x beat p {b = false} e = refl
 
 -- no row is lost
-pub blocks-grow : (ws : List ℕ) (n : ℕ) (p : Packet) (brought : Bool) {ws′ : List ℕ} {n′ : ℕ}
-    → Holds (Marked Block) blockRow (receiveInto 0 brought 0 (onlyBlocks (rowsOf makeBlock ws n)) p .blocks) ws ws′ n′ → n ≤ n′
+pub blocks-grow : (ws : List ℕ) (n : ℕ) (p : Packet) (viewed : Bool) {ws′ : List ℕ} {n′ : ℕ}
+    → Holds (Marked Block) blockRow (receiveInto 0 viewed 0 (onlyBlocks (rowsOf makeBlock ws n)) p .blocks) ws ws′ n′ → n ≤ n′
 unfolding receiveInto
-blocks-grow ws n p brought h =
+blocks-grow ws n p viewed h =
     let R = rowsOf makeBlock ws n in
-    omega (arith, h .used, length-received (λ b. brought && stoodOn (blocksAfter (onlyBlocks R) p) p b) R (blocksAfter (onlyBlocks R) p), length-rowsOf makeBlock ws n)
+    omega (arith, h .used, length-received (λ b. viewed && stoodOn (blocksAfter (onlyBlocks R) p) p b) R (blocksAfter (onlyBlocks R) p), length-rowsOf makeBlock ws n)
 
-pub votes-grow : (from : ℕ) (ws : List ℕ) (n : ℕ) (p : Packet) (brought : Bool) {ws′ : List ℕ} {n′ : ℕ}
-    → Holds (Marked Vote) voteRow (receiveInto from brought 0 (onlyVotes (rowsOf makeVote ws n)) p .votes) ws ws′ n′ → n ≤ n′
+pub votes-grow : (from : ℕ) (ws : List ℕ) (n : ℕ) (p : Packet) (viewed : Bool) {ws′ : List ℕ} {n′ : ℕ}
+    → Holds (Marked Vote) voteRow (receiveInto from viewed 0 (onlyVotes (rowsOf makeVote ws n)) p .votes) ws ws′ n′ → n ≤ n′
 unfolding receiveInto
-votes-grow from ws n p brought h =
+votes-grow from ws n p viewed h =
     let R = rowsOf makeVote ws n in
-    omega (arith, h .used, length-received (λ a. brought && any (sameVote a) (p .votes)) R (votesAfter from (onlyVotes R) p), length-rowsOf makeVote ws n)
+    omega (arith, h .used, length-received (λ a. viewed && anyPass (sameVote a) (p .votes)) R (votesAfter from (onlyVotes R) p), length-rowsOf makeVote ws n)
 
 module _ (s : Settings) (m : Lent) (beat : ℕ) (bytes : List ℕ) {v : Verdict} (h : verdictOf v ≡ lentVerdict s (λ p x. receiveTests s p x beat bytes) m) where
-  pub receive-leaves : {e : Refusal} {r : Moved} → v ≡ Refuse e → r ≡ record { reply = reply.Refused e; clock = m .clock } → Receives s m beat bytes (lent (m .blocks) (m .votes) (m .blocksUsed) (m .votesUsed) (r .clock)) (r .reply)
+  pub receive-leaves : {e : Refusal} {r : Moved} → v ≡ Refuse e → r ≡ record { answer = answer.Refused e; clock = m .clock } → Receives s m beat bytes (lent (m .blocks) (m .votes) (m .blocksUsed) (m .votesUsed) (r .clock)) (r .answer)
   receive-leaves e f = left-refused (receive-refused s m beat bytes _ (said (Refuse _) h e)) f
 
   tests-passed : v ≡ Pass → passed.Receives s (placesOf m) (nodeOf m) beat bytes
@@ -121,67 +121,67 @@ module _ (s : Settings) (m : Lent) (beat : ℕ) (bytes : List ℕ) {v : Verdict}
   pub receive-vote-room : {from : ℕ} → v ≡ Pass → from ≡ keptFrom s (m .clock .merged) → VotesFit (length (addSince from (entries (rowsOf makeVote (m .votes) (m .votesUsed))) (packetOf bytes .votes))) (m .votes)
   receive-vote-room e f = rw f (receive-room-votes s m beat bytes (said Pass h e))
 
-  pub receive-stores : {brought : Bool} {from : ℕ} {bw vw : List ℕ} {bu vu : ℕ} {k : Clock} → v ≡ Pass
-      → brought ≡ brings (onlyClock (m .clock)) beat (packetOf bytes)
+  pub receive-stores : {viewed : Bool} {from : ℕ} {bw vw : List ℕ} {bu vu : ℕ} {k : Clock} → v ≡ Pass
+      → viewed ≡ viewedAtOnce (onlyClock (m .clock)) beat (packetOf bytes)
       → from ≡ keptFrom s (m .clock .merged)
-      → Holds (Marked Block) blockRow (receiveInto 0 brought 0 (onlyBlocks (rowsOf makeBlock (m .blocks) (m .blocksUsed))) (packetOf bytes) .blocks) (m .blocks) bw bu
-      → Holds (Marked Vote) voteRow (receiveInto from brought 0 (onlyVotes (rowsOf makeVote (m .votes) (m .votesUsed))) (packetOf bytes) .votes) (m .votes) vw vu
-      → k ≡ received-clock (m .clock) beat brought
+      → Holds (Marked Block) blockRow (receiveInto 0 viewed 0 (onlyBlocks (rowsOf makeBlock (m .blocks) (m .blocksUsed))) (packetOf bytes) .blocks) (m .blocks) bw bu
+      → Holds (Marked Vote) voteRow (receiveInto from viewed 0 (onlyVotes (rowsOf makeVote (m .votes) (m .votesUsed))) (packetOf bytes) .votes) (m .votes) vw vu
+      → k ≡ received-clock (m .clock) beat viewed
       → Receives s m beat bytes (lent bw vw bu vu k)
-      (reply.Received (record { «new_blocks» = bu - m .blocksUsed; «new_votes» = vu - m .votesUsed; brought = brought }))
-  unfolding receivedOf receiveInto brings nodeOf blocksAfter votesAfter
-  receive-stores {brought} {from} {bw} {vw} {bu} {vu} {k} e f g b w c =
+      (answer.Received (record { «new_blocks» = bu - m .blocksUsed; «new_votes» = vu - m .votesUsed; viewed = viewed }))
+  unfolding receiveAnswer receiveInto viewedAtOnce nodeOf blocksAfter votesAfter
+  receive-stores {viewed} {from} {bw} {vw} {bu} {vu} {k} e f g b w c =
       let p = packetOf bytes in
       let R = rowsOf makeBlock (m .blocks) (m .blocksUsed) in
       let U = rowsOf makeVote (m .votes) (m .votesUsed) in
-      let x : Node = receiveInto from brought beat (nodeOf m) p in
+      let x : Node = receiveInto from viewed beat (nodeOf m) p in
       let store : lent bw vw bu vu k ≡ storeNode x m
-      = rw (c, brought-slot (nodeOf m) beat p f) (store-grown x m (b .words) (w .words) (b .used) (w .used) (omega (arith, w .used, votes-grow from (m .votes) (m .votesUsed) p brought w))) in
+      = rw (c, viewed-slot (nodeOf m) beat p f) (store-grown x m (b .words) (w .words) (b .used) (w .used) (omega (arith, w .used, votes-grow from (m .votes) (m .votesUsed) p viewed w))) in
       let nb : bu - m .blocksUsed ≡ length (addBlocks (entries R) (p .blocks)) - length R
-      = omega (arith, b .used, length-received (λ o. brought && stoodOn (addBlocks (entries R) (p .blocks)) p o) R (addBlocks (entries R) (p .blocks)), length-rowsOf makeBlock (m .blocks) (m .blocksUsed)) in
+      = omega (arith, b .used, length-received (λ o. viewed && stoodOn (addBlocks (entries R) (p .blocks)) p o) R (addBlocks (entries R) (p .blocks)), length-rowsOf makeBlock (m .blocks) (m .blocksUsed)) in
       let nv : vu - m .votesUsed ≡ length (addSince from (entries U) (p .votes)) - length U
-      = omega (arith, w .used, length-received (λ a. brought && any (sameVote a) (p .votes)) U (addSince from (entries U) (p .votes)), length-rowsOf makeVote (m .votes) (m .votesUsed)) in
+      = omega (arith, w .used, length-received (λ a. viewed && anyPass (sameVote a) (p .votes)) U (addSince from (entries U) (p .votes)), length-rowsOf makeVote (m .votes) (m .votesUsed)) in
       left-done (receive-done s m beat bytes (said Pass h e)) (store ∙ (λ i. storeNode (receiveInto (g i) (f i) beat (nodeOf m) p) m))
-      (λ i. done (received (record { newBlocks = nb i; newVotes = (nv ∙ ap (λ (o : ℕ). length (addSince o (entries U) (p .votes)) - length U) g) i; brought = f i })))
+      (λ i. done (received (record { newBlocks = nb i; newVotes = (nv ∙ ap (λ (o : ℕ). length (addSince o (entries U) (p .votes)) - length U) g) i; viewed = f i })))
 
 -- ---- Propose
 
 module _ (s : Settings) (m : Lent) (beat number : ℕ) {v : Verdict} (h : verdictOf v ≡ lentVerdict s (λ p x. proposeTests s p x beat number) m) where
-  pub propose-leaves : {e : Refusal} {r : Moved} → v ≡ Refuse e → r ≡ record { reply = reply.Refused e; clock = m .clock } → Proposes s m beat number (lent (m .blocks) (m .votes) (m .blocksUsed) (m .votesUsed) (r .clock)) (r .reply)
+  pub propose-leaves : {e : Refusal} {r : Moved} → v ≡ Refuse e → r ≡ record { answer = answer.Refused e; clock = m .clock } → Proposes s m beat number (lent (m .blocks) (m .votes) (m .blocksUsed) (m .votesUsed) (r .clock)) (r .answer)
   propose-leaves e f = left-refused (propose-refused s m beat number _ (said (Refuse _) h e)) f
 
   pub propose-room : v ≡ Pass → BlocksFit (m .blocksUsed + 1) (m .blocks)
   propose-room e = places.propose-room s m beat number (said Pass h e)
 
-  pub propose-stores : {base : Number} {bu : ℕ} {shown bw vw : List ℕ} → v ≡ Pass
-      → value base ≡ walk.base (entries (rowsOf makeBlock (m .blocks) (m .blocksUsed))) (entries (rowsOf makeVote (m .votes) (m .votesUsed))) (s .nodes) (s .expiry) (beat / 3)
-      → shown ≡ stored blockRow (showAll (rowsOf makeBlock (m .blocks) (m .blocksUsed))) (m .blocks)
-      → bw ≡ stored blockRow (rowsOf makeBlock shown (m .blocksUsed) ++ (visible (record { number = number; parent = value base; slot = beat / 3 }) ∷ [])) shown
+  pub propose-stores : {base : Number} {bu : ℕ} {viewed bw vw : List ℕ} → v ≡ Pass
+      → value base ≡ walk.baseBlock (entries (rowsOf makeBlock (m .blocks) (m .blocksUsed))) (entries (rowsOf makeVote (m .votes) (m .votesUsed))) (s .nodes) (s .expiry) (beat / 3)
+      → viewed ≡ stored blockRow (viewAll (rowsOf makeBlock (m .blocks) (m .blocksUsed))) (m .blocks)
+      → bw ≡ stored blockRow (rowsOf makeBlock viewed (m .blocksUsed) ++ (inView (record { number = number; parent = value base; slot = beat / 3 }) ∷ [])) viewed
       → bu ≡ m .blocksUsed + 1
-      → vw ≡ stored voteRow (showAll (rowsOf makeVote (m .votes) (m .votesUsed))) (m .votes)
-      → Proposes s m beat number (lent bw vw bu (m .votesUsed) (record { seen = beat; done = beat; merged = m .clock .merged; proposed = beat / 3 })) (reply.Block base)
+      → vw ≡ stored voteRow (viewAll (rowsOf makeVote (m .votes) (m .votesUsed))) (m .votes)
+      → Proposes s m beat number (lent bw vw bu (m .votesUsed) (record { seen = beat; done = beat; merged = m .clock .merged; proposed = beat / 3 })) (answer.Block base)
   unfolding nodeOf baseOf
   propose-stores {base} e f g b n w =
-      let new : Marked Block = visible (record { number = number; parent = value base; slot = beat / 3 }) in
+      let new : Marked Block = inView (record { number = number; parent = value base; slot = beat / 3 }) in
       left-done (propose-done s m beat number (said Pass h e))
-      (rw (← f) (store-grown _ m (append-shown block-codec (m .blocks) (m .blocksUsed) g new b) w
-      (n ∙ length-append-shown block-codec (m .blocks) (m .blocksUsed) new) (length-shown vote-codec (m .votes) (m .votesUsed)) (le-of-eq (length-shown vote-codec (m .votes) (m .votesUsed)))))
+      (rw (← f) (store-grown _ m (append-viewed block-codec (m .blocks) (m .blocksUsed) g new b) w
+      (n ∙ length-append-viewed block-codec (m .blocks) (m .blocksUsed) new) (length-viewed vote-codec (m .votes) (m .votesUsed)) (le-of-eq (length-viewed vote-codec (m .votes) (m .votesUsed)))))
       (ap (λ (x : ℕ). done (block x)) f)
 
 -- ---- Vote
 
 module _ (s : Settings) (m : Lent) (beat : ℕ) {v : Verdict} (h : verdictOf v ≡ lentVerdict s (λ p x. voteTests s p x beat) m) where
-  pub vote-leaves : {e : Refusal} {r : Moved} → v ≡ Refuse e → r ≡ record { reply = reply.Refused e; clock = m .clock } → Votes s m beat (lent (m .blocks) (m .votes) (m .blocksUsed) (m .votesUsed) (r .clock)) (r .reply)
+  pub vote-leaves : {e : Refusal} {r : Moved} → v ≡ Refuse e → r ≡ record { answer = answer.Refused e; clock = m .clock } → Votes s m beat (lent (m .blocks) (m .votes) (m .blocksUsed) (m .votesUsed) (r .clock)) (r .answer)
   vote-leaves e f = left-refused (vote-refused s m beat _ (said (Refuse _) h e)) f
 
   pub vote-room : v ≡ Pass → VotesFit (m .votesUsed + 1) (m .votes)
   vote-room e = places.vote-room s m beat (said Pass h e)
 
   pub vote-stores : {head : Number} {vu : ℕ} {vw : List ℕ} → v ≡ Pass
-      → value head ≡ walk.head (inView (rowsOf makeBlock (m .blocks) (m .blocksUsed))) (inView (rowsOf makeVote (m .votes) (m .votesUsed))) (s .nodes) (s .expiry) (beat / 3)
+      → value head ≡ walk.headBlock (viewOf (rowsOf makeBlock (m .blocks) (m .blocksUsed))) (viewOf (rowsOf makeVote (m .votes) (m .votesUsed))) (s .nodes) (s .expiry) (beat / 3)
       → vw ≡ stored voteRow (rowsOf makeVote (m .votes) (m .votesUsed) ++ (waiting (record { voter = s .own; slot = beat / 3; number = value head }) ∷ [])) (m .votes)
       → vu ≡ m .votesUsed + 1
-      → Votes s m beat (lent (m .blocks) vw (m .blocksUsed) vu (record { seen = beat; done = beat; merged = m .clock .merged; proposed = m .clock .proposed })) (reply.Block head)
+      → Votes s m beat (lent (m .blocks) vw (m .blocksUsed) vu (record { seen = beat; done = beat; merged = m .clock .merged; proposed = m .clock .proposed })) (answer.Block head)
   unfolding nodeOf headOf
   vote-stores {head} e f w n =
       let R = passed-ready s _ m h e .memory in
@@ -194,23 +194,23 @@ module _ (s : Settings) (m : Lent) (beat : ℕ) {v : Verdict} (h : verdictOf v �
 -- ---- Merge
 
 module _ (s : Settings) (m : Lent) (beat : ℕ) {v : Verdict} (h : verdictOf v ≡ lentVerdict s (λ p x. mergeTests s p x beat) m) where
-  pub merge-leaves : {e : Refusal} {r : Moved} → v ≡ Refuse e → r ≡ record { reply = reply.Refused e; clock = m .clock } → Merges s m beat (lent (m .blocks) (m .votes) (m .blocksUsed) (m .votesUsed) (r .clock)) (r .reply)
+  pub merge-leaves : {e : Refusal} {r : Moved} → v ≡ Refuse e → r ≡ record { answer = answer.Refused e; clock = m .clock } → Merges s m beat (lent (m .blocks) (m .votes) (m .blocksUsed) (m .votesUsed) (r .clock)) (r .answer)
   merge-leaves e f = left-refused (merge-refused s m beat _ (said (Refuse _) h e)) f
 
   pub merge-stores : {from vu : ℕ} {bw vw : List ℕ} → v ≡ Pass → from ≡ keptFrom s (beat / 3)
-      → bw ≡ stored blockRow (showAll (rowsOf makeBlock (m .blocks) (m .blocksUsed))) (m .blocks)
-      → vw ≡ stored voteRow (showAll (rowsSince from (rowsOf makeVote (m .votes) (m .votesUsed)))) (emptied (m .votesUsed) (m .votes))
+      → bw ≡ stored blockRow (viewAll (rowsOf makeBlock (m .blocks) (m .blocksUsed))) (m .blocks)
+      → vw ≡ stored voteRow (viewAll (rowsSince from (rowsOf makeVote (m .votes) (m .votesUsed)))) (emptied (m .votesUsed) (m .votes))
       → vu ≡ length (rowsSince from (rowsOf makeVote (m .votes) (m .votesUsed)))
-      → Merges s m beat (lent bw vw (m .blocksUsed) vu (record { seen = beat; done = beat; merged = beat / 3; proposed = m .clock .proposed })) reply.Done
-  unfolding nodeOf showAll
+      → Merges s m beat (lent bw vw (m .blocksUsed) vu (record { seen = beat; done = beat; merged = beat / 3; proposed = m .clock .proposed })) answer.Done
+  unfolding nodeOf viewAll
   merge-stores {from} e f b w n =
       left-done (merge-done s m beat (said Pass h e))
-      (rw (← f) (store-is _ m b w (length-shown block-codec (m .blocks) (m .blocksUsed))
-      (n ∙ sym (length-show (λ a. true) (rowsSince from (rowsOf makeVote (m .votes) (m .votesUsed))))))) refl
+      (rw (← f) (store-is _ m b w (length-viewed block-codec (m .blocks) (m .blocksUsed))
+      (n ∙ sym (length-viewing (λ a. true) (rowsSince from (rowsOf makeVote (m .votes) (m .votesUsed))))))) refl
 
 -- ---- the call that is asked for
 
-module _ (s : Settings) (m : Lent) (beat : ℕ) (bytes : List ℕ) {after : Lent} {r : Reply} {c : Call} where
+module _ (s : Settings) (m : Lent) (beat : ℕ) (bytes : List ℕ) {after : Lent} {r : Answer} {c : Call} where
   pub carries-receive : c ≡ call.Receive → Receives s m beat bytes after r → Carries s m c beat bytes after r
   unfolding Carries
   carries-receive e h = rw e h

@@ -5,9 +5,9 @@ use mathlib.Core.List.{List, [], _∷_, _++_}
 use mathlib.Core.Path.{_≡_, refl, ap, sym, _∙_}
 use native.Mathlib.Omega.{arith}
 use lib.ListN.{length, drop, length-append, length-drop}
-use Rattle.protocol.specs.Store.{Marked, allWaiting, show, showAll, Node}
+use Rattle.protocol.specs.Store.{Marked, allWaiting, view, viewAll, Node}
 use Rattle.protocol.specs.Lent.{Lent, Make, rowsOf, stored, blockRow, voteRow, marksSound, emptied, storeNode}
-use Rattle.protocol.proofs.Store.Views.{length-show}
+use Rattle.protocol.proofs.Store.Views.{length-viewing}
 use Rattle.protocol.proofs.Lent.Rows.{Codec, stored-emptied, rows-stored, marks-stored, length-rowsOf}
 use Rattle.rows.proofs.Stored.{stored-longer}
 use Rattle.verdicts.specs.Lent.{lent}
@@ -37,28 +37,28 @@ length-waiting [] = refl
 length-waiting (a ∷ xs) = ap suc (length-waiting xs)
 
 pub length-received : {A : Type 0} (q : A → Bool) (ms : List (Marked A)) (xs : List A)
-    → length (show q (ms ++ allWaiting (drop (length ms) xs))) ≡ length ms + (length xs - length ms)
+    → length (view q (ms ++ allWaiting (drop (length ms) xs))) ≡ length ms + (length xs - length ms)
 length-received q ms xs =
     let new = drop (length ms) xs in
-    omega (arith, length-show q (ms ++ allWaiting new), length-append ms (allWaiting new), length-waiting new, length-drop (length ms) xs)
+    omega (arith, length-viewing q (ms ++ allWaiting new), length-append ms (allWaiting new), length-waiting new, length-drop (length ms) xs)
 
 -- ---- all rows come into view
 
 module _ {A : Type 0} {make : Make (Marked A)} {row : Marked A → List ℕ} (codec : Codec (Marked A) make row) (ws : List ℕ) (n : ℕ) where
-  pub length-shown : n ≡ length (showAll (rowsOf make ws n))
-  unfolding showAll
-  length-shown = sym (length-show _ (rowsOf make ws n) ∙ length-rowsOf make ws n)
+  pub length-viewed : n ≡ length (viewAll (rowsOf make ws n))
+  unfolding viewAll
+  length-viewed = sym (length-viewing _ (rowsOf make ws n) ∙ length-rowsOf make ws n)
 
-  module _ {shown : List ℕ} (e : shown ≡ stored row (showAll (rowsOf make ws n)) ws) where
-    pub shown-marks : marksSound make shown n ≡ true
-    shown-marks = rw e (marks-stored codec (showAll (rowsOf make ws n)) ws n (sym length-shown))
+  module _ {viewed : List ℕ} (e : viewed ≡ stored row (viewAll (rowsOf make ws n)) ws) where
+    pub viewed-marks : marksSound make viewed n ≡ true
+    viewed-marks = rw e (marks-stored codec (viewAll (rowsOf make ws n)) ws n (sym length-viewed))
 
     -- and one row more
-    pub append-shown : (a : Marked A) {more : List ℕ} → more ≡ stored row (rowsOf make shown n ++ (a ∷ [])) shown
-        → more ≡ stored row (showAll (rowsOf make ws n) ++ (a ∷ [])) ws
-    append-shown a f =
-        let S = showAll (rowsOf make ws n) in
-        f ∙ rw (e, rows-stored codec S ws n (sym length-shown)) (stored-longer codec (S ++ (a ∷ [])) S ws (omega (arith, length-append S (a ∷ []))))
+    pub append-viewed : (a : Marked A) {more : List ℕ} → more ≡ stored row (rowsOf make viewed n ++ (a ∷ [])) viewed
+        → more ≡ stored row (viewAll (rowsOf make ws n) ++ (a ∷ [])) ws
+    append-viewed a f =
+        let S = viewAll (rowsOf make ws n) in
+        f ∙ rw (e, rows-stored codec S ws n (sym length-viewed)) (stored-longer codec (S ++ (a ∷ [])) S ws (omega (arith, length-append S (a ∷ []))))
 
-  pub length-append-shown : (a : Marked A) → n + 1 ≡ length (showAll (rowsOf make ws n) ++ (a ∷ []))
-  length-append-shown a = omega (arith, length-append (showAll (rowsOf make ws n)) (a ∷ []), length-shown)
+  pub length-append-viewed : (a : Marked A) → n + 1 ≡ length (viewAll (rowsOf make ws n) ++ (a ∷ []))
+  length-append-viewed a = omega (arith, length-append (viewAll (rowsOf make ws n)) (a ∷ []), length-viewed)

@@ -1,9 +1,9 @@
 // The calls that change a node's memory: Open, Receive, Propose, Vote and Merge.
 // Each takes any memory that a caller may lend: the verdict comes first, and a refused call writes nothing.
+use answers::Answer;
 use answers::Call;
 use answers::Moved;
-use answers::Reply;
-use answers::Taken;
+use answers::Received;
 use protocol::Block;
 use protocol::Clock;
 use protocol::Number;
@@ -15,16 +15,16 @@ ghost use mathlib.Core.Bool.{cond};
 ghost use mathlib.Core.Path.{_≡_};
 ghost use Prim.Native.Nat.{_/_};
 ghost use Rattle.protocol.specs.Words.{value};
-ghost use Rattle.verdicts.specs.Lent.{lent};
-ghost use Rattle.answers.specs.declared.Reply.the-variants.{Refused};
+ghost use Rattle.verdicts.specs.Lent.{lentAtEntry, lentAtExit};
+ghost use Rattle.answers.specs.declared.Answer.the-variants.{Refused};
 ghost use Rattle.answers.specs.Promises.{Opens, Receives, Proposes, Votes, Merges, Carries};
 
 // A refused call leaves the clock as it was.
 fn refused(refusal: Refusal, clock: Clock) -> Moved
-    ensures { λ r. ⌜ r ≡ record { reply = Refused refusal; clock = clock } ⌝ }
+    ensures { λ r. ⌜ r ≡ record { answer = Refused refusal; clock = clock } ⌝ }
 {
     Moved {
-        reply: Reply::Refused(refusal),
+        answer: Answer::Refused(refusal),
         clock: clock,
     }
 }
@@ -38,8 +38,8 @@ pub fn open(
     votes: &mut [u64],
     votes_used: &mut usize,
 ) -> Moved
-    ensures { λ r. ⌜ Opens settings (lent (now (blocks .entry)) (now (votes .entry)) (now («blocks_used» .entry)) (now («votes_used» .entry)) clock)
-        (lent (now (blocks .exit)) (now (votes .exit)) (now («blocks_used» .exit)) (now («votes_used» .exit)) (r .clock)) (r .reply) ⌝ }
+    ensures { λ r. ⌜ Opens settings (lentAtEntry blocks «blocks_used» votes «votes_used» clock)
+        (lentAtExit blocks «blocks_used» votes «votes_used» (r .clock)) (r .answer) ⌝ }
 {
     let verdict = verdicts::open_verdict(settings, blocks, votes);
     match verdict {
@@ -49,7 +49,7 @@ pub fn open(
             *blocks_used = 1;
             *votes_used = 0;
             Moved {
-                reply: Reply::Done,
+                answer: Answer::Done,
                 clock: Clock {
                     seen: 2,
                     done: 2,
@@ -62,10 +62,10 @@ pub fn open(
 }
 
 // The clock after a packet, which came into view or not. One that did is of the beat's slot.
-fn received_clock(clock: Clock, beat: u64, brought: bool) -> Clock
-    ensures { λ r. ⌜ r ≡ record { seen = beat; done = clock .done; merged = clock .merged; proposed = cond brought (beat / 3) (clock .proposed) } ⌝ }
+fn received_clock(clock: Clock, beat: u64, viewed: bool) -> Clock
+    ensures { λ r. ⌜ r ≡ record { seen = beat; done = clock .done; merged = clock .merged; proposed = cond viewed (beat / 3) (clock .proposed) } ⌝ }
 {
-    if brought {
+    if viewed {
         return Clock {
             seen: beat,
             done: clock.done,
@@ -93,9 +93,8 @@ pub fn receive(
     beat: u64,
     bytes: &[u8],
 ) -> Moved
-    ensures { λ r. ⌜ Receives settings (lent (now (blocks .entry)) (now (votes .entry)) (now («blocks_used» .entry)) (now («votes_used» .entry)) clock)
-        beat (now (bytes .entry))
-        (lent (now (blocks .exit)) (now (votes .exit)) (now («blocks_used» .exit)) (now («votes_used» .exit)) (r .clock)) (r .reply) ⌝ }
+    ensures { λ r. ⌜ Receives settings (lentAtEntry blocks «blocks_used» votes «votes_used» clock) beat (now (bytes .entry))
+        (lentAtExit blocks «blocks_used» votes «votes_used» (r .clock)) (r .answer) ⌝ }
 {
     let block_rows = *blocks_used;
     let vote_rows = *votes_used;
@@ -116,19 +115,19 @@ pub fn receive(
     match verdict {
         Verdict::Refuse(refusal) => refused(refusal, clock),
         Verdict::Pass => {
-            let brought = receiving::brings(clock, beat, bytes);
-            receiving::receive_blocks(blocks, blocks_used, bytes, &block_firsts, brought);
-            let from = own::kept_from(settings, clock.merged);
-            receiving::receive_votes(votes, votes_used, bytes, &vote_firsts, from, brought);
+            let viewed = receiving::viewed_at_once(clock, beat, bytes);
+            receiving::receive_blocks(blocks, blocks_used, bytes, &block_firsts, viewed);
+            let from = own_entries::kept_from(settings, clock.merged);
+            receiving::receive_votes(votes, votes_used, bytes, &vote_firsts, from, viewed);
             let new_blocks = *blocks_used - block_rows;
             let new_votes = *votes_used - vote_rows;
             Moved {
-                reply: Reply::Received(Taken {
+                answer: Answer::Received(Received {
                     new_blocks: new_blocks as u64,
                     new_votes: new_votes as u64,
-                    brought,
+                    viewed,
                 }),
-                clock: received_clock(clock, beat, brought),
+                clock: received_clock(clock, beat, viewed),
             }
         }
     }
@@ -145,9 +144,8 @@ pub fn propose(
     beat: u64,
     number: Number,
 ) -> Moved
-    ensures { λ r. ⌜ Proposes settings (lent (now (blocks .entry)) (now (votes .entry)) (now («blocks_used» .entry)) (now («votes_used» .entry)) clock)
-        beat (value number)
-        (lent (now (blocks .exit)) (now (votes .exit)) (now («blocks_used» .exit)) (now («votes_used» .exit)) (r .clock)) (r .reply) ⌝ }
+    ensures { λ r. ⌜ Proposes settings (lentAtEntry blocks «blocks_used» votes «votes_used» clock) beat (value number)
+        (lentAtExit blocks «blocks_used» votes «votes_used» (r .clock)) (r .answer) ⌝ }
 {
     let blocks_before = *blocks_used;
     let votes_before = *votes_used;
@@ -165,8 +163,15 @@ pub fn propose(
         Verdict::Refuse(refusal) => refused(refusal, clock),
         Verdict::Pass => {
             let slot = beat / 3;
-            let base = choice::base(settings, blocks, blocks_before, votes, votes_before, slot);
-            changes::show_all_blocks(blocks, blocks_before);
+            let base = fork_choice::base(
+                settings,
+                blocks,
+                blocks_before,
+                votes,
+                votes_before,
+                slot,
+            );
+            changes::view_all_blocks(blocks, blocks_before);
             changes::append_block(
                 blocks,
                 blocks_used,
@@ -177,9 +182,9 @@ pub fn propose(
                 },
                 true,
             );
-            changes::show_all_votes(votes, votes_before);
+            changes::view_all_votes(votes, votes_before);
             Moved {
-                reply: Reply::Block(base),
+                answer: Answer::Block(base),
                 clock: Clock {
                     seen: beat,
                     done: beat,
@@ -201,9 +206,8 @@ pub fn vote(
     votes_used: &mut usize,
     beat: u64,
 ) -> Moved
-    ensures { λ r. ⌜ Votes settings (lent (now (blocks .entry)) (now (votes .entry)) (now («blocks_used» .entry)) (now («votes_used» .entry)) clock)
-        beat
-        (lent (now (blocks .exit)) (now (votes .exit)) (now («blocks_used» .exit)) (now («votes_used» .exit)) (r .clock)) (r .reply) ⌝ }
+    ensures { λ r. ⌜ Votes settings (lentAtEntry blocks «blocks_used» votes «votes_used» clock) beat
+        (lentAtExit blocks «blocks_used» votes «votes_used» (r .clock)) (r .answer) ⌝ }
 {
     let block_rows = *blocks_used;
     let vote_rows = *votes_used;
@@ -220,7 +224,7 @@ pub fn vote(
         Verdict::Refuse(refusal) => refused(refusal, clock),
         Verdict::Pass => {
             let slot = beat / 3;
-            let head = choice::head(settings, blocks, block_rows, votes, vote_rows, slot);
+            let head = fork_choice::head(settings, blocks, block_rows, votes, vote_rows, slot);
             changes::append_vote(
                 votes,
                 votes_used,
@@ -232,7 +236,7 @@ pub fn vote(
                 false,
             );
             Moved {
-                reply: Reply::Block(head),
+                answer: Answer::Block(head),
                 clock: Clock {
                     seen: beat,
                     done: beat,
@@ -254,9 +258,8 @@ pub fn merge(
     votes_used: &mut usize,
     beat: u64,
 ) -> Moved
-    ensures { λ r. ⌜ Merges settings (lent (now (blocks .entry)) (now (votes .entry)) (now («blocks_used» .entry)) (now («votes_used» .entry)) clock)
-        beat
-        (lent (now (blocks .exit)) (now (votes .exit)) (now («blocks_used» .exit)) (now («votes_used» .exit)) (r .clock)) (r .reply) ⌝ }
+    ensures { λ r. ⌜ Merges settings (lentAtEntry blocks «blocks_used» votes «votes_used» clock) beat
+        (lentAtExit blocks «blocks_used» votes «votes_used» (r .clock)) (r .answer) ⌝ }
 {
     let block_rows = *blocks_used;
     let vote_rows = *votes_used;
@@ -273,11 +276,11 @@ pub fn merge(
         Verdict::Refuse(refusal) => refused(refusal, clock),
         Verdict::Pass => {
             let slot = beat / 3;
-            let from = own::kept_from(settings, slot);
-            changes::show_all_blocks(blocks, block_rows);
+            let from = own_entries::kept_from(settings, slot);
+            changes::view_all_blocks(blocks, block_rows);
             changes::merge_votes(votes, votes_used, from);
             Moved {
-                reply: Reply::Done,
+                answer: Answer::Done,
                 clock: Clock {
                     seen: beat,
                     done: beat,
@@ -303,9 +306,8 @@ fn carried(
     beat: u64,
     bytes: &[u8],
 ) -> Moved
-    ensures { λ r. ⌜ Carries settings (lent (now (blocks .entry)) (now (votes .entry)) (now («blocks_used» .entry)) (now («votes_used» .entry)) clock)
-        call beat (now (bytes .entry))
-        (lent (now (blocks .exit)) (now (votes .exit)) (now («blocks_used» .exit)) (now («votes_used» .exit)) (r .clock)) (r .reply) ⌝ }
+    ensures { λ r. ⌜ Carries settings (lentAtEntry blocks «blocks_used» votes «votes_used» clock) call beat (now (bytes .entry))
+        (lentAtExit blocks «blocks_used» votes «votes_used» (r .clock)) (r .answer) ⌝ }
 {
     match call {
         Call::Receive => receive(
@@ -360,10 +362,9 @@ pub fn carry(
     call: Call,
     beat: u64,
     bytes: &[u8],
-) -> Reply
-    ensures { λ r. ⌜ Carries settings (lent (now (blocks .entry)) (now (votes .entry)) (now («blocks_used» .entry)) (now («votes_used» .entry)) (now (clock .entry)))
-        call beat (now (bytes .entry))
-        (lent (now (blocks .exit)) (now (votes .exit)) (now («blocks_used» .exit)) (now («votes_used» .exit)) (now (clock .exit))) r ⌝ }
+) -> Answer
+    ensures { λ r. ⌜ Carries settings (lentAtEntry blocks «blocks_used» votes «votes_used» (now (clock .entry))) call beat (now (bytes .entry))
+        (lentAtExit blocks «blocks_used» votes «votes_used» (now (clock .exit))) r ⌝ }
 {
     let m = carried(
         settings,
@@ -377,7 +378,7 @@ pub fn carry(
         bytes,
     );
     *clock = m.clock;
-    m.reply
+    m.answer
 }
 
 // The same with the clock by value, for programs in Rattle: a copy of it is lent to `carry`, and returned as it was left.
@@ -392,12 +393,11 @@ pub fn step(
     beat: u64,
     bytes: &[u8],
 ) -> Moved
-    ensures { λ r. ⌜ Carries settings (lent (now (blocks .entry)) (now (votes .entry)) (now («blocks_used» .entry)) (now («votes_used» .entry)) clock)
-        call beat (now (bytes .entry))
-        (lent (now (blocks .exit)) (now (votes .exit)) (now («blocks_used» .exit)) (now («votes_used» .exit)) (r .clock)) (r .reply) ⌝ }
+    ensures { λ r. ⌜ Carries settings (lentAtEntry blocks «blocks_used» votes «votes_used» clock) call beat (now (bytes .entry))
+        (lentAtExit blocks «blocks_used» votes «votes_used» (r .clock)) (r .answer) ⌝ }
 {
     let mut k = clock;
-    let reply = carry(
+    let answer = carry(
         settings,
         &mut k,
         blocks,
@@ -408,5 +408,5 @@ pub fn step(
         beat,
         bytes,
     );
-    Moved { reply, clock: k }
+    Moved { answer, clock: k }
 }

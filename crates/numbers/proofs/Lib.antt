@@ -1,3 +1,3 @@
 -- Numbers in lent words, and the proofs of the functions. Assumes nothing.
-pub mod Kept
+pub mod NumberWords
 pub mod Tenths

@@ -2,7 +2,7 @@
 use Prim.Native.Nat.{ℕ, _+_, _*_, _/_, _%_, _<_}
 use mathlib.Core.Path.{_≡_}
 use native.Mathlib.Omega.{arith}
-use Rattle.protocol.specs.Words.{join}
+use Rattle.protocol.specs.Words.{fromHalves}
 
 pub half : (a : ℕ) → a < 18446744073709551616 → a / 4294967296 < 4294967296
 half a h = omega arith
@@ -22,8 +22,8 @@ module _ (a b : ℕ) where
   abbrev low : ℕ
   low = high % 10 * 4294967296 + a % 4294967296
 
-  pub divided : join a b ≡ 10 * join (high / 10 * 4294967296 + low / 10) (b / 10) + low % 10
-  unfolding join
+  pub divided : fromHalves a b ≡ 10 * fromHalves (high / 10 * 4294967296 + low / 10) (b / 10) + low % 10
+  unfolding fromHalves
   divided =
       let e : high ≡ 10 * (high / 10) + high % 10 = omega arith in
       let f : low ≡ 10 * (low / 10) + low % 10 = omega arith in

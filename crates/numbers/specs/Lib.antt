@@ -1,2 +1,2 @@
 -- Numbers kept in lent words. Assumes nothing.
-pub mod Kept
+pub mod NumberWords

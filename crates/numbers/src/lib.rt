@@ -5,7 +5,7 @@ ghost use Prim.Native.Nat.{_+_, _*_, _<_};
 ghost use lib.Dec.{eqb, ltb};
 ghost use lib.ListN.{length};
 ghost use Rattle.protocol.specs.Words.{value, isWide};
-ghost use Rattle.numbers.specs.Kept.{numberIn, keptIn, NumbersFit};
+ghost use Rattle.numbers.specs.NumberWords.{numberIn, keptIn, NumbersFit};
 
 pub fn same(a: Number, b: Number) -> bool
     ensures { λ r. ⌜ r ≡ eqb (value a) (value b) ⌝ }

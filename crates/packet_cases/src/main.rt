@@ -5,7 +5,7 @@ ghost use lib.ListN.{length};
 ghost use Rattle.protocol.specs.Words.{value};
 ghost use Rattle.protocol.specs.Packet.{packetOf};
 ghost use Rattle.protocol.specs.Calls.Write.{sentOf};
-ghost use Rattle.writer.specs.Sent.{nodeIn, Readable};
+ghost use Rattle.writer.specs.Sent.{nodeIn, RowsReadable};
 use protocol::Block;
 use protocol::Number;
 use protocol::Vote;
@@ -26,58 +26,58 @@ fn number(text: &[u8], n: Number) {
     io::write_all(1, &digits[start..]);
 }
 
-fn show_block(b: Block) {
+fn print_block(b: Block) {
     number(b", block ", b.number);
     number(b" parent ", b.parent);
     word(b" slot ", b.slot);
 }
 
-fn show_vote(v: Vote) {
+fn print_vote(v: Vote) {
     word(b", vote of ", v.voter);
     word(b" slot ", v.slot);
     number(b" for ", v.number);
 }
 
-fn show_blocks(bytes: &[u8], n: u64)
+fn print_blocks(bytes: &[u8], n: u64)
     requires { ⌜ n ≤ length (packetOf (now bytes) .blocks) ⌝ }
 {
     let mut i = 0;
     while i < n as usize {
         let b = packets::block_at(bytes, i);
-        show_block(b);
+        print_block(b);
         i += 1;
     }
 }
 
-fn show_votes(bytes: &[u8], n: u64)
+fn print_votes(bytes: &[u8], n: u64)
     requires { ⌜ n ≤ length (packetOf (now bytes) .votes) ⌝ }
 {
     let mut i = 0;
     while i < n as usize {
         let v = packets::vote_at(bytes, i);
-        show_vote(v);
+        print_vote(v);
         i += 1;
     }
 }
 
 // What a packet holds, on one line, or that the bytes are no packet.
-fn show(bytes: &[u8]) {
+fn print(bytes: &[u8]) {
     if packets::well_formed(bytes) {
         let h = packets::header_of(bytes);
         word(b" kind ", h.kind);
         word(b" slot ", h.slot);
         number(b" number ", h.number);
-        show_blocks(bytes, h.blocks);
-        show_votes(bytes, h.votes);
+        print_blocks(bytes, h.blocks);
+        print_votes(bytes, h.votes);
         io::write_all(1, b"\n");
         return;
     }
     io::write_all(1, b" no packet\n");
 }
 
-fn show_first(bytes: &[u8], n: usize) {
+fn print_first(bytes: &[u8], n: usize) {
     if n <= bytes.len() {
-        show(&bytes[..n]);
+        print(&bytes[..n]);
     }
 }
 
@@ -105,7 +105,7 @@ fn put(
     number: Number,
     buf: &mut [u8],
 ) -> usize
-    requires { ⌜ Readable (now blocks) «blocks_used» (now votes) «votes_used»
+    requires { ⌜ RowsReadable (now blocks) «blocks_used» (now votes) «votes_used»
         × (slot ≡ sentOf proposal width (nodeIn (now blocks) «blocks_used» (now votes) «votes_used») .slot)
         × (value number ≡ sentOf proposal width (nodeIn (now blocks) «blocks_used» (now votes) «votes_used») .number) ⌝ }
 {
@@ -158,7 +158,7 @@ fn small(width: Width, up: u64, buf: &mut [u8]) -> usize {
 }
 
 // Whether narrow gossip of a block and a vote meets an upper half that is not zero, given those of the block, its parent and the vote.
-fn show_narrow(block: u64, parent: u64, vote: u64) {
+fn print_narrow(block: u64, parent: u64, vote: u64) {
     let blocks = [0u64, 0, 0, 0, 0, 1, 7, block, 5, parent, 2, 0];
     let votes = [4u64, 3, 7, vote, 0];
     let none = Number { lower: 0, upper: 0 };
@@ -175,12 +175,12 @@ fn show_narrow(block: u64, parent: u64, vote: u64) {
 // ---- bytes that may be a packet
 
 // The first bytes, if they are a packet.
-fn show_cut(bytes: &[u8], n: usize) {
+fn print_cut(bytes: &[u8], n: usize) {
     if n <= bytes.len() {
         let front = &bytes[..n];
         if packets::well_formed(front) {
             word(b"first ", n as u64);
-            show(front);
+            print(front);
         }
     }
 }
@@ -194,7 +194,7 @@ fn no_other(n: u64) {
 fn cut(bytes: &[u8]) {
     let mut n = 0;
     while n <= bytes.len() {
-        show_cut(bytes, n);
+        print_cut(bytes, n);
         n += 1;
     }
     no_other(bytes.len() as u64);
@@ -207,7 +207,7 @@ fn changed(bytes: &mut [u8], i: usize) {
         if old < 255 {
             bytes[i] = old + 1;
             word(b"byte ", i as u64);
-            show(bytes);
+            print(bytes);
             bytes[i] = old;
         }
     }
@@ -227,7 +227,7 @@ fn as_kind(bytes: &mut [u8], kind: u8) {
         word(b"bytes ", bytes.len() as u64);
         word(b" of kind ", kind as u64);
         io::write_all(1, b",");
-        show(bytes);
+        print(bytes);
     }
 }
 
@@ -246,12 +246,12 @@ fn narrow() {
     let mut buf = [255u8; 90];
     let n = gossip(Width::Narrow, 0, &mut buf);
     io::write_all(1, b"narrow gossip");
-    show_first(&buf, n);
+    print_first(&buf, n);
     dump(&buf);
     let mut other = [255u8; 60];
     let m = proposal(Width::Narrow, 0, &mut other);
     io::write_all(1, b"narrow proposal");
-    show_first(&other, m);
+    print_first(&other, m);
     dump(&other);
     let mut third = [0u8; 37];
     small(Width::Narrow, 0, &mut third);
@@ -265,12 +265,12 @@ fn wide() {
     let mut buf = [255u8; 144];
     let n = gossip(Width::Wide, 578437695752307201, &mut buf);
     io::write_all(1, b"wide gossip");
-    show_first(&buf, n);
+    print_first(&buf, n);
     dump(&buf);
     let mut other = [255u8; 87];
     let m = proposal(Width::Wide, 578437695752307201, &mut other);
     io::write_all(1, b"wide proposal");
-    show_first(&other, m);
+    print_first(&other, m);
     dump(&other);
     let mut third = [0u8; 61];
     small(Width::Wide, 1, &mut third);
@@ -297,21 +297,21 @@ fn empty() {
     many[13] = 255;
     many[14] = 255;
     io::write_all(1, b"65535 blocks");
-    show(&many);
+    print(&many);
     let mut more = [0u8; 25];
     more[0] = 2;
     more[21] = 255;
     more[22] = 255;
     io::write_all(1, b"65535 blocks wide");
-    show(&more);
+    print(&more);
 }
 
 fn main() {
     narrow();
     wide();
     empty();
-    show_narrow(0, 0, 0);
-    show_narrow(1, 0, 0);
-    show_narrow(0, 1, 0);
-    show_narrow(0, 0, 1);
+    print_narrow(0, 0, 0);
+    print_narrow(1, 0, 0);
+    print_narrow(0, 1, 0);
+    print_narrow(0, 0, 1);
 }

@@ -6,44 +6,44 @@ use native.Mathlib.Nat.{pow-suc, pow-succ', mul-assoc, pow-le-pow-right, lt-of-l
 use native.Mathlib.Omega.{arith}
 use lib.ListN.{getD}
 use lib.Seq.{take-nil}
-use Rattle.protocol.specs.Words.{join}
-use Rattle.protocol.specs.Packet.{numberOf, field}
+use Rattle.protocol.specs.Words.{fromHalves}
+use Rattle.protocol.specs.Packet.{numberOf, numberAt}
 
-pub field-none : (bs : List ℕ) (at : ℕ) → field bs at 0 ≡ 0
-unfolding field numberOf
+pub field-none : (bs : List ℕ) (at : ℕ) → numberAt bs at 0 ≡ 0
+unfolding numberAt numberOf
 field-none bs at = refl
 
-field-low : (bs : List ℕ) (at k : ℕ) → field bs at (suc k) ≡ getD bs at 0 + 256 * field bs (suc at) k
-unfolding field numberOf
+field-low : (bs : List ℕ) (at k : ℕ) → numberAt bs at (suc k) ≡ getD bs at 0 + 256 * numberAt bs (suc at) k
+unfolding numberAt numberOf
 field-low [] zero k = rw take-nil refl
 field-low [] (suc at) k = rw take-nil refl
 field-low (b ∷ bs) zero k = refl
 field-low (b ∷ bs) (suc at) k = field-low bs at k
 
-pub field-one : (bs : List ℕ) (at : ℕ) → field bs at 1 ≡ getD bs at 0
+pub field-one : (bs : List ℕ) (at : ℕ) → numberAt bs at 1 ≡ getD bs at 0
 field-one bs at = rw (field-low bs at 0, field-none bs (suc at)) (omega arith)
 
 -- a field is its first bytes and then the others
-pub field-parts : (m n at : ℕ) (bs : List ℕ) → field bs at (m + n) ≡ field bs at m + 256 ^ m * field bs (at + m) n
+pub field-parts : (m n at : ℕ) (bs : List ℕ) → numberAt bs at (m + n) ≡ numberAt bs at m + 256 ^ m * numberAt bs (at + m) n
 field-parts zero n at bs =
     let size : 0 + n ≡ n = omega arith in
-    let place : at + 0 ≡ at = omega arith in
-    rw (size, place, field-none bs at) (omega arith)
+    let position : at + 0 ≡ at = omega arith in
+    rw (size, position, field-none bs at) (omega arith)
 field-parts (suc m) n at bs =
     let size : suc m + n ≡ suc (m + n) = omega arith in
-    let place : at + suc m ≡ suc at + m = omega arith in
-    let p : 256 ^ suc m * field bs (suc at + m) n ≡ 256 * (256 ^ m * field bs (suc at + m) n)
-    = ap (λ (k : ℕ). k * field bs (suc at + m) n) (pow-succ' 256 m) ∙ mul-assoc 256 (256 ^ m) (field bs (suc at + m) n) in
-    rw (size, place, field-low bs at (m + n), field-low bs at m, field-parts m n (suc at) bs) (omega (arith, p))
+    let position : at + suc m ≡ suc at + m = omega arith in
+    let p : 256 ^ suc m * numberAt bs (suc at + m) n ≡ 256 * (256 ^ m * numberAt bs (suc at + m) n)
+    = ap (λ (k : ℕ). k * numberAt bs (suc at + m) n) (pow-succ' 256 m) ∙ mul-assoc 256 (256 ^ m) (numberAt bs (suc at + m) n) in
+    rw (size, position, field-low bs at (m + n), field-low bs at m, field-parts m n (suc at) bs) (omega (arith, p))
 
 -- the lower half of a number, and then its upper half; of 8 bytes the upper half has none
-pub field-halves : (h at : ℕ) (bs : List ℕ) → field bs at (8 + h) ≡ join (field bs at 8) (field bs (at + 8) h)
-unfolding join
+pub field-halves : (h at : ℕ) (bs : List ℕ) → numberAt bs at (8 + h) ≡ fromHalves (numberAt bs at 8) (numberAt bs (at + 8) h)
+unfolding fromHalves
 field-halves h at bs = field-parts 8 h at bs
 
 -- the bytes from i on are read, and then one more
 module _ (width i sum b : ℕ) (some : 0 < i) (most : i ≤ width) where
-  pub field-step : (bs : List ℕ) (at : ℕ) → sum ≡ field bs (at + i) (width - i) → b ≡ getD bs (at + (i - 1)) 0 → sum * 256 + b ≡ field bs (at + (i - 1)) (width - (i - 1))
+  pub field-step : (bs : List ℕ) (at : ℕ) → sum ≡ numberAt bs (at + i) (width - i) → b ≡ getD bs (at + (i - 1)) 0 → sum * 256 + b ≡ numberAt bs (at + (i - 1)) (width - (i - 1))
   field-step bs at e f =
       let size : width - (i - 1) ≡ suc (width - i) = omega arith in
       let next : suc (at + (i - 1)) ≡ at + i = omega arith in

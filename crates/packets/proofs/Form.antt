@@ -8,7 +8,7 @@ use borrow.Author.Tests.{eq-eqb, ne-eqb}
 use lib.Dec.{eqb}
 use lib.ListN.{length}
 use Rattle.protocol.specs.Words.{value}
-use Rattle.protocol.specs.Packet.{field, blocksIn, votesIn, sizeOf, widthOf, widthIn, isProposal, headerFormed, wellFormed}
+use Rattle.protocol.specs.Packet.{numberAt, countOfBlocks, countOfVotes, sizeOf, widthOf, widthIn, isProposal, headerFormed, wellFormed}
 use Rattle.protocol.proofs.Words.{join-halves}
 use Rattle.protocol.proofs.Packet.Ranges.{Each, Byte}
 use Rattle.protocol.proofs.Packet.Bytes.{ill-length, well-by-head, read-fits}
@@ -23,7 +23,7 @@ module _ (bs : List ℕ) (h : Header) (e : h ≡ headerOf bs) where
 
   module _ (upper : ℕ) (u : 8 + upper ≡ widthOf (h .kind)) where
     -- the length that the header asks for
-    asked : sizeOf (8 + upper) (h .blocks) (h .votes) ≡ sizeOf (widthIn bs) (blocksIn (widthIn bs) bs) (votesIn (widthIn bs) bs)
+    asked : sizeOf (8 + upper) (h .blocks) (h .votes) ≡ sizeOf (widthIn bs) (countOfBlocks (widthIn bs) bs) (countOfVotes (widthIn bs) bs)
     asked =
         let f = e ∙ header-fields bs in
         let w = u ∙ ap (λ (q : Header). widthOf (q .kind)) f in
@@ -35,7 +35,7 @@ module _ (bs : List ℕ) (h : Header) (e : h ≡ headerOf bs) where
     formed-not = rw asked (ill-length bs)
 
     pub formed-header : length bs ≡ sizeOf (8 + upper) (h .blocks) (h .votes) → wellFormed bs ≡ headerFormed (h .kind) (h .slot) (value (h .number))
-    formed-header l = well-by-head bs (l ∙ asked) ∙ rw (e ∙ header-fields bs, join-halves (field bs 5 (widthIn bs)))
+    formed-header l = well-by-head bs (l ∙ asked) ∙ rw (e ∙ header-fields bs, join-halves (numberAt bs 5 (widthIn bs)))
 
 module _ (kind slot number : ℕ) where
   pub headed-proposal : isProposal kind ≡ true → headerFormed kind slot number ≡ true

@@ -7,7 +7,7 @@ use native.Mathlib.Numerals.{add-one}
 use native.Mathlib.Omega.{arith}
 use lib.ListN.{length, getD, take, drop, drop-of-length-le}
 use lib.Seq.{length-take-le, getD-take, drop-cons, take-suc}
-use Rattle.protocol.specs.Lists.{any}
+use Rattle.protocol.specs.Lists.{anyPass}
 
 module _ {A : Type 0} (xs : List A) (d : A) (i : ℕ) where
   pub rest-entry : {a : A} → i < length xs → a ≡ getD xs i d → drop i xs ≡ a ∷ drop (i + 1) xs
@@ -32,14 +32,14 @@ module _ {A : Type 0} (xs : List A) (d : A) (n i : ℕ) (l : n ≤ length xs) wh
 -- ---- a search of the first n
 
 module _ {A : Type 0} (p : A → Bool) (xs : List A) (d : A) (n i : ℕ) where
-  pub any-hit : {a : A} → n ≤ length xs → i < n → a ≡ getD xs i d → p a ≡ true → any p (drop i (take n xs)) ≡ true
-  unfolding any
+  pub any-hit : {a : A} → n ≤ length xs → i < n → a ≡ getD xs i d → p a ≡ true → anyPass p (drop i (take n xs)) ≡ true
+  unfolding anyPass
   any-hit l h r e = rw (first-entry xs d n i l h r, e)
 
-  pub any-miss : {a : A} → n ≤ length xs → i < n → a ≡ getD xs i d → p a ≡ false → any p (drop i (take n xs)) ≡ any p (drop (i + 1) (take n xs))
-  unfolding any
+  pub any-miss : {a : A} → n ≤ length xs → i < n → a ≡ getD xs i d → p a ≡ false → anyPass p (drop i (take n xs)) ≡ anyPass p (drop (i + 1) (take n xs))
+  unfolding anyPass
   any-miss l h r e = rw (first-entry xs d n i l h r, e)
 
-  pub any-end : n ≤ length xs → n ≤ i → any p (drop i (take n xs)) ≡ false
-  unfolding any
+  pub any-end : n ≤ length xs → n ≤ i → anyPass p (drop i (take n xs)) ≡ false
+  unfolding anyPass
   any-end l h = rw (first-end xs d n i l h)

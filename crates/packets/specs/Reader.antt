@@ -5,6 +5,6 @@ use mathlib.Core.List.{List}
 use lib.ListN.{length}
 use lib.Dec.{ltb}
 
--- the place n bytes on, or the end
-unfoldable pub placeAfter : List ℕ → ℕ → ℕ → ℕ
-placeAfter bs at n = cond (ltb (length bs) (at + n)) (length bs) (at + n)
+-- the position n bytes on, or the end
+unfoldable pub positionAfter : List ℕ → ℕ → ℕ → ℕ
+positionAfter bs at n = cond (ltb (length bs) (at + n)) (length bs) (at + n)

@@ -1,4 +1,4 @@
-// Packets read: numbers at a place, the reader, the header, the entries, and whether bytes are a packet.
+// Packets read: numbers at a position, the reader, the header, the entries, and whether bytes are a packet.
 // Nothing is read past the end: a byte that is not there counts as 0, as in the definitions.
 // What is read whole, a number or an entry, is tested once for the end of the packet and then read at once; only what goes past the end is read
 // byte by byte. No function here takes longer than a few numbers.
@@ -9,8 +9,8 @@ ghost use lib.Dec.{eqb, leb};
 ghost use lib.ListN.{length, getD, drop};
 ghost use Rattle.protocol.specs.Chain.{genesis};
 ghost use Rattle.protocol.specs.Words.{blockOf, voteOf};
-ghost use Rattle.protocol.specs.Packet.{field, blockWidth, voteWidth, blockAt, voteAt, afterBlocks, sizeOf, widthOf, isProposal, packetOf, wellFormed};
-ghost use Rattle.packets.specs.Reader.{placeAfter};
+ghost use Rattle.protocol.specs.Packet.{numberAt, blockWidth, voteWidth, readBlock, readVote, afterBlocks, sizeOf, widthOf, isProposal, packetOf, wellFormed};
+ghost use Rattle.packets.specs.Reader.{positionAfter};
 ghost use Rattle.packets.specs.Header.{noVote, headerOf};
 use protocol::Block;
 use protocol::Number;
@@ -43,7 +43,7 @@ pub fn fits(used: usize, count: usize, most: usize) -> bool
 
 // ---- numbers
 
-// The byte i places behind a place.
+// The byte i bytes behind a position.
 fn byte_at(bytes: &[u8], at: usize, i: usize) -> u64
     ensures { λ r. ⌜ (r ≡ getD (now (bytes .entry)) (at + i) 0) × (r < 256) ⌝ }
 {
@@ -59,14 +59,14 @@ fn byte_at(bytes: &[u8], at: usize, i: usize) -> u64
 // The number in one byte, in two, in four, in eight. What is read so needs one test for all its bytes, and the compiler reads them at once.
 fn one_at(bytes: &[u8], at: usize) -> u64
     requires { ⌜ at + 1 ≤ length (now bytes) ⌝ }
-    ensures { λ r. ⌜ (r ≡ field (now (bytes .entry)) at 1) × (r < 256) ⌝ }
+    ensures { λ r. ⌜ (r ≡ numberAt (now (bytes .entry)) at 1) × (r < 256) ⌝ }
 {
     bytes[at] as u64
 }
 
 fn two_at(bytes: &[u8], at: usize) -> u64
     requires { ⌜ at + 2 ≤ length (now bytes) ⌝ }
-    ensures { λ r. ⌜ (r ≡ field (now (bytes .entry)) at 2) × (r < 65536) ⌝ }
+    ensures { λ r. ⌜ (r ≡ numberAt (now (bytes .entry)) at 2) × (r < 65536) ⌝ }
 {
     let low = one_at(bytes, at);
     let high = one_at(bytes, at + 1);
@@ -75,7 +75,7 @@ fn two_at(bytes: &[u8], at: usize) -> u64
 
 fn four_at(bytes: &[u8], at: usize) -> u64
     requires { ⌜ at + 4 ≤ length (now bytes) ⌝ }
-    ensures { λ r. ⌜ (r ≡ field (now (bytes .entry)) at 4) × (r < 4294967296) ⌝ }
+    ensures { λ r. ⌜ (r ≡ numberAt (now (bytes .entry)) at 4) × (r < 4294967296) ⌝ }
 {
     let low = two_at(bytes, at);
     let high = two_at(bytes, at + 2);
@@ -84,17 +84,17 @@ fn four_at(bytes: &[u8], at: usize) -> u64
 
 fn eight_at(bytes: &[u8], at: usize) -> u64
     requires { ⌜ at + 8 ≤ length (now bytes) ⌝ }
-    ensures { λ r. ⌜ (r ≡ field (now (bytes .entry)) at 8) × (r < 18446744073709551616) ⌝ }
+    ensures { λ r. ⌜ (r ≡ numberAt (now (bytes .entry)) at 8) × (r < 18446744073709551616) ⌝ }
 {
     let low = four_at(bytes, at);
     let high = four_at(bytes, at + 4);
     low + 4294967296 * high
 }
 
-// The number in `width` bytes from a place on, the lowest first, byte by byte.
+// The number in `width` bytes from a position on, the lowest first, byte by byte.
 fn bytewise_at(bytes: &[u8], at: usize, width: usize) -> u64
     requires { ⌜ width ≤ 8 ⌝ }
-    ensures { λ r. ⌜ (r ≡ field (now (bytes .entry)) at width) × (r < 256 ^ width) ⌝ }
+    ensures { λ r. ⌜ (r ≡ numberAt (now (bytes .entry)) at width) × (r < 256 ^ width) ⌝ }
 {
     let mut sum: u64 = 0;
     let mut i = width;
@@ -105,10 +105,10 @@ fn bytewise_at(bytes: &[u8], at: usize, width: usize) -> u64
     sum
 }
 
-// The number in `width` bytes from a place on, the lowest first.
+// The number in `width` bytes from a position on, the lowest first.
 pub fn number_at(bytes: &[u8], at: usize, width: usize) -> u64
     requires { ⌜ width ≤ 8 ⌝ }
-    ensures { λ r. ⌜ (r ≡ field (now (bytes .entry)) at width) × (r < 256 ^ width) ⌝ }
+    ensures { λ r. ⌜ (r ≡ numberAt (now (bytes .entry)) at width) × (r < 256 ^ width) ⌝ }
 {
     if fits(at, width, bytes.len()) {
         if width == 8 {
@@ -127,9 +127,9 @@ pub fn number_at(bytes: &[u8], at: usize, width: usize) -> u64
     bytewise_at(bytes, at, width)
 }
 
-// The place n bytes on, or the end.
+// The position n bytes on, or the end.
 fn onward(bytes: &[u8], at: usize, n: usize) -> usize
-    ensures { λ r. ⌜ r ≡ placeAfter (now (bytes .entry)) at n ⌝ }
+    ensures { λ r. ⌜ r ≡ positionAfter (now (bytes .entry)) at n ⌝ }
 {
     if fits(at, n, bytes.len()) {
         return at + n;
@@ -137,13 +137,13 @@ fn onward(bytes: &[u8], at: usize, n: usize) -> usize
     bytes.len()
 }
 
-// The number in `width` bytes, n places behind a place.
+// The number in `width` bytes, n bytes behind a position.
 fn later_at(bytes: &[u8], at: usize, n: usize, width: usize) -> u64
     requires { ⌜ width ≤ 8 ⌝ }
-    ensures { λ r. ⌜ r ≡ field (now (bytes .entry)) (at + n) width ⌝ }
+    ensures { λ r. ⌜ r ≡ numberAt (now (bytes .entry)) (at + n) width ⌝ }
 {
-    let place = onward(bytes, at, n);
-    number_at(bytes, place, width)
+    let position = onward(bytes, at, n);
+    number_at(bytes, position, width)
 }
 
 // ---- widths
@@ -174,7 +174,7 @@ fn vote_bytes(upper: usize) -> usize
     13 + upper
 }
 
-// The place behind so many blocks.
+// The position behind so many blocks.
 fn behind_blocks(upper: usize, blocks: usize) -> usize
     requires { ⌜ (upper ≤ 8) × (blocks ≤ 65535) ⌝ }
     ensures { λ r. ⌜ (r ≡ afterBlocks (8 + upper) blocks) × (r ≤ 2359283) ⌝ }
@@ -182,12 +182,12 @@ fn behind_blocks(upper: usize, blocks: usize) -> usize
     15 + upper + block_bytes(upper) * blocks
 }
 
-// ---- entries at a place
+// ---- entries at a position
 
 // The upper half of a number, for which there are so many bytes.
 fn half_at(bytes: &[u8], at: usize, upper: usize) -> u64
     requires { ⌜ upper ≤ 8 ⌝ }
-    ensures { λ r. ⌜ r ≡ field (now (bytes .entry)) at upper ⌝ }
+    ensures { λ r. ⌜ r ≡ numberAt (now (bytes .entry)) at upper ⌝ }
 {
     if upper == 0 {
         return 0;
@@ -198,7 +198,7 @@ fn half_at(bytes: &[u8], at: usize, upper: usize) -> u64
 // A block that does not go past the end.
 fn whole_block(bytes: &[u8], at: usize, upper: usize) -> Block
     requires { ⌜ (at + (20 + 2 * upper) ≤ length (now bytes)) × (upper ≤ 8) ⌝ }
-    ensures { λ r. ⌜ blockOf r ≡ blockAt (8 + upper) (drop at (now (bytes .entry))) ⌝ }
+    ensures { λ r. ⌜ blockOf r ≡ readBlock (8 + upper) (drop at (now (bytes .entry))) ⌝ }
 {
     Block {
         number: Number {
@@ -216,7 +216,7 @@ fn whole_block(bytes: &[u8], at: usize, upper: usize) -> Block
 // A vote that does not.
 fn whole_vote(bytes: &[u8], at: usize, upper: usize) -> Vote
     requires { ⌜ (at + (13 + upper) ≤ length (now bytes)) × (upper ≤ 8) ⌝ }
-    ensures { λ r. ⌜ voteOf r ≡ voteAt (8 + upper) (drop at (now (bytes .entry))) ⌝ }
+    ensures { λ r. ⌜ voteOf r ≡ readVote (8 + upper) (drop at (now (bytes .entry))) ⌝ }
 {
     Vote {
         voter: one_at(bytes, at),
@@ -228,9 +228,9 @@ fn whole_vote(bytes: &[u8], at: usize, upper: usize) -> Vote
     }
 }
 
-// The block at a place in a packet of the kind.
+// The block at a position in a packet of the kind.
 fn block_in(bytes: &[u8], at: usize, kind: u64) -> Block
-    ensures { λ r. ⌜ blockOf r ≡ blockAt (widthOf kind) (drop at (now (bytes .entry))) ⌝ }
+    ensures { λ r. ⌜ blockOf r ≡ readBlock (widthOf kind) (drop at (now (bytes .entry))) ⌝ }
 {
     let upper = upper_bytes(kind);
     if fits(at, block_bytes(upper), bytes.len()) {
@@ -249,9 +249,9 @@ fn block_in(bytes: &[u8], at: usize, kind: u64) -> Block
     }
 }
 
-// The vote at a place in a packet of the kind.
+// The vote at a position in a packet of the kind.
 fn vote_in(bytes: &[u8], at: usize, kind: u64) -> Vote
-    ensures { λ r. ⌜ voteOf r ≡ voteAt (widthOf kind) (drop at (now (bytes .entry))) ⌝ }
+    ensures { λ r. ⌜ voteOf r ≡ readVote (widthOf kind) (drop at (now (bytes .entry))) ⌝ }
 {
     let upper = upper_bytes(kind);
     if fits(at, vote_bytes(upper), bytes.len()) {
@@ -277,34 +277,34 @@ pub fn new<'a>(bytes: &'a [u8]) -> Reader<'a>
 
 pub fn take<'a>(r: Reader<'a>, width: usize) -> u64
     requires { ⌜ width ≤ 8 ⌝ }
-    ensures { λ n. ⌜ (n ≡ field (now (r .entry .bytes)) (r .entry .at) width) × (n < 256 ^ width) ⌝ }
+    ensures { λ n. ⌜ (n ≡ numberAt (now (r .entry .bytes)) (r .entry .at) width) × (n < 256 ^ width) ⌝ }
 {
     number_at(r.bytes, r.at, width)
 }
 
 pub fn skip<'a>(r: Reader<'a>, n: usize) -> Reader<'a>
-    ensures { λ q. ⌜ (q .bytes ≡ r .entry .bytes) × (q .at ≡ placeAfter (now (r .entry .bytes)) (r .entry .at) n) ⌝ }
+    ensures { λ q. ⌜ (q .bytes ≡ r .entry .bytes) × (q .at ≡ positionAfter (now (r .entry .bytes)) (r .entry .at) n) ⌝ }
 {
     let at = onward(r.bytes, r.at, n);
     Reader { bytes: r.bytes, at }
 }
 
 pub fn take_block<'a>(r: Reader<'a>, kind: u64) -> Block
-    ensures { λ b. ⌜ blockOf b ≡ blockAt (widthOf kind) (drop (r .entry .at) (now (r .entry .bytes))) ⌝ }
+    ensures { λ b. ⌜ blockOf b ≡ readBlock (widthOf kind) (drop (r .entry .at) (now (r .entry .bytes))) ⌝ }
 {
     block_in(r.bytes, r.at, kind)
 }
 
 pub fn take_vote<'a>(r: Reader<'a>, kind: u64) -> Vote
-    ensures { λ a. ⌜ voteOf a ≡ voteAt (widthOf kind) (drop (r .entry .at) (now (r .entry .bytes))) ⌝ }
+    ensures { λ a. ⌜ voteOf a ≡ readVote (widthOf kind) (drop (r .entry .at) (now (r .entry .bytes))) ⌝ }
 {
     vote_in(r.bytes, r.at, kind)
 }
 
-// What a reader takes that was moved to a place: a number, a block, a vote.
+// What a reader takes that was moved to a position: a number, a block, a vote.
 fn number_from(bytes: &[u8], at: usize, width: usize) -> u64
     requires { ⌜ width ≤ 8 ⌝ }
-    ensures { λ r. ⌜ (r ≡ field (now (bytes .entry)) at width) × (r < 256 ^ width) ⌝ }
+    ensures { λ r. ⌜ (r ≡ numberAt (now (bytes .entry)) at width) × (r < 256 ^ width) ⌝ }
 {
     let r = new(bytes);
     let r1 = skip(r, at);
@@ -312,7 +312,7 @@ fn number_from(bytes: &[u8], at: usize, width: usize) -> u64
 }
 
 fn block_from(bytes: &[u8], at: usize, kind: u64) -> Block
-    ensures { λ r. ⌜ blockOf r ≡ blockAt (widthOf kind) (drop at (now (bytes .entry))) ⌝ }
+    ensures { λ r. ⌜ blockOf r ≡ readBlock (widthOf kind) (drop at (now (bytes .entry))) ⌝ }
 {
     let r = new(bytes);
     let r1 = skip(r, at);
@@ -320,7 +320,7 @@ fn block_from(bytes: &[u8], at: usize, kind: u64) -> Block
 }
 
 fn vote_from(bytes: &[u8], at: usize, kind: u64) -> Vote
-    ensures { λ r. ⌜ voteOf r ≡ voteAt (widthOf kind) (drop at (now (bytes .entry))) ⌝ }
+    ensures { λ r. ⌜ voteOf r ≡ readVote (widthOf kind) (drop at (now (bytes .entry))) ⌝ }
 {
     let r = new(bytes);
     let r1 = skip(r, at);

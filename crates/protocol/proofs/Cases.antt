@@ -6,16 +6,16 @@ use mathlib.Core.List.{List, [], _∷_, _++_}
 use Rattle.protocol.specs.declared.Profile.the-variants.{Loom}
 use Rattle.protocol.specs.Limits.{limitsOf}
 use Rattle.protocol.specs.Entry.{Block, Vote}
-use Rattle.protocol.specs.Lists.{filter, any, all}
+use Rattle.protocol.specs.Lists.{passing, anyPass, allPass}
 use Rattle.protocol.specs.Chain.{genesis, find, foundWith, slotIn, chainStep, chainIn, chain, above}
-use Rattle.protocol.specs.Filters.{conflict, equivocates, counted, window, later, latest, chosen, nothing, choiceOf, kept}
-use Rattle.protocol.specs.Walk.{count, supports, weight, isChild, beats, better, bestChild, walkStep, walkIn, walk, weightAt, head, base}
-use Rattle.protocol.specs.Confirm.{deepFrom, deep, voteIn, validVote, quorum, height, higher, highest, numberIn, fast}
-use Rattle.protocol.specs.Store.{waiting, visible, allWaiting, entries, inView, show, sameBlock, sameVote, since, fresh}
+use Rattle.protocol.specs.Filters.{conflict, equivocates, window, later, latest, chosen, nothing, choiceOf, kept}
+use Rattle.protocol.specs.Walk.{countBelow, supports, weight, isChild, beats, better, bestChild, walkStep, walkIn, walk, weightAt, headBlock, baseBlock}
+use Rattle.protocol.specs.Confirm.{deepFrom, deepBlock, voteIn, validVote, quorum, height, higher, highest, numberFound, fastBlock}
+use Rattle.protocol.specs.Store.{waiting, inView, allWaiting, entries, viewOf, view, sameBlock, sameVote, since, fresh}
 use Rattle.protocol.specs.Sound.{between, settingsSound, placesSound, clockSound, restSound, blocksSound, votesSound, sound}
-use Rattle.protocol.specs.Packet.{bytesOf, numberOf, field, flat, section, entriesAt, headBytes, blockBytes, voteBytes, packetAs, blockAt, voteAt, packetAt, packetBytes, packetOf, headerFormed, wellFormed}
-use Rattle.protocol.specs.Refusal.{by, byEntry, first, Reply, refused, Outcome, unless}
-use Rattle.protocol.specs.Calls.Receive.{addBlock, addBlocks, addVote, addVotes, blocksAfter, votesAfter, knownAs, blockAllowed, voteAllowed, headerAllowed, firstBadBlock, firstBadVote, brings, stoodOn, receiveTests, Received, receivedOf, receiveInto, receive}
+use Rattle.protocol.specs.Packet.{bytesOf, numberOf, numberAt, flat, section, entriesAt, headBytes, blockBytes, voteBytes, packetAs, readBlock, readVote, packetAt, packetBytes, packetOf, headerFormed, wellFormed}
+use Rattle.protocol.specs.Refusal.{by, byEntry, first, Answer, refused, Outcome, unless}
+use Rattle.protocol.specs.Calls.Receive.{addBlock, addBlocks, addVote, addVotes, blocksAfter, votesAfter, knownAs, blockAllowed, voteAllowed, headerAllowed, firstBadBlock, firstBadVote, viewedAtOnce, stoodOn, receiveTests, Received, receiveAnswer, receiveInto, receive}
 
 abbrev pub block : ℕ → ℕ → ℕ → Block
 block x p s = record { number = x; parent = p; slot = s }
@@ -33,10 +33,10 @@ abbrev pub votes : List Vote
 votes = vote 0 1 11 ∷ vote 1 2 21 ∷ vote 4 2 11 ∷ vote 2 3 31 ∷ vote 3 3 21 ∷ []
 
 abbrev pub headFor : List Vote → ℕ → ℕ
-headFor vs t = head blocks vs 5 2 t
+headFor vs t = headBlock blocks vs 5 2 t
 
 abbrev pub deepWith : ℕ → ℕ
-deepWith K = deep blocks votes 5 2 K 4
+deepWith K = deepBlock blocks votes 5 2 K 4
 
 -- "With only 0, 1, 2 in slot 3 for 31"
 abbrev pub three : List Vote
@@ -45,19 +45,19 @@ three = vote 0 3 31 ∷ vote 1 3 31 ∷ vote 2 3 31 ∷ []
 pub record Starred : Type 0 where
   pub head-4 : headFor votes 4 ≡ 31
   pub head-3 : headFor votes 3 ≡ 31
-  pub base-3 : base blocks votes 5 2 3 ≡ 11
+  pub base-3 : baseBlock blocks votes 5 2 3 ≡ 11
   pub node-4-added : headFor (vote 4 3 21 ∷ votes) 4 ≡ 21
   pub node-3-added : headFor (vote 3 3 31 ∷ votes) 4 ≡ 31
   pub deep-1 : deepWith 1 ≡ 31
   pub deep-2 : deepWith 2 ≡ 11
   pub deep-3 : deepWith 3 ≡ 11
   pub deep-4 : deepWith 4 ≡ 0
-  pub fast-3 : fast blocks votes 5 3 ≡ nothing
-  pub fast-three : fast blocks three 5 3 ≡ nothing
-  pub fast-four : fast blocks (vote 4 3 11 ∷ three) 5 3 ≡ chosen 11
+  pub fast-3 : fastBlock blocks votes 5 3 ≡ nothing
+  pub fast-three : fastBlock blocks three 5 3 ≡ nothing
+  pub fast-four : fastBlock blocks (vote 4 3 11 ∷ three) 5 3 ≡ chosen 11
 
 pub starred : Starred
-unfolding any filter since find foundWith slotIn chainStep chainIn chain above conflict equivocates counted window later latest choiceOf kept count supports weight isChild beats better bestChild walkStep walkIn walk weightAt head base deepFrom deep voteIn validVote quorum height higher highest numberIn fast
+unfolding anyPass passing since find foundWith slotIn chainStep chainIn chain above conflict equivocates window later latest choiceOf kept countBelow supports weight isChild beats better bestChild walkStep walkIn walk weightAt headBlock baseBlock deepFrom deepBlock voteIn validVote quorum height higher highest numberFound fastBlock
 starred =
     record {
       head-4 = refl;
@@ -93,12 +93,12 @@ heard =
 pub record Told : Type 0 where
   pub slot-t-hides-nothing : headFor hiding 3 ≡ 31
   pub slot-t-does-not-count : headFor (vote 4 3 21 ∷ votes) 3 ≡ 31
-  pub gossip-waits : heard .node .blocks ≡ visible genesis ∷ waiting (block 11 0 1) ∷ []
+  pub gossip-waits : heard .node .blocks ≡ inView genesis ∷ waiting (block 11 0 1) ∷ []
   pub gossip-votes-wait : heard .node .votes ≡ waiting (vote 1 1 11) ∷ []
-  pub ties-by-number : head arrived votes 5 2 4 ≡ 31
+  pub ties-by-number : headBlock arrived votes 5 2 4 ≡ 31
 
 pub told : Told
-unfolding any filter since find slotIn chainStep chainIn chain above conflict equivocates counted window later latest choiceOf kept count supports weight isChild beats better bestChild walkStep walkIn walk weightAt head base deepFrom deep voteIn validVote quorum height higher highest numberIn fast foundWith limitsOf receive receiveTests receivedOf receiveInto firstBadBlock firstBadVote blockAllowed knownAs headerAllowed voteAllowed blocksAfter votesAfter addBlocks addBlock addVotes addVote brings stoodOn first unless sound settingsSound placesSound clockSound blocksSound restSound votesSound between all sameBlock sameVote entries inView show allWaiting packetBytes packetAs headBytes blockBytes voteBytes section flat bytesOf packetOf packetAt entriesAt blockAt voteAt field numberOf wellFormed headerFormed
+unfolding anyPass passing since find slotIn chainStep chainIn chain above conflict equivocates window later latest choiceOf kept countBelow supports weight isChild beats better bestChild walkStep walkIn walk weightAt headBlock baseBlock deepFrom deepBlock voteIn validVote quorum height higher highest numberFound fastBlock foundWith limitsOf receive receiveTests receiveAnswer receiveInto firstBadBlock firstBadVote blockAllowed knownAs headerAllowed voteAllowed blocksAfter votesAfter addBlocks addBlock addVotes addVote viewedAtOnce stoodOn first unless sound settingsSound placesSound clockSound blocksSound restSound votesSound between allPass sameBlock sameVote entries viewOf view allWaiting packetBytes packetAs headBytes blockBytes voteBytes section flat bytesOf packetOf packetAt entriesAt readBlock readVote numberAt numberOf wellFormed headerFormed
 told =
     record {
       slot-t-hides-nothing = refl;
@@ -111,10 +111,10 @@ told =
 -- ---- request 1: which entry was bad
 
 -- what a fresh node of five without a free block place and with one free vote place answers to a packet at beat 3
-abbrev pub answered : ℕ → ℕ → ℕ → List Block → List Vote → Reply Received
+abbrev pub answered : ℕ → ℕ → ℕ → List Block → List Vote → Answer Received
 answered kind slot number bs vs =
     receive (record { profile = Loom; nodes = 5; own = 0; expiry = 2; depth = 3 }) (record { blocks = 1; votes = 1 }) fresh 3
-    (packetBytes (record { kind = kind; slot = slot; number = number; blocks = bs; votes = vs })) .reply
+    (packetBytes (record { kind = kind; slot = slot; number = number; blocks = bs; votes = vs })) .answer
 
 -- Block 12's parent is unknown, as is 13's; voter 5 is not there. The first bad block counts, before any vote; the first bad vote before
 -- the header; each of these before want of places.
@@ -126,7 +126,7 @@ pub record Named : Type 0 where
   pub no-place : answered 1 1 11 (block 11 0 1 ∷ []) [] ≡ refused (by 10)
 
 pub named : Named
-unfolding limitsOf any filter since find foundWith receive receiveTests receivedOf receiveInto firstBadBlock firstBadVote blockAllowed knownAs headerAllowed voteAllowed blocksAfter votesAfter addBlocks addBlock addVotes addVote brings stoodOn first unless sound settingsSound placesSound clockSound blocksSound restSound votesSound between all sameBlock sameVote entries inView show allWaiting packetBytes packetAs headBytes blockBytes voteBytes section flat bytesOf packetOf packetAt entriesAt blockAt voteAt field numberOf wellFormed headerFormed
+unfolding limitsOf anyPass passing since find foundWith receive receiveTests receiveAnswer receiveInto firstBadBlock firstBadVote blockAllowed knownAs headerAllowed voteAllowed blocksAfter votesAfter addBlocks addBlock addVotes addVote viewedAtOnce stoodOn first unless sound settingsSound placesSound clockSound blocksSound restSound votesSound between allPass sameBlock sameVote entries viewOf view allWaiting packetBytes packetAs headBytes blockBytes voteBytes section flat bytesOf packetOf packetAt entriesAt readBlock readVote numberAt numberOf wellFormed headerFormed
 named = record { first-block = refl; first-vote = refl; wrong-header = refl; other-slot = refl; no-place = refl }
 
 -- ---- request 2: a voter is dropped for two votes of one slot of the window, and for the fast block for two of slot t
@@ -145,14 +145,14 @@ pub record Doubled : Type 0 where
   pub oldest : headFor (doubledIn 2) 4 ≡ 21
   pub newest : headFor (doubledIn 3) 4 ≡ 21
   pub too-new : headFor (doubledIn 4) 4 ≡ 31
-  pub base-too-old : base blocks (doubledIn 1) 5 2 4 ≡ 31
-  pub base-inside : base blocks (doubledIn 2) 5 2 4 ≡ 21
-  pub fast-before : fast blocks (fourWith (vote 0 2 11 ∷ vote 0 2 0 ∷ [])) 5 3 ≡ chosen 11
-  pub fast-inside : fast blocks (fourWith (vote 0 3 11 ∷ [])) 5 3 ≡ nothing
-  pub fast-after : fast blocks (fourWith (vote 0 4 11 ∷ vote 0 4 0 ∷ [])) 5 3 ≡ chosen 11
+  pub base-too-old : baseBlock blocks (doubledIn 1) 5 2 4 ≡ 31
+  pub base-inside : baseBlock blocks (doubledIn 2) 5 2 4 ≡ 21
+  pub fast-before : fastBlock blocks (fourWith (vote 0 2 11 ∷ vote 0 2 0 ∷ [])) 5 3 ≡ chosen 11
+  pub fast-inside : fastBlock blocks (fourWith (vote 0 3 11 ∷ [])) 5 3 ≡ nothing
+  pub fast-after : fastBlock blocks (fourWith (vote 0 4 11 ∷ vote 0 4 0 ∷ [])) 5 3 ≡ chosen 11
 
 pub doubled : Doubled
-unfolding any filter since find slotIn chainStep chainIn chain above conflict equivocates counted window later latest choiceOf kept count supports weight isChild beats better bestChild walkStep walkIn walk weightAt head base voteIn validVote quorum height higher highest numberIn fast
+unfolding anyPass passing since find slotIn chainStep chainIn chain above conflict equivocates window later latest choiceOf kept countBelow supports weight isChild beats better bestChild walkStep walkIn walk weightAt headBlock baseBlock voteIn validVote quorum height higher highest numberFound fastBlock
 doubled =
     record {
       too-old = refl;
@@ -175,11 +175,11 @@ abbrev pub lateVotes : List Vote
 lateVotes = vote 1 999999998 21 ∷ vote 2 999999999 31 ∷ vote 3 999999999 31 ∷ vote 4 999999999 31 ∷ vote 0 999999999 11 ∷ []
 
 pub record Late : Type 0 where
-  pub late-head : head lateBlocks lateVotes 5 2 1000000000 ≡ 31
-  pub late-base : base lateBlocks lateVotes 5 2 999999999 ≡ 21
-  pub late-deep : deep lateBlocks lateVotes 5 2 3 1000000000 ≡ 11
-  pub late-fast : fast lateBlocks lateVotes 5 999999999 ≡ chosen 11
+  pub late-head : headBlock lateBlocks lateVotes 5 2 1000000000 ≡ 31
+  pub late-base : baseBlock lateBlocks lateVotes 5 2 999999999 ≡ 21
+  pub late-deep : deepBlock lateBlocks lateVotes 5 2 3 1000000000 ≡ 11
+  pub late-fast : fastBlock lateBlocks lateVotes 5 999999999 ≡ chosen 11
 
 pub late : Late
-unfolding any filter since find foundWith slotIn chainStep chainIn chain above conflict equivocates counted window later latest choiceOf kept count supports weight isChild beats better bestChild walkStep walkIn walk weightAt head base deepFrom deep voteIn validVote quorum height higher highest numberIn fast
+unfolding anyPass passing since find foundWith slotIn chainStep chainIn chain above conflict equivocates window later latest choiceOf kept countBelow supports weight isChild beats better bestChild walkStep walkIn walk weightAt headBlock baseBlock deepFrom deepBlock voteIn validVote quorum height higher highest numberFound fastBlock
 late = record { late-head = refl; late-base = refl; late-deep = refl; late-fast = refl }

@@ -13,7 +13,7 @@ use Rattle.protocol.specs.Refusal.{done}
 use Rattle.protocol.specs.Calls.Open.{openNode}
 use Rattle.protocol.specs.Calls.Query.{headQuery, deepQuery, fastQuery}
 use Rattle.protocol.specs.Calls.Write.{write}
-use Rattle.protocol.specs.CallList.{Call, said, meets, after, meetsNone}
+use Rattle.protocol.specs.CallList.{Call, callAnswer, meets, afterCalls, meetsNone}
 
 -- the same settings with a loom's limits
 abbrev pub asLoom : Settings → Settings
@@ -27,17 +27,17 @@ unfoldable pub RackAsLoom : Type 0
 RackAsLoom =
     -- two nodes that were opened with the same settings, the first with any limits, whatever stood in their memory before
     (s : Settings) (pl pl' : Places) (old old' : Node) →
-    openNode s pl old .reply ≡ done tt → openNode (asLoom s) pl' old' .reply ≡ done tt →
+    openNode s pl old .answer ≡ done tt → openNode (asLoom s) pl' old' .answer ≡ done tt →
     -- "a loom with places enough": with as many as the rack
     pl .blocks ≤ pl' .blocks → pl .votes ≤ pl' .votes →
     -- "given the .. calls and packets of a loom": any calls so far, none of which the rack refused for want of places or length
     (cs : List Call) → meetsNone byRoom s pl (openNode s pl old .node) cs ≡ true →
-    let x = after s pl (openNode s pl old .node) cs in
-    let y = after (asLoom s) pl' (openNode (asLoom s) pl' old' .node) cs in
+    let x = afterCalls s pl (openNode s pl old .node) cs in
+    let y = afterCalls (asLoom s) pl' (openNode (asLoom s) pl' old' .node) cs in
     -- "behaves as that loom": they hold the same entries, marks and clock; the next call that the rack does not refuse so, every question and every
     -- Write is answered alike, with the same buffer
     (x ≡ y)
-    × ((c : Call) → meets byRoom s pl x c ≡ false → said s pl x c ≡ said (asLoom s) pl' y c)
+    × ((c : Call) → meets byRoom s pl x c ≡ false → callAnswer s pl x c ≡ callAnswer (asLoom s) pl' y c)
     × ((t : ℕ) → headQuery s pl x t ≡ headQuery (asLoom s) pl' y t)
     × ((t : ℕ) → deepQuery s pl x t ≡ deepQuery (asLoom s) pl' y t)
     × ((t : ℕ) → fastQuery s pl x t ≡ fastQuery (asLoom s) pl' y t)

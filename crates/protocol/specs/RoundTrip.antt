@@ -11,7 +11,7 @@ use Rattle.protocol.specs.declared.Width.the-variants.{Narrow, Wide}
 use Rattle.protocol.specs.Entry.{Block}
 use Rattle.protocol.specs.Limits.{limitsOf}
 use Rattle.protocol.specs.Chain.{genesis}
-use Rattle.protocol.specs.Store.{entries, visible, allWaiting, Places, Node}
+use Rattle.protocol.specs.Store.{entries, inView, allWaiting, Places, Node}
 use Rattle.protocol.specs.Packet.{Packet, packetBytes, packetOf, wellFormed}
 use Rattle.protocol.specs.Refusal.{done}
 use Rattle.protocol.specs.Calls.Open.{openNode}
@@ -26,7 +26,7 @@ NumbersBelow m x = (b : Block) → List·Memᴰ b (entries (x .blocks)) → b .n
 abbrev pub copyOf : Node → Node
 copyOf x =
     record {
-      blocks = visible genesis ∷ allWaiting (afterGenesis (entries (x .blocks)));
+      blocks = inView genesis ∷ allWaiting (afterGenesis (entries (x .blocks)));
       votes = allWaiting (entries (x .votes));
       clock = record { seen = x .clock .seen; done = 2; merged = 0; proposed = 0 };
     }
@@ -37,9 +37,9 @@ RoundTrip =
     -- "16-byte numbers"
     NumbersBelow (2 ^ 128) x →
     -- "a written gossip packet", narrow or wide: a Write was carried out and answered n
-    (width : Width) (buffer : List ℕ) (n : ℕ) → write s p x false width buffer .reply ≡ done n →
+    (width : Width) (buffer : List ℕ) (n : ℕ) → write s p x false width buffer .answer ≡ done n →
     -- "by a fresh node", whatever stood in its memory before Open
-    (s' : Settings) (p' : Places) (old : Node) → openNode s' p' old .reply ≡ done tt →
+    (s' : Settings) (p' : Places) (old : Node) → openNode s' p' old .answer ≡ done tt →
     -- "with the same n"
     s' .nodes ≡ s .nodes →
     -- "and places enough"
@@ -49,7 +49,7 @@ RoundTrip =
     -- "received at the sender's beat": the first n bytes of the buffer as Write left it
     (receive s' p' (openNode s' p' old .node) (x .clock .seen) (take n (write s p x false width buffer .buffer))
     ≡ record {
-      reply = done (record { newBlocks = length (x .blocks) - 1; newVotes = length (x .votes); brought = false });
+      answer = done (record { newBlocks = length (x .blocks) - 1; newVotes = length (x .votes); viewed = false });
       node = copyOf x;
     })
     -- "yields exactly the sender's stock"
@@ -63,17 +63,17 @@ OldStock =
     -- "An old stock": its numbers have 64 bits
     NumbersBelow (2 ^ 64) x →
     -- "written wide"
-    (buffer : List ℕ) (n : ℕ) → write s p x false Wide buffer .reply ≡ done n →
+    (buffer : List ℕ) (n : ℕ) → write s p x false Wide buffer .answer ≡ done n →
     -- "received as in the second demand"
-    (s' : Settings) (p' : Places) (old : Node) → openNode s' p' old .reply ≡ done tt →
+    (s' : Settings) (p' : Places) (old : Node) → openNode s' p' old .answer ≡ done tt →
     s' .nodes ≡ s .nodes →
     length (x .blocks) ≤ p' .blocks → length (x .votes) ≤ p' .votes → limitsOf (s' .profile) .tooLong n ≡ false →
     let y = receive s' p' (openNode s' p' old .node) (x .clock .seen) (take n (write s p x false Wide buffer .buffer)) .node in
     let bytes = packetOut false Narrow x in
     -- "and then written narrow", to any buffer that has room, "gives the bytes of its own narrow gossip"
     (buffer' : List ℕ) → length bytes ≤ length buffer' →
-    (write s' p' y false Narrow buffer' ≡ record { reply = done (length bytes); buffer = over bytes buffer' })
-    × (write s p x false Narrow buffer' ≡ record { reply = done (length bytes); buffer = over bytes buffer' })
+    (write s' p' y false Narrow buffer' ≡ record { answer = done (length bytes); buffer = over bytes buffer' })
+    × (write s p x false Narrow buffer' ≡ record { answer = done (length bytes); buffer = over bytes buffer' })
 
 -- the same packet with wide numbers
 abbrev pub wider : Packet → Packet

@@ -8,9 +8,9 @@ use Rattle.protocol.specs.declared.Settings.{Settings}
 use Rattle.protocol.specs.declared.Clock.{Clock}
 use Rattle.protocol.specs.Entry.{Block, Vote}
 use Rattle.protocol.specs.Limits.{maxSlot, maxExpiry, maxDepth, Limits, limitsOf}
-use Rattle.protocol.specs.Lists.{any}
+use Rattle.protocol.specs.Lists.{anyPass}
 use Rattle.protocol.specs.Chain.{genesis, find, foundWith, known}
-use Rattle.protocol.specs.Store.{Marked, entries, inView, sameBlock, sameVote, Places, Node}
+use Rattle.protocol.specs.Store.{Marked, entries, viewOf, sameBlock, sameVote, Places, Node}
 
 unfoldable pub between : ℕ → ℕ → ℕ → Bool
 between a b x = leb a x && leb x b
@@ -38,7 +38,7 @@ blockSound slot earlier m =
     not (known (entries earlier) (m .entry .number))
     && (leb (m .entry .slot) slot
     && (foundWith (λ p. ltb (p .slot) (m .entry .slot)) (find (entries earlier) (m .entry .parent))
-    && (not (m .shown) || known (inView earlier) (m .entry .parent))))
+    && (not (m .viewed) || known (viewOf earlier) (m .entry .parent))))
 
 unfoldable pub restSound : ℕ → List (Marked Block) → List (Marked Block) → Bool
 restSound slot earlier [] = true
@@ -47,7 +47,7 @@ restSound slot earlier (m ∷ ms) = blockSound slot earlier m && restSound slot 
 -- block 0 stands first, in view
 unfoldable pub blocksSound : ℕ → List (Marked Block) → Bool
 blocksSound slot [] = false
-blocksSound slot (m ∷ ms) = sameBlock (m .entry) genesis && (m .shown && restSound slot (m ∷ []) ms)
+blocksSound slot (m ∷ ms) = sameBlock (m .entry) genesis && (m .viewed && restSound slot (m ∷ []) ms)
 
 -- ---- votes of n voters
 
@@ -56,13 +56,13 @@ voteSound n slot bs m =
     ltb (m .entry .voter) n
     && (between 1 slot (m .entry .slot)
     && (foundWith (λ b. leb (b .slot) (m .entry .slot)) (find (entries bs) (m .entry .number))
-    && (not (m .shown) || known (inView bs) (m .entry .number))))
+    && (not (m .viewed) || known (viewOf bs) (m .entry .number))))
 
 -- each is sound, and none stands twice
 unfoldable pub votesSound : ℕ → ℕ → List (Marked Block) → List (Marked Vote) → Bool
 votesSound n slot bs [] = true
 votesSound n slot bs (m ∷ ms) =
-    voteSound n slot bs m && (not (any (sameVote (m .entry)) (entries ms)) && votesSound n slot bs ms)
+    voteSound n slot bs m && (not (anyPass (sameVote (m .entry)) (entries ms)) && votesSound n slot bs ms)
 
 -- ---- the whole
 

@@ -9,8 +9,8 @@ use Rattle.protocol.specs.declared.Vote as codeVote
 use Rattle.protocol.specs.Entry.{Block, Vote}
 
 -- the number of a lower and an upper half, and the halves of a number
-unfoldable pub join : ℕ → ℕ → ℕ
-join lower upper = lower + 2 ^ 64 * upper
+unfoldable pub fromHalves : ℕ → ℕ → ℕ
+fromHalves lower upper = lower + 2 ^ 64 * upper
 
 unfoldable pub lowerOf : ℕ → ℕ
 lowerOf n = n % 2 ^ 64
@@ -23,7 +23,7 @@ unfoldable pub isWide : ℕ → Bool
 isWide n = not (eqb (upperOf n) 0)
 
 abbrev pub value : Number → ℕ
-value n = join (n .lower) (n .upper)
+value n = fromHalves (n .lower) (n .upper)
 
 -- a number as it is stored
 abbrev pub numberAs : ℕ → Number

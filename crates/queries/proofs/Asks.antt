@@ -10,7 +10,7 @@ use Rattle.protocol.specs.declared.Settings.{Settings}
 use Rattle.protocol.specs.Filters.{Choice, chosen}
 use Rattle.protocol.specs.Walk as walk
 use Rattle.protocol.specs.Confirm as confirm
-use Rattle.protocol.specs.Store.{inView}
+use Rattle.protocol.specs.Store.{viewOf}
 use Rattle.protocol.specs.Refusal.{done}
 use Rattle.protocol.specs.Calls.Vote.{headOf}
 use Rattle.protocol.specs.Calls.Query.{queryTests, deepOf, fastOf, fastQuery}
@@ -24,8 +24,8 @@ use Rattle.verdicts.specs.Verdict.{verdictOf}
 use Rattle.verdicts.specs.Lent.{lentVerdict}
 use Rattle.verdicts.proofs.Passed.{passes, pass-ready}
 use Rattle.verdicts.proofs.Calls.{head-refused, head-done, deep-refused, deep-done, fast-refused, fast-done}
-use Rattle.answers.specs.declared.Answer.the-variants as answer
-use Rattle.answers.specs.Answers.{mapReply}
+use Rattle.answers.specs.declared.Found.the-variants as found
+use Rattle.answers.specs.Answers.{mapAnswer}
 use Rattle.answers.specs.Promises.{IsHead, IsDeep, IsFast}
 use Rattle.answers.proofs.Verdict.{said}
 
@@ -39,32 +39,32 @@ module _ (s : Settings) (slot : ℕ) (m : Lent) {v : Verdict} (h : verdictOf v �
       let seen = ltb-false (m .clock .seen / 3) slot (neither (ltb (m .clock .seen / 3) slot) _ (neither (eqb slot 0) _ (b .0) .1) .0) in
       omega (arith, seen, pass-ready s _ m (said Pass h e) .clock)
 
-  pub head-leaves : {e : Refusal} → v ≡ Refuse e → IsHead s m slot (answer.Refused e)
-  unfolding mapReply
-  head-leaves e = ap (mapReply chosen) (sym (head-refused s m slot _ (said (Refuse _) h e)))
+  pub head-leaves : {e : Refusal} → v ≡ Refuse e → IsHead s m slot (found.Refused e)
+  unfolding mapAnswer
+  head-leaves e = ap (mapAnswer chosen) (sym (head-refused s m slot _ (said (Refuse _) h e)))
 
-  pub deep-leaves : {e : Refusal} → v ≡ Refuse e → IsDeep s m slot (answer.Refused e)
-  unfolding mapReply
-  deep-leaves e = ap (mapReply chosen) (sym (deep-refused s m slot _ (said (Refuse _) h e)))
+  pub deep-leaves : {e : Refusal} → v ≡ Refuse e → IsDeep s m slot (found.Refused e)
+  unfolding mapAnswer
+  deep-leaves e = ap (mapAnswer chosen) (sym (deep-refused s m slot _ (said (Refuse _) h e)))
 
-  pub fast-leaves : {e : Refusal} → v ≡ Refuse e → IsFast s m slot (answer.Refused e)
+  pub fast-leaves : {e : Refusal} → v ≡ Refuse e → IsFast s m slot (found.Refused e)
   fast-leaves e = sym (fast-refused s m slot _ (said (Refuse _) h e))
 
   pub head-answers : (b : Number) → v ≡ Pass
-      → value b ≡ walk.head (inView (rowsOf makeBlock (m .blocks) (m .blocksUsed))) (inView (rowsOf makeVote (m .votes) (m .votesUsed))) (s .nodes) (s .expiry) slot
-      → IsHead s m slot (answer.Block b)
-  unfolding headOf nodeOf mapReply
-  head-answers b e f = ap (λ (x : ℕ). done (chosen x)) f ∙ ap (mapReply chosen) (sym (head-done s m slot (said Pass h e)))
+      → value b ≡ walk.headBlock (viewOf (rowsOf makeBlock (m .blocks) (m .blocksUsed))) (viewOf (rowsOf makeVote (m .votes) (m .votesUsed))) (s .nodes) (s .expiry) slot
+      → IsHead s m slot (found.Block b)
+  unfolding headOf nodeOf mapAnswer
+  head-answers b e f = ap (λ (x : ℕ). done (chosen x)) f ∙ ap (mapAnswer chosen) (sym (head-done s m slot (said Pass h e)))
 
   pub deep-answers : (b : Number) → v ≡ Pass
-      → value b ≡ confirm.deep (inView (rowsOf makeBlock (m .blocks) (m .blocksUsed))) (inView (rowsOf makeVote (m .votes) (m .votesUsed))) (s .nodes) (s .expiry) (s .depth) slot
-      → IsDeep s m slot (answer.Block b)
-  unfolding deepOf nodeOf mapReply
-  deep-answers b e f = ap (λ (x : ℕ). done (chosen x)) f ∙ ap (mapReply chosen) (sym (deep-done s m slot (said Pass h e)))
+      → value b ≡ confirm.deepBlock (viewOf (rowsOf makeBlock (m .blocks) (m .blocksUsed))) (viewOf (rowsOf makeVote (m .votes) (m .votesUsed))) (s .nodes) (s .expiry) (s .depth) slot
+      → IsDeep s m slot (found.Block b)
+  unfolding deepOf nodeOf mapAnswer
+  deep-answers b e f = ap (λ (x : ℕ). done (chosen x)) f ∙ ap (mapAnswer chosen) (sym (deep-done s m slot (said Pass h e)))
 
   -- a block, or nothing
   pub fast-answers : {c : Choice} → v ≡ Pass
-      → c ≡ confirm.fast (inView (rowsOf makeBlock (m .blocks) (m .blocksUsed))) (inView (rowsOf makeVote (m .votes) (m .votesUsed))) (s .nodes) slot
+      → c ≡ confirm.fastBlock (viewOf (rowsOf makeBlock (m .blocks) (m .blocksUsed))) (viewOf (rowsOf makeVote (m .votes) (m .votesUsed))) (s .nodes) slot
       → done c ≡ askLent s (λ p x. fastQuery s p x slot) m
   unfolding fastOf nodeOf
   fast-answers e f = ap done f ∙ sym (fast-done s m slot (said Pass h e))

@@ -1,6 +1,6 @@
 // Head, Deep and Fast: questions about a slot, from the one last merged to the one seen, over the view. The memory is only read.
 // Each takes any memory that a caller may lend: the verdict comes first.
-use answers::Answer;
+use answers::Found;
 use protocol::Clock;
 use protocol::Settings;
 use verdicts::Verdict;
@@ -16,7 +16,7 @@ pub fn head(
     votes: &[u64],
     votes_used: usize,
     slot: u64,
-) -> Answer
+) -> Found
     ensures { λ r. ⌜ IsHead settings (lent (now (blocks .entry)) (now (votes .entry)) «blocks_used» «votes_used» clock) slot r ⌝ }
 {
     let verdict = verdicts::query_verdict(
@@ -29,10 +29,10 @@ pub fn head(
         slot,
     );
     match verdict {
-        Verdict::Refuse(refusal) => Answer::Refused(refusal),
+        Verdict::Refuse(refusal) => Found::Refused(refusal),
         Verdict::Pass => {
-            let found = choice::head(settings, blocks, blocks_used, votes, votes_used, slot);
-            Answer::Block(found)
+            let found = fork_choice::head(settings, blocks, blocks_used, votes, votes_used, slot);
+            Found::Block(found)
         }
     }
 }
@@ -46,7 +46,7 @@ pub fn deep(
     votes: &[u64],
     votes_used: usize,
     slot: u64,
-) -> Answer
+) -> Found
     ensures { λ r. ⌜ IsDeep settings (lent (now (blocks .entry)) (now (votes .entry)) «blocks_used» «votes_used» clock) slot r ⌝ }
 {
     let verdict = verdicts::query_verdict(
@@ -59,10 +59,10 @@ pub fn deep(
         slot,
     );
     match verdict {
-        Verdict::Refuse(refusal) => Answer::Refused(refusal),
+        Verdict::Refuse(refusal) => Found::Refused(refusal),
         Verdict::Pass => {
             let found = confirm::deep(settings, blocks, blocks_used, votes, votes_used, slot);
-            Answer::Block(found)
+            Found::Block(found)
         }
     }
 }
@@ -76,7 +76,7 @@ pub fn fast(
     votes: &[u64],
     votes_used: usize,
     slot: u64,
-) -> Answer
+) -> Found
     ensures { λ r. ⌜ IsFast settings (lent (now (blocks .entry)) (now (votes .entry)) «blocks_used» «votes_used» clock) slot r ⌝ }
 {
     let verdict = verdicts::query_verdict(
@@ -89,12 +89,12 @@ pub fn fast(
         slot,
     );
     match verdict {
-        Verdict::Refuse(refusal) => Answer::Refused(refusal),
+        Verdict::Refuse(refusal) => Found::Refused(refusal),
         Verdict::Pass => {
             let found = confirm::fast(settings, blocks, blocks_used, votes, votes_used, slot);
             match found {
-                confirm::Answer::Chosen(number) => Answer::Block(number),
-                confirm::Answer::Nothing => Answer::Nothing,
+                confirm::Choice::Chosen(number) => Found::Block(number),
+                confirm::Choice::Nothing => Found::Nothing,
             }
         }
     }

@@ -8,7 +8,7 @@ ghost use mathlib.Core.Path.{_≡_};
 ghost use Prim.Native.Nat.{_*_, _<_};
 ghost use lib.Dec.{leb};
 ghost use Rattle.protocol.specs.Limits.{limitsOf};
-ghost use Rattle.protocol.specs.Lists.{all};
+ghost use Rattle.protocol.specs.Lists.{allPass};
 ghost use Rattle.protocol.specs.Sound.{settingsSound, clockSound, placesSound, between};
 ghost use Rattle.protocol.specs.Lent.{BlocksFit, VotesFit, blockWords, voteWords, placesIn, marksSound, rowsOf, makeBlock, makeVote};
 ghost use Rattle.ranges.specs.Rows.{blockInRange, voteInRange};
@@ -99,7 +99,7 @@ pub fn fits(width: usize, words: &[u64], used: usize) -> bool
 // Whether the marks of the used rows are 0 or 1, and no slot is above `slot`. One pass over the rows.
 pub fn blocks_in_range(blocks: &[u64], used: usize, slot: u64) -> bool
     requires { ⌜ BlocksFit used (now blocks) ⌝ }
-    ensures { λ r. ⌜ r ≡ (marksSound makeBlock (now (blocks .entry)) used && all (blockInRange slot) (rowsOf makeBlock (now (blocks .entry)) used)) ⌝ }
+    ensures { λ r. ⌜ r ≡ (marksSound makeBlock (now (blocks .entry)) used && allPass (blockInRange slot) (rowsOf makeBlock (now (blocks .entry)) used)) ⌝ }
 {
     let mut i: usize = 0;
     while i < used {
@@ -118,7 +118,7 @@ pub fn blocks_in_range(blocks: &[u64], used: usize, slot: u64) -> bool
 // Whether the marks of the used rows are 0 or 1, every voter is below `nodes` and every slot from 1 to `slot`. One pass over the rows.
 pub fn votes_in_range(votes: &[u64], used: usize, nodes: u64, slot: u64) -> bool
     requires { ⌜ VotesFit used (now votes) ⌝ }
-    ensures { λ r. ⌜ r ≡ (marksSound makeVote (now (votes .entry)) used && all (voteInRange nodes slot) (rowsOf makeVote (now (votes .entry)) used)) ⌝ }
+    ensures { λ r. ⌜ r ≡ (marksSound makeVote (now (votes .entry)) used && allPass (voteInRange nodes slot) (rowsOf makeVote (now (votes .entry)) used)) ⌝ }
 {
     let mut i: usize = 0;
     while i < used {

@@ -5,11 +5,11 @@ use mathlib.Core.List.{List}
 use mathlib.Core.Path.{_≡_, ap, sym, _∙_}
 use native.Mathlib.Omega.{arith}
 use lib.ListN.{length}
-use Rattle.protocol.specs.Store.{Marked, entries, show}
+use Rattle.protocol.specs.Store.{Marked, entries, view}
 use Rattle.protocol.specs.Lent.{Make, rowsOf, stored, marksSound}
 use Rattle.protocol.proofs.Store.New.{Adding}
 use Rattle.protocol.proofs.Store.Added.{length-grows}
-use Rattle.protocol.proofs.Store.Views.{length-entries, length-show}
+use Rattle.protocol.proofs.Store.Views.{length-entries, length-viewing}
 use Rattle.protocol.proofs.Lent.Rows.{Codec, length-rowsOf, rows-stored, marks-stored}
 use Rattle.rows.proofs.Stored.{stored-longer}
 use Rattle.storing.specs.Grown.{grown, Holds}
@@ -28,16 +28,16 @@ module _ {A : Type 0} {make : Make (Marked A)} {row : Marked A → List ℕ} (co
     over-held xs l e = e ∙ ap (stored row xs) (h .words) ∙ stored-longer codec xs rs ws₀ l
 
     -- some of them come into view
-    pub shown-held : (q : A → Bool) {ws′ : List ℕ} → ws′ ≡ stored row (show q (rowsOf make ws u)) ws → Holds (Marked A) row (show q rs) ws₀ ws′ u
-    shown-held q e = record {
-      words = over-held (show q rs) (omega (arith, length-show q rs)) (e ∙ ap (λ (r : List (Marked A)). stored row (show q r) ws) rows-held);
-      used = h .used ∙ sym (length-show q rs);
+    pub viewed-held : (q : A → Bool) {ws′ : List ℕ} → ws′ ≡ stored row (view q (rowsOf make ws u)) ws → Holds (Marked A) row (view q rs) ws₀ ws′ u
+    viewed-held q e = record {
+      words = over-held (view q rs) (omega (arith, length-viewing q rs)) (e ∙ ap (λ (r : List (Marked A)). stored row (view q r) ws) rows-held);
+      used = h .used ∙ sym (length-viewing q rs);
     }
 
   -- rows that were there came into view
-  pub show-held : (q : A → Bool) (ws₀ : List ℕ) (n : ℕ) {ws : List ℕ} → ws ≡ stored row (show q (rowsOf make ws₀ n)) ws₀
-      → Holds (Marked A) row (show q (rowsOf make ws₀ n)) ws₀ ws n
-  show-held q ws₀ n e = record { words = e; used = sym (length-show q (rowsOf make ws₀ n) ∙ length-rowsOf make ws₀ n) }
+  pub viewing-held : (q : A → Bool) (ws₀ : List ℕ) (n : ℕ) {ws : List ℕ} → ws ≡ stored row (view q (rowsOf make ws₀ n)) ws₀
+      → Holds (Marked A) row (view q (rowsOf make ws₀ n)) ws₀ ws n
+  viewing-held q ws₀ n e = record { words = e; used = sym (length-viewing q (rowsOf make ws₀ n) ∙ length-rowsOf make ws₀ n) }
 
 -- how many rows there are after entries xs were added
 module _ {A : Type 0} (has : List A → A → Bool) (add : List A → List A → List A) (is : Adding has add) {make : Make (Marked A)} {row : Marked A → List ℕ}

@@ -1,4 +1,4 @@
--- After a packet's new entries were added, the rows that it names are those at the places of the set and those behind the old rows.
+-- After a packet's new entries were added, the rows that it names are those of the set and those behind the old rows.
 -- Assumes nothing.
 use Prim.Native.Nat.{ℕ, zero, suc, _+_, _-_, _<_}
 use mathlib.Core.Bool.{Bool, true, false, _||_}
@@ -10,7 +10,7 @@ use lib.Dec.{eqb, leb}
 use lib.ListN.{length, getD, length-append, List·getD-append}
 use lib.Seq.{getD-append-add}
 use Rattle.protocol.specs.Entry.{Block, Vote}
-use Rattle.protocol.specs.Lists.{any, filter}
+use Rattle.protocol.specs.Lists.{anyPass, passing}
 use Rattle.protocol.specs.Store.{Marked, allWaiting, entries, sameVote, since}
 use Rattle.protocol.specs.Packet.{packetOf}
 use Rattle.protocol.specs.Lent.{Make, rowsOf, makeBlock, makeVote, blockRow, voteRow}
@@ -30,7 +30,7 @@ use Rattle.storing.proofs.Adding.{grown-new}
 use Rattle.views.specs.Named.{namedAt, Agrees}
 use Rattle.receiving.proofs.Held.{rows-held}
 
--- ---- entries xs that wait behind the rows in ws₀; p passes them, and those of the rows whose places are in the set
+-- ---- entries xs that wait behind the rows in ws₀; p passes them, and those of the rows that are in the set
 
 module _ {A : Type 0} {make : Make (Marked A)} {row : Marked A → List ℕ} (codec : Codec (Marked A) make row) (p : A → Bool) where
   waiting-passes : (xs : List A) (k : ℕ) (d : Marked A) → ((a : A) → List·Memᴰ a xs → p a ≡ true) → k < length xs → p (getD (allWaiting xs) k d .entry) ≡ true
@@ -87,13 +87,13 @@ module _ (ws₀ : List ℕ) (u₀ : ℕ) (bytes set : List ℕ) {ws : List ℕ} 
       bs = packetOf bytes .blocks
 
       own : (c : Block) → List·Memᴰ c bs → named (packetOf bytes) c ≡ true
-      own c m = unfold named in (or-left (any (λ o. eqb (c .number) (o .number)) bs) _ (any-holds (λ o. eqb (c .number) (o .number)) c m (eq-eqb (c .number) (c .number) refl)))
+      own c m = unfold named in (or-left (anyPass (λ o. eqb (c .number) (o .number)) bs) _ (any-holds (λ o. eqb (c .number) (o .number)) c m (eq-eqb (c .number) (c .number) refl)))
 
   pub votes-agree : (from : ℕ) → Holds (Marked Vote) voteRow (grown (addSince from) (rowsOf makeVote ws₀ u₀) (packetOf bytes .votes)) ws₀ ws u → VotesNamed ws₀ u₀ bytes set
-      → Agrees Vote makeVote ws u (namedAt u₀ set) (λ a. any (sameVote a) (packetOf bytes .votes))
+      → Agrees Vote makeVote ws u (namedAt u₀ set) (λ a. anyPass (sameVote a) (packetOf bytes .votes))
   votes-agree from H f =
-      agrees-held vote-codec (λ a. any (sameVote a) vs) ws₀ u₀ set (newVotesOf (entries R) (filter (since from) vs)) (rw new at H) f
-      (λ a m. any-holds (sameVote a) a (since-in from vs a (votes-from (entries R) (filter (since from) vs) a m) .0) (same-vote a a refl))
+      agrees-held vote-codec (λ a. anyPass (sameVote a) vs) ws₀ u₀ set (newVotesOf (entries R) (passing (since from) vs)) (rw new at H) f
+      (λ a m. any-holds (sameVote a) a (since-in from vs a (votes-from (entries R) (passing (since from) vs) a m) .0) (same-vote a a refl))
     where
       R : List (Marked Vote)
       R = rowsOf makeVote ws₀ u₀
@@ -101,5 +101,5 @@ module _ (ws₀ : List ℕ) (u₀ : ℕ) (bytes set : List ℕ) {ws : List ℕ} 
       vs : List Vote
       vs = packetOf bytes .votes
 
-      new : grown (addSince from) R vs ≡ R ++ allWaiting (newVotesOf (entries R) (filter (since from) vs))
-      new = unfold grown in (grown-new knowsVote addVotes adding-votes R (filter (since from) vs))
+      new : grown (addSince from) R vs ≡ R ++ allWaiting (newVotesOf (entries R) (passing (since from) vs))
+      new = unfold grown in (grown-new knowsVote addVotes adding-votes R (passing (since from) vs))

@@ -7,7 +7,7 @@ use lib.ListN.{length}
 use Rattle.protocol.specs.declared.Clock.{Clock}
 use Rattle.protocol.specs.Entry.{Block, Vote}
 use Rattle.protocol.specs.Chain.{known}
-use Rattle.protocol.specs.Lists.{all}
+use Rattle.protocol.specs.Lists.{allPass}
 use Rattle.protocol.specs.Store.{Marked, Node, entries, freshClock}
 use Rattle.protocol.specs.Sound.{blocksSound}
 use Rattle.protocol.specs.Packet.{Packet}
@@ -17,8 +17,8 @@ use Rattle.protocol.specs.Calls.Receive.{addBlocks, firstBadBlock, firstBadVote
 pub record Carried (ms : List (Marked Block)) (p : Packet) : Type 0 where
   pub slot : ℕ
   pub sound : blocksSound slot ms ≡ true
-  pub blocks : all (λ c. known (entries ms) (c .number)) (p .blocks) ≡ true
-  pub votes : all (λ a. known (entries ms) (a .number)) (p .votes) ≡ true
+  pub blocks : allPass (λ c. known (entries ms) (c .number)) (p .blocks) ≡ true
+  pub votes : allPass (λ a. known (entries ms) (a .number)) (p .votes) ≡ true
 
 -- the blocks are sound at a slot, and no block or vote of the packet breaks a rule at a beat of this or a later slot
 pub record Accepted (ms : List (Marked Block)) (p : Packet) : Type 0 where

@@ -9,7 +9,7 @@ use native.Mathlib.Nat.{le-refl}
 use native.Mathlib.Omega.{arith}
 use Rattle.protocol.specs.Entry.{Block}
 use Rattle.protocol.specs.Chain.{genesis}
-use Rattle.protocol.specs.Store.{inView}
+use Rattle.protocol.specs.Store.{viewOf}
 use Rattle.protocol.specs.Calls.Vote.{headOf}
 use Rattle.protocol.specs.Calls.Query.{deepOf}
 use Rattle.protocol.proofs.Chain.Above.{above-trans, above-antisym, above-compare, above-level, above-start, known-down}
@@ -97,7 +97,7 @@ module _ {N : Network} (X : Execution N) (k : ℕ) (l : k ≤ X .end) (i : ℕ) 
   begun = let t = sound-tables X k i h .time in omega (arith, seen-beat X k i h, t .done-seen, t .merged-done, beat-mono X k (X .end) l)
 
   abbrev bs : List Block
-  bs = inView (world X k .node i .blocks)
+  bs = viewOf (world X k .node i .blocks)
 
   abbrev deepNow : ℕ
   deepNow = deepOf (settings N i) (world X k .node i) a
@@ -113,11 +113,11 @@ module _ {N : Network} (X : Execution N) (k : ℕ) (l : k ≤ X .end) (i : ℕ) 
 
   head-known : Known bs headNow
   unfolding headOf
-  head-known = let c = head-early S (inView (world X k .node i .votes)) (N .nodes) (N .expiry) a in (c .0, c .1, c .2)
+  head-known = let c = head-early S (viewOf (world X k .node i .votes)) (N .nodes) (N .expiry) a in (c .0, c .1, c .2)
 
   deepest : (d : Block) × IsDeep bs headNow (N .depth) a d × (d .number ≡ deepNow)
   unfolding headOf deepOf
-  deepest = deep-is S (inView (world X k .node i .votes)) (N .nodes) (N .expiry) (N .depth) a
+  deepest = deep-is S (viewOf (world X k .node i .votes)) (N .nodes) (N .expiry) (N .depth) a
 
   -- a block of the run with the number of one in view is in view
   in-view : (c : Block) → OfRun X c → Known bs (c .number) → In c bs

@@ -8,9 +8,9 @@ use native.Mathlib.Nat.{le-refl}
 use native.Mathlib.Omega.{arith}
 use Rattle.protocol.specs.Entry.{Block, Vote}
 use Rattle.protocol.specs.Filters.{Choice, chosen, nothing}
-use Rattle.protocol.specs.Walk.{count, supports}
+use Rattle.protocol.specs.Walk.{countBelow, supports}
 use Rattle.protocol.specs.Confirm.{validVote}
-use Rattle.protocol.specs.Store.{inView}
+use Rattle.protocol.specs.Store.{viewOf}
 use Rattle.protocol.specs.Refusal.{first}
 use Rattle.protocol.specs.Calls.Query.{queryTests, fastOf, fastQuery}
 use Rattle.protocol.proofs.Basics.Counting.{count-witness}
@@ -45,10 +45,10 @@ use Rattle.resilience.proofs.Supported.{Supported, supported-stays, one
 module _ {N : Network} (X : Execution N) (few : 4 * dishonest N < N .nodes) (t k : ℕ) (l : k ≤ X .end) (i : ℕ) (h : isHonest N i ≡ true) (F : ℕ)
     (found : fastOf (settings N i) (world X k .node i) t ≡ chosen F) where
   abbrev bs : List Block
-  bs = inView (world X k .node i .blocks)
+  bs = viewOf (world X k .node i .blocks)
 
   abbrev vs : List Vote
-  vs = inView (world X k .node i .votes)
+  vs = viewOf (world X k .node i .votes)
 
   good : IsSound (settings N i) (N .places i) (world X k .node i)
   good = sound-tables X k i h
@@ -71,7 +71,7 @@ module _ {N : Network} (X : Execution N) (few : 4 * dishonest N < N .nodes) (t k
   sees = honestFor bs vs (N .honest) t (B .number)
 
   -- are more than all others
-  most : count (λ v. not (sees v)) (N .nodes) < count sees (N .nodes)
+  most : countBelow (λ v. not (sees v)) (N .nodes) < countBelow sees (N .nodes)
   unfolding dishonest
   most = quorum-honest bs vs (N .honest) (N .nodes) t (B .number) few (is-fast .1 .share)
 

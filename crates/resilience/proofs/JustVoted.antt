@@ -5,7 +5,7 @@ use mathlib.Core.Bool.{cond}
 use native.Mathlib.Omega.{arith}
 use borrow.Author.Tests.{eq-eqb, ne-eqb, le-ltb}
 use Rattle.protocol.specs.Store.{Node}
-use Rattle.protocol.specs.Refusal.{first, pass, done, answer}
+use Rattle.protocol.specs.Refusal.{first, pass, done, answerUnless}
 use Rattle.protocol.specs.Calls.Vote.{voteTests, voteInto, vote, headOf}
 use Rattle.protocol.specs.Calls.Query.{queryTests, deepOf, deepQuery}
 use Rattle.protocol.proofs.Store.Sound.{sound-holds}
@@ -24,7 +24,7 @@ module _ (N : Network) (i a : ℕ) (u : World) (A : JustVoted N i a u) where
   passes : (first (voteTests (settings N i) (N .places i) (x .node i) (x .beat)) ≡ pass) × (headOf (settings N i) (x .node i) (x .beat / 3) ≡ A .value)
       × (vote (settings N i) (N .places i) (x .node i) (x .beat) .node ≡ voteInto (settings N i) (x .node i) (x .beat))
   unfolding vote
-  passes = unless-done (first (voteTests (settings N i) (N .places i) (x .node i) (x .beat))) _ _ _ (A .value) (A .reply)
+  passes = unless-done (first (voteTests (settings N i) (N .places i) (x .node i) (x .beat))) _ _ _ (A .value) (A .answer)
 
   tests : Votes (settings N i) (N .places i) (x .node i) (x .beat)
   tests = votes (settings N i) (N .places i) (x .node i) (x .beat) (passes .0)
@@ -43,7 +43,7 @@ module _ (N : Network) (i a : ℕ) (u : World) (A : JustVoted N i a u) where
       ∙ passes .2
 
   query : deepQuery (settings N i) (N .places i) y a ≡ done (deepOf (settings N i) y a)
-  unfolding deepQuery queryTests first answer
+  unfolding deepQuery queryTests first answerUnless
   query = rw (
     sound-holds (vote-sound (settings N i) (N .places i) (x .node i) (x .beat) tests),
     ne-eqb a 0 (λ e. omega (arith, tests .joined, A .beat)),

@@ -10,7 +10,7 @@ use borrow.Author.Tests.{eqb-true, eqb-false, not-false}
 use Rattle.protocol.specs.Entry.{Block}
 use Rattle.protocol.specs.Chain.{genesis}
 use Rattle.protocol.specs.Filters.{chosen}
-use Rattle.protocol.specs.Walk.{count}
+use Rattle.protocol.specs.Walk.{countBelow}
 use Rattle.protocol.proofs.Basics.Counting.{count-not, count-witness, count-overlap}
 use Rattle.protocol.proofs.Basics.Tests.{clashing}
 use Rattle.protocol.proofs.Filters.Kept.{chosen-inj}
@@ -32,7 +32,7 @@ pub record Supported (N : Network) (w : World) (t F : ℕ) : Type 0 where
   pub is : block .number ≡ F
   pub early : block .slot ≤ t
   pub for : ℕ → Bool
-  pub more : count (λ v. not (for v)) (N .nodes) < count for (N .nodes)
+  pub more : countBelow (λ v. not (for v)) (N .nodes) < countBelow for (N .nodes)
   pub on : (v : ℕ) → for v ≡ true → (N .honest v ≡ true) × (x : ℕ) × (ballotIn (w .log) v t ≡ chosen x) × AtOrAbove (w .log) F x
 
 -- ---- what is supported stays

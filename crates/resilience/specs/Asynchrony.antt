@@ -3,7 +3,7 @@
 use Prim.Native.Nat.{ℕ, suc, _+_, _*_, _-_, _/_, _<_}
 use mathlib.Core.Bool.{Bool, _&&_, _||_, not}
 use mathlib.Core.List.{List}
-use Rattle.protocol.specs.Walk.{count}
+use Rattle.protocol.specs.Walk.{countBelow}
 use Rattle.resilience.specs.Run.{Network, World, Run, Event}
 use Rattle.resilience.specs.Resilience.{Opened, Unforged, OneBlock, EnoughForHonest, DeliveredAt, votesIn, votesBefore, voters, MoreVote, Stays}
 use Rattle.resilience.specs.DeepAgreement.{OneOfEvery, HonestBlock, Agreed, DeepWhileJoined}
@@ -60,7 +60,7 @@ abbrev pub opposedSince : Network → List Event → ℕ → ℕ → ℕ → Boo
 opposedSince N log t g i = not (N .honest i) || (votesBefore (N .expiry - 1 - (g - t)) log t i && not (votesIn log t i || votesIn log g i))
 
 abbrev pub MoreVoteSince : Network → ℕ → ℕ → List Event → Type 0
-MoreVoteSince N t g log = count (opposedSince N log t g) (N .nodes) < count (voters N log g) (N .nodes)
+MoreVoteSince N t g log = countBelow (opposedSince N log t g) (N .nodes) < countBelow (voters N log g) (N .nodes)
 
 pub record GoodSince (N : Network) (w : World) (t g : ℕ) : Type 0 where
   pub arrive : DeliveredAt (3 * g + 1) (w .log)

@@ -7,7 +7,7 @@ use mathlib.Core.Bool.{not}
 use mathlib.Core.List.{List, List·Memᴰ}
 use lib.Dec.{T}
 use Rattle.protocol.specs.Filters.{chosen}
-use Rattle.protocol.specs.Walk.{count}
+use Rattle.protocol.specs.Walk.{countBelow}
 use Rattle.protocol.specs.Refusal.{done}
 use Rattle.protocol.specs.Calls.Merge.{merge}
 use Rattle.protocol.specs.Calls.Query.{fastOf, fastQuery}
@@ -18,7 +18,7 @@ use Rattle.resilience.specs.Resilience.{Opened, OneBlock, AtOrAbove, Unf
 
 -- "the dishonest nodes"
 unfoldable pub dishonest : Network → ℕ
-dishonest N = count (λ i. not (N .honest i)) (N .nodes)
+dishonest N = countBelow (λ i. not (N .honest i)) (N .nodes)
 
 -- `Found i t F`: before the run stood in w, node i found the fast block F for slot t, at such a point as the claims below say.
 abbrev pub FoundStays : World → (ℕ → ℕ → ℕ → Type 0) → ℕ → Type 0

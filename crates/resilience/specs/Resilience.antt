@@ -7,7 +7,7 @@ use mathlib.Core.List.{List, [], _∷_, _++_, List·Memᴰ}
 use lib.Dec.{eqb, ltb, T}
 use Rattle.protocol.specs.Entry.{Block, Vote}
 use Rattle.protocol.specs.Lists.{Same}
-use Rattle.protocol.specs.Walk.{count}
+use Rattle.protocol.specs.Walk.{countBelow}
 use Rattle.protocol.specs.Packet.{Packet, packetOf, isProposal}
 use Rattle.protocol.specs.Refusal.{done}
 use Rattle.protocol.specs.Calls.Open.{openNode}
@@ -15,7 +15,7 @@ use Rattle.resilience.specs.Run.{Network, World, Run, Event, woke, voted
 
 -- "freshly opened honest nodes": the Open of each was carried out.
 unfoldable pub Opened : Network → Type 0
-Opened N = (i : ℕ) → T (isHonest N i) → openNode (settings N i) (N .places i) (N .before i) .reply ≡ done tt
+Opened N = (i : ℕ) → T (isHonest N i) → openNode (settings N i) (N .places i) (N .before i) .answer ≡ done tt
 
 -- ---- blocks of the run
 
@@ -107,7 +107,7 @@ abbrev pub opposed : Network → List Event → ℕ → ℕ → Bool
 opposed N log r i = not (N .honest i) || (votesBefore (N .expiry - 1) log r i && not (votesIn log r i))
 
 abbrev pub MoreVote : Network → ℕ → List Event → Type 0
-MoreVote N r log = count (opposed N log r) (N .nodes) < count (voters N log r) (N .nodes)
+MoreVote N r log = countBelow (opposed N log r) (N .nodes) < countBelow (voters N log r) (N .nodes)
 
 -- "in each slot from t on whose vote beat is over": the next beat has begun
 unfoldable pub Majority : Network → ℕ → World → Type 0

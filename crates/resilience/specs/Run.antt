@@ -9,9 +9,9 @@ use lib.Dec.{eqb, leb, ltb, T}
 use Rattle.protocol.specs.declared.Settings.{Settings}
 use Rattle.protocol.specs.declared.Profile.{Profile}
 use Rattle.protocol.specs.declared.Width.the-variants.{Wide}
-use Rattle.protocol.specs.Lists.{all}
+use Rattle.protocol.specs.Lists.{allPass}
 use Rattle.protocol.specs.Store.{Places, Node}
-use Rattle.protocol.specs.Refusal.{Refusal, refusalNumber, Reply, refused, done, Outcome}
+use Rattle.protocol.specs.Refusal.{Refusal, refusalNumber, Answer, refused, done, Outcome}
 use Rattle.protocol.specs.Calls.Open.{openNode}
 use Rattle.protocol.specs.Calls.Receive.{receive}
 use Rattle.protocol.specs.Calls.Propose.{propose}
@@ -83,10 +83,10 @@ abbrev pub update {ℓ} : {A : Type ℓ} → (ℕ → A) → ℕ → A → ℕ �
 update f i a j = cond (eqb i j) a (f j)
 
 -- the world after a call of node i
-abbrev pub after : World → ℕ → Node → Turn → List Event → World
-after w i x u es = record { beat = w .beat; node = update (w .node) i x; turn = update (w .turn) i u; log = es ++ (w .log) }
+abbrev pub worldAfter : World → ℕ → Node → Turn → List Event → World
+worldAfter w i x u es = record { beat = w .beat; node = update (w .node) i x; turn = update (w .turn) i u; log = es ++ (w .log) }
 
-abbrev pub carried : {A : Type 0} → Reply A → Bool
+abbrev pub carried : {A : Type 0} → Answer A → Bool
 carried (refused k) = false
 carried (done a) = true
 
@@ -94,25 +94,25 @@ carried (done a) = true
 abbrev pub forWant : Refusal → Bool
 forWant k = eqb (refusalNumber k) 10 || (eqb (refusalNumber k) 18 || eqb (refusalNumber k) 24)
 
--- what a reply puts in the log: `want` if it is a refusal for want
-abbrev pub said : {A : Type 0} → Event → (A → List Event) → Reply A → List Event
-said want f (refused k) = cond (forWant k) (want ∷ []) []
-said want f (done a) = f a
+-- what an answer puts in the log: `want` if it is a refusal for want
+abbrev pub logged : {A : Type 0} → Event → (A → List Event) → Answer A → List Event
+logged want f (refused k) = cond (forWant k) (want ∷ []) []
+logged want f (done a) = f a
 
 -- "phase 0: Propose if the slot is its own, else none; phase 1: Vote; phase 2: Merge"
 unfoldable pub dueAt : ℕ → Network → World → ℕ → ℕ → World
 dueAt zero N w i number =
     cond (eqb (w .beat / 3 % N .nodes) i)
     (let o = propose (settings N i) (N .places i) (w .node i) (w .beat) number in
-    after w i (o .node) (owes true (carried (o .reply)))
-    (said (lacked (w .beat) i) (λ p. built (w .beat) i number p ∷ []) (o .reply) ++ (woke (w .beat) i ∷ [])))
-    (after w i (w .node i) (owes true false) (woke (w .beat) i ∷ []))
+    worldAfter w i (o .node) (owes true (carried (o .answer)))
+    (logged (lacked (w .beat) i) (λ p. built (w .beat) i number p ∷ []) (o .answer) ++ (woke (w .beat) i ∷ [])))
+    (worldAfter w i (w .node i) (owes true false) (woke (w .beat) i ∷ []))
 dueAt (suc zero) N w i number =
     let o = vote (settings N i) (N .places i) (w .node i) (w .beat) in
-    after w i (o .node) (owes true false) (said (lacked (w .beat) i) (λ h. voted (w .beat) i h ∷ []) (o .reply) ++ (woke (w .beat) i ∷ []))
+    worldAfter w i (o .node) (owes true false) (logged (lacked (w .beat) i) (λ h. voted (w .beat) i h ∷ []) (o .answer) ++ (woke (w .beat) i ∷ []))
 dueAt (suc (suc k)) N w i number =
     let o = merge (settings N i) (N .places i) (w .node i) (w .beat) in
-    after w i (o .node) (owes true false) (said (lacked (w .beat) i) (λ h. []) (o .reply) ++ (woke (w .beat) i ∷ []))
+    worldAfter w i (o .node) (owes true false) (logged (lacked (w .beat) i) (λ h. []) (o .answer) ++ (woke (w .beat) i ∷ []))
 
 abbrev pub afterGossip : Turn → Turn
 afterGossip ahead = ahead
@@ -124,21 +124,21 @@ afterProposal (owes g p) = owes g false
 
 -- "a sent packet is the bytes as Write left them, of the length it answered"; "in the run .. honest nodes write wide"
 abbrev pub sends : ℕ → ℕ → Written → List Event
-sends b i o = said (lacked b i) (λ n. sent b i (take n (o .buffer)) ∷ []) (o .reply)
+sends b i o = logged (lacked b i) (λ n. sent b i (take n (o .buffer)) ∷ []) (o .answer)
 
 unfoldable pub step : Network → World → Step → World
 step N w Begin = record { beat = w .beat + 1; node = w .node; turn = λ i. ahead; log = w .log }
 step N w (Due i number) = dueAt (w .beat % 3) N w i number
 step N w (Gossip i buffer) =
-    after w i (w .node i) (afterGossip (w .turn i))
+    worldAfter w i (w .node i) (afterGossip (w .turn i))
     (sends (w .beat) i (write (settings N i) (N .places i) (w .node i) false Wide buffer))
 step N w (Proposal i buffer) =
-    after w i (w .node i) (afterProposal (w .turn i))
+    worldAfter w i (w .node i) (afterProposal (w .turn i))
     (sends (w .beat) i (write (settings N i) (N .places i) (w .node i) true Wide buffer))
 step N w (Receive i bytes) =
     let o = receive (settings N i) (N .places i) (w .node i) (w .beat) bytes in
-    after w i (o .node) (w .turn i)
-    (said (turnedAway (w .beat) i bytes) (λ r. []) (o .reply) ++ (given (w .beat) i bytes (carried (o .reply)) ∷ []))
+    worldAfter w i (o .node) (w .turn i)
+    (logged (turnedAway (w .beat) i bytes) (λ r. []) (o .answer) ++ (given (w .beat) i bytes (carried (o .answer)) ∷ []))
 
 -- ---- which steps document 01 allows
 
@@ -167,7 +167,7 @@ allowed N w Begin = below (λ i. not (N .honest i) || not (owesGossip (w .turn i
 allowed N w (Due i number) = isHonest N i && (leb 3 (w .beat) && (beforeCall (w .turn i) && ltb number (2 ^ 128)))
 allowed N w (Gossip i buffer) = isHonest N i && owesGossip (w .turn i)
 allowed N w (Proposal i buffer) = isHonest N i && owesProposal (w .turn i)
-allowed N w (Receive i bytes) = isHonest N i && all (λ b. ltb b 256) bytes
+allowed N w (Receive i bytes) = isHonest N i && allPass (λ b. ltb b 256) bytes
 
 -- the runs, and the world in which each stands
 pub data Run (N : Network) : World → Type 0 where
@@ -179,7 +179,7 @@ pub data Onward (N : Network) (u : World) : World → Type 0 where
   now : Onward N u u
   next : {w : World} → Onward N u w → (s : Step) → T (allowed N w s) → Onward N u (step N w s)
 
--- At beat b a call of node i was carried out: in a world of a run it was due, and this is its reply. The step left the world u.
+-- At beat b a call of node i was carried out: in a world of a run it was due, and this is its answer. The step left the world u.
 pub record CarriedOut {A : Type 0} (N : Network) (call : Settings → Places → Node → ℕ → Outcome A) (i b : ℕ) (u : World) : Type 0 where
   pub before : World
   pub run : Run N before
@@ -187,5 +187,5 @@ pub record CarriedOut {A : Type 0} (N : Network) (call : Settings → Places →
   pub due : T (allowed N before (Due i number))
   pub beat : before .beat ≡ b
   pub value : A
-  pub reply : call (settings N i) (N .places i) (before .node i) (before .beat) .reply ≡ done value
+  pub answer : call (settings N i) (N .places i) (before .node i) (before .beat) .answer ≡ done value
   pub left : u ≡ step N before (Due i number)

@@ -9,7 +9,7 @@ use native.Mathlib.Numerals.{add-one}
 use native.Mathlib.Omega.{arith}
 use lib.ListN.{length, getD, take, drop, drop-of-length-le}
 use lib.Seq.{drop-drop, drop-cons, take-suc}
-use Rattle.protocol.specs.Lists.{any, all}
+use Rattle.protocol.specs.Lists.{anyPass, allPass}
 use Rattle.protocol.specs.Lent.{Make, rowsOf}
 use Rattle.protocol.proofs.Lent.Rows.{length-rowsOf}
 use Rattle.rows.specs.Rows.{rowAt}
@@ -64,28 +64,28 @@ module _ {A : Type 0} (make : Make A) where
 
   -- a search
   module _ (p : A → Bool) (ws : List ℕ) (n i : ℕ) where
-    pub any-hit : {a : A} → i < n → a ≡ rowAt make ws i → p a ≡ true → any p (drop i (rowsOf make ws n)) ≡ true
-    unfolding any
+    pub any-hit : {a : A} → i < n → a ≡ rowAt make ws i → p a ≡ true → anyPass p (drop i (rowsOf make ws n)) ≡ true
+    unfolding anyPass
     any-hit h r e = rw (drop-read ws n i h r, e)
 
-    pub any-miss : {a : A} → i < n → a ≡ rowAt make ws i → p a ≡ false → any p (drop i (rowsOf make ws n)) ≡ any p (drop (i + 1) (rowsOf make ws n))
-    unfolding any
+    pub any-miss : {a : A} → i < n → a ≡ rowAt make ws i → p a ≡ false → anyPass p (drop i (rowsOf make ws n)) ≡ anyPass p (drop (i + 1) (rowsOf make ws n))
+    unfolding anyPass
     any-miss h r e = rw (drop-read ws n i h r, e)
 
-    pub any-end : n ≤ i → any p (drop i (rowsOf make ws n)) ≡ false
-    unfolding any
+    pub any-end : n ≤ i → anyPass p (drop i (rowsOf make ws n)) ≡ false
+    unfolding anyPass
     any-end h = rw (drop-end ws n i h)
 
   -- a test of every row
   module _ (p : A → Bool) (ws : List ℕ) (n i : ℕ) where
-    pub all-pass : {a : A} → i < n → a ≡ rowAt make ws i → p a ≡ true → all p (drop i (rowsOf make ws n)) ≡ all p (drop (i + 1) (rowsOf make ws n))
-    unfolding all
+    pub all-pass : {a : A} → i < n → a ≡ rowAt make ws i → p a ≡ true → allPass p (drop i (rowsOf make ws n)) ≡ allPass p (drop (i + 1) (rowsOf make ws n))
+    unfolding allPass
     all-pass h r e = rw (drop-read ws n i h r, e)
 
-    pub all-fail : {a : A} → i < n → a ≡ rowAt make ws i → p a ≡ false → all p (drop i (rowsOf make ws n)) ≡ false
-    unfolding all
+    pub all-fail : {a : A} → i < n → a ≡ rowAt make ws i → p a ≡ false → allPass p (drop i (rowsOf make ws n)) ≡ false
+    unfolding allPass
     all-fail h r e = rw (drop-read ws n i h r, e)
 
-    pub all-end : n ≤ i → all p (drop i (rowsOf make ws n)) ≡ true
-    unfolding all
+    pub all-end : n ≤ i → allPass p (drop i (rowsOf make ws n)) ≡ true
+    unfolding allPass
     all-end h = rw (drop-end ws n i h)

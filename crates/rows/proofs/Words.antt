@@ -10,7 +10,7 @@ use lib.Dec.{eqb, leb}
 use lib.ListN.{length, getD, take, drop, set}
 use lib.Seq.{sets, sets-eq, getD-drop}
 use mir.Val.{boolByte}
-use Rattle.protocol.specs.Words.{join}
+use Rattle.protocol.specs.Words.{fromHalves}
 use Rattle.protocol.specs.Lent.{markOf, makeBlock, makeVote}
 use Rattle.rows.specs.Rows.{rowAt, cleanAt, putRow}
 
@@ -52,8 +52,8 @@ mark-word false = refl
 pub block-words : (ws : List ℕ) (i : ℕ)
     → rowAt makeBlock ws i
     ≡ record {
-      entry = record { number = join (getD ws (6 * i) 0) (getD ws (6 * i + 1) 0); parent = join (getD ws (6 * i + 2) 0) (getD ws (6 * i + 3) 0); slot = getD ws (6 * i + 4) 0 };
-      shown = eqb (getD ws (6 * i + 5) 0) 1;
+      entry = record { number = fromHalves (getD ws (6 * i) 0) (getD ws (6 * i + 1) 0); parent = fromHalves (getD ws (6 * i + 2) 0) (getD ws (6 * i + 3) 0); slot = getD ws (6 * i + 4) 0 };
+      viewed = eqb (getD ws (6 * i + 5) 0) 1;
     }
 block-words ws i =
     rw (getD-drop (6 * i) ws 0 0, getD-drop (6 * i) ws 1 0, getD-drop (6 * i) ws 2 0, getD-drop (6 * i) ws 3 0, getD-drop (6 * i) ws 4 0, getD-drop (6 * i) ws 5 0, add-zero)
@@ -61,8 +61,8 @@ block-words ws i =
 pub vote-words : (ws : List ℕ) (i : ℕ)
     → rowAt makeVote ws i
     ≡ record {
-      entry = record { voter = getD ws (5 * i) 0; slot = getD ws (5 * i + 1) 0; number = join (getD ws (5 * i + 2) 0) (getD ws (5 * i + 3) 0) };
-      shown = eqb (getD ws (5 * i + 4) 0) 1;
+      entry = record { voter = getD ws (5 * i) 0; slot = getD ws (5 * i + 1) 0; number = fromHalves (getD ws (5 * i + 2) 0) (getD ws (5 * i + 3) 0) };
+      viewed = eqb (getD ws (5 * i + 4) 0) 1;
     }
 vote-words ws i =
     rw (getD-drop (5 * i) ws 0 0, getD-drop (5 * i) ws 1 0, getD-drop (5 * i) ws 2 0, getD-drop (5 * i) ws 3 0, getD-drop (5 * i) ws 4 0, add-zero)

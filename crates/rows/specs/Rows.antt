@@ -1,4 +1,4 @@
--- Rows by their place in lent words, and the structs of code as marked entries. Assumes nothing.
+-- Rows by their number in lent words, and the structs of code as marked entries. Assumes nothing.
 use Prim.Native.Nat.{ℕ, _+_, _*_}
 use mathlib.Core.Bool.{Bool}
 use mathlib.Core.List.{List, _++_}
@@ -19,10 +19,10 @@ abbrev pub cleanAt : {A : Type 0} → Make A → List ℕ → ℕ → Bool
 cleanAt make ws i = make .clean (drop (make .words * i) ws)
 
 abbrev pub markedBlock : BlockRow → Marked Block
-markedBlock r = record { entry = blockOf (r .block); shown = r .shown }
+markedBlock r = record { entry = blockOf (r .block); viewed = r .viewed }
 
 abbrev pub markedVote : VoteRow → Marked Vote
-markedVote r = record { entry = voteOf (r .vote); shown = r .shown }
+markedVote r = record { entry = voteOf (r .vote); viewed = r .viewed }
 
 -- the words with row i replaced, in rows of w words
 unfoldable pub putRow : ℕ → List ℕ → ℕ → List ℕ → List ℕ

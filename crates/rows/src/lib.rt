@@ -9,25 +9,25 @@ ghost use Prim.Native.Nat.{_+_};
 ghost use Rattle.protocol.specs.Words.{value};
 ghost use Rattle.protocol.specs.Lent.{BlocksFit, VotesFit, blockWords, voteWords, rowsOf, makeBlock, makeVote, blockRow, voteRow};
 ghost use Rattle.rows.specs.Rows.{rowAt, cleanAt, putRow, markedBlock, markedVote};
-ghost use Rattle.rows.specs.Find.{placeOf};
+ghost use Rattle.rows.specs.Find.{rowOf};
 
 // A row of the table of blocks: a block, in view or waiting.
 pub struct BlockRow {
     pub block: Block,
-    pub shown: bool,
+    pub viewed: bool,
 }
 
 // A row of the table of votes.
 pub struct VoteRow {
     pub vote: Vote,
-    pub shown: bool,
+    pub viewed: bool,
 }
 
 // Whether a row is selected: of the whole store each row is, of the view those in view.
-pub fn selects(whole: bool, shown: bool) -> bool
-    ensures { λ r. ⌜ r ≡ (whole || shown) ⌝ }
+pub fn selects(whole: bool, viewed: bool) -> bool
+    ensures { λ r. ⌜ r ≡ (whole || viewed) ⌝ }
 {
-    whole || shown
+    whole || viewed
 }
 
 // Row i of the blocks.
@@ -48,7 +48,7 @@ pub fn block_at(blocks: &[u64], i: usize) -> BlockRow
             },
             slot: blocks[at + 4],
         },
-        shown: blocks[at + 5] == 1,
+        viewed: blocks[at + 5] == 1,
     }
 }
 
@@ -67,7 +67,7 @@ pub fn vote_at(votes: &[u64], i: usize) -> VoteRow
                 upper: votes[at + 3],
             },
         },
-        shown: votes[at + 4] == 1,
+        viewed: votes[at + 4] == 1,
     }
 }
 
@@ -98,7 +98,7 @@ pub fn put_block(blocks: &mut [u64], i: usize, row: BlockRow)
     blocks[at + 2] = row.block.parent.lower;
     blocks[at + 3] = row.block.parent.upper;
     blocks[at + 4] = row.block.slot;
-    blocks[at + 5] = row.shown as u64;
+    blocks[at + 5] = row.viewed as u64;
 }
 
 // Row i of the votes becomes this one.
@@ -111,26 +111,26 @@ pub fn put_vote(votes: &mut [u64], i: usize, row: VoteRow)
     votes[at + 1] = row.vote.slot;
     votes[at + 2] = row.vote.number.lower;
     votes[at + 3] = row.vote.number.upper;
-    votes[at + 4] = row.shown as u64;
+    votes[at + 4] = row.viewed as u64;
 }
 
 // Where the first block with a number stands.
-pub enum Place {
+pub enum RowFound {
     At(usize),
     Missing,
 }
 
-pub fn find_block(blocks: &[u64], used: usize, number: Number) -> Place
+pub fn find_block(blocks: &[u64], used: usize, number: Number) -> RowFound
     requires { ⌜ BlocksFit used (now blocks) ⌝ }
-    ensures { λ r. ⌜ r ≡ placeOf (rowsOf makeBlock (now (blocks .entry)) used) (value number) ⌝ }
+    ensures { λ r. ⌜ r ≡ rowOf (rowsOf makeBlock (now (blocks .entry)) used) (value number) ⌝ }
 {
     let mut i: usize = 0;
     while i < used {
         let row = block_at(blocks, i);
         if numbers::same(row.block.number, number) {
-            return Place::At(i);
+            return RowFound::At(i);
         }
         i += 1;
     }
-    Place::Missing
+    RowFound::Missing
 }

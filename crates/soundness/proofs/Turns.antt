@@ -46,7 +46,7 @@ module _ (ws : List ℕ) (n : ℕ) where
   unfolding chainSound rowsOf
   chain-none e = rw e
 
-  module _ {m : Marked Block} {t : Bool} (h : 0 < n) (r : m ≡ rowAt makeBlock ws 0) (e : t ≡ (sameBlock (m .entry) genesis && m .shown)) where
+  module _ {m : Marked Block} {t : Bool} (h : 0 < n) (r : m ≡ rowAt makeBlock ws 0) (e : t ≡ (sameBlock (m .entry) genesis && m .viewed)) where
     first : chainSound (rowsOf makeBlock ws n) ≡ (t && parentsFrom 1)
     unfolding chainSound
     first =

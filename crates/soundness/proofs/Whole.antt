@@ -6,14 +6,14 @@ use mathlib.Core.Path.{_≡_, refl, ap, sym, _∙_}
 use lib.Dec.{leb}
 use Rattle.protocol.specs.declared.Settings.{Settings}
 use Rattle.protocol.specs.declared.Clock.{Clock}
-use Rattle.protocol.specs.Lists.{all}
+use Rattle.protocol.specs.Lists.{allPass}
 use Rattle.protocol.specs.Limits.{limitsOf}
 use Rattle.protocol.specs.Store.{Places}
 use Rattle.protocol.specs.Sound.{settingsSound, placesSound, clockSound, sound}
 use Rattle.protocol.specs.Lent.{blockWords, voteWords, Lent, rowsOf, makeBlock, makeVote, placesIn, placesOf, nodeOf, marksSound, lentSound}
 use Rattle.protocol.proofs.Lent.Rows.{length-rowsOf}
 use Rattle.ranges.specs.Rows.{blockInRange, voteInRange}
-use Rattle.index.specs.Places.{numbersDiffer, votesDiffer}
+use Rattle.index.specs.Links.{numbersDiffer, votesDiffer}
 use Rattle.soundness.specs.Parts.{chainSound, votedSound, tablesSound}
 use Rattle.soundness.proofs.Split.{blocks-split, votes-split}
 
@@ -25,10 +25,10 @@ module _ (s : Settings) (clock : Clock) (bw : List ℕ) (bu : ℕ) (vw : List �
   places = record { blocks = placesIn blockWords bw; votes = placesIn voteWords vw }
 
   abbrev blockRanges : Bool
-  blockRanges = marksSound makeBlock bw bu && all (blockInRange (clock .seen / 3)) (rowsOf makeBlock bw bu)
+  blockRanges = marksSound makeBlock bw bu && allPass (blockInRange (clock .seen / 3)) (rowsOf makeBlock bw bu)
 
   abbrev voteRanges : Bool
-  voteRanges = marksSound makeVote vw vu && all (voteInRange (s .nodes) (clock .seen / 3)) (rowsOf makeVote vw vu)
+  voteRanges = marksSound makeVote vw vu && allPass (voteInRange (s .nodes) (clock .seen / 3)) (rowsOf makeVote vw vu)
 
   abbrev tables : Bool
   tables = tablesSound (rowsOf makeBlock bw bu) (rowsOf makeVote vw vu)
@@ -43,7 +43,7 @@ module _ (s : Settings) (clock : Clock) (bw : List ℕ) (bu : ℕ) (vw : List �
       let slot = clock .seen / 3 in
       rw (length-rowsOf makeBlock bw bu, length-rowsOf makeVote vw vu, blocks-split slot bs, votes-split (s .nodes) slot bs vs)
       (order (marksSound makeBlock bw bu) (marksSound makeVote vw vu) (settingsSound s) (placesSound (limitsOf (s .profile)) places) (leb bu (placesIn blockWords bw)) (leb vu (placesIn voteWords vw)) (clockSound clock)
-      (all (blockInRange slot) bs) (numbersDiffer bs) (chainSound bs) (all (voteInRange (s .nodes) slot) vs) (all (votedSound bs) vs && votesDiffer vs))
+      (allPass (blockInRange slot) bs) (numbersDiffer bs) (chainSound bs) (allPass (voteInRange (s .nodes) slot) vs) (allPass (votedSound bs) vs && votesDiffer vs))
     where
       inner : (r d k v w : Bool) → ((r && (d && k)) && (v && w)) ≡ (r && (v && (d && (k && w))))
       inner false d k v w = refl

@@ -10,14 +10,14 @@ use protocol::Clock;
 use protocol::Number;
 use protocol::Settings;
 use rows::BlockRow;
-use rows::Place;
+use rows::RowFound;
 use rows::VoteRow;
 ghost use mathlib.Core.Bool.{true, _&&_};
 ghost use mathlib.Core.Path.{_≡_};
 ghost use Prim.Native.Nat.{_≤_};
 ghost use Rattle.protocol.specs.Limits.{loom};
 ghost use Rattle.protocol.specs.Words.{value, blockOf};
-ghost use Rattle.protocol.specs.Lists.{all};
+ghost use Rattle.protocol.specs.Lists.{allPass};
 ghost use Rattle.protocol.specs.Chain.{genesis, known};
 ghost use Rattle.protocol.specs.Store.{entries, sameBlock};
 ghost use Rattle.protocol.specs.Lent.{BlocksFit, VotesFit, rowsOf, makeBlock, makeVote, lentSound};
@@ -31,21 +31,21 @@ pub fn known_block(blocks: &[u64], used: usize, number: Number) -> bool
     requires { ⌜ BlocksFit used (now blocks) ⌝ }
     ensures { λ r. ⌜ r ≡ known (entries (rowsOf makeBlock (now (blocks .entry)) used)) (value number) ⌝ }
 {
-    let place = rows::find_block(blocks, used, number);
-    match place {
-        Place::At(_) => true,
-        Place::Missing => false,
+    let link = rows::find_block(blocks, used, number);
+    match link {
+        RowFound::At(_) => true,
+        RowFound::Missing => false,
     }
 }
 
 // Whether a row is block 0, in view.
 fn first_sound(row: BlockRow) -> bool
-    ensures { λ r. ⌜ r ≡ (sameBlock (blockOf (row .block)) genesis && row .shown) ⌝ }
+    ensures { λ r. ⌜ r ≡ (sameBlock (blockOf (row .block)) genesis && row .viewed) ⌝ }
 {
     if numbers::is_zero(row.block.number) {
         if numbers::is_zero(row.block.parent) {
             if row.block.slot == 0 {
-                return row.shown;
+                return row.viewed;
             }
         }
     }
@@ -57,19 +57,19 @@ fn parent_sound(blocks: &[u64], used: usize, links: &[u16], i: usize, row: Block
     requires { ⌜ (i ≤ used) × Indexed (now blocks) used (now links) ⌝ }
     ensures { λ r. ⌜ r ≡ parentSound (rowsOf makeBlock (now (blocks .entry)) i) (markedBlock row) ⌝ }
 {
-    let place = index::place(blocks, used, links, row.block.parent);
-    if place == 0 {
+    let link = index::link(blocks, used, links, row.block.parent);
+    if link == 0 {
         return false;
     }
-    if place > i {
+    if link > i {
         return false;
     }
-    let parent = rows::block_at(blocks, place - 1);
+    let parent = rows::block_at(blocks, link - 1);
     if parent.block.slot >= row.block.slot {
         return false;
     }
-    if row.shown {
-        return parent.shown;
+    if row.viewed {
+        return parent.viewed;
     }
     true
 }
@@ -102,16 +102,16 @@ fn voted_sound(blocks: &[u64], used: usize, links: &[u16], row: VoteRow) -> bool
     requires { ⌜ Indexed (now blocks) used (now links) ⌝ }
     ensures { λ r. ⌜ r ≡ votedSound (rowsOf makeBlock (now (blocks .entry)) used) (markedVote row) ⌝ }
 {
-    let place = index::place(blocks, used, links, row.vote.number);
-    if place == 0 {
+    let link = index::link(blocks, used, links, row.vote.number);
+    if link == 0 {
         return false;
     }
-    let voted = rows::block_at(blocks, place - 1);
+    let voted = rows::block_at(blocks, link - 1);
     if voted.block.slot > row.vote.slot {
         return false;
     }
-    if row.shown {
-        return voted.shown;
+    if row.viewed {
+        return voted.viewed;
     }
     true
 }
@@ -125,7 +125,7 @@ fn all_voted_sound(
     votes_used: usize,
 ) -> bool
     requires { ⌜ VotesFit «votes_used» (now votes) × Indexed (now blocks) «blocks_used» (now links) ⌝ }
-    ensures { λ r. ⌜ r ≡ all (votedSound (rowsOf makeBlock (now (blocks .entry)) «blocks_used»)) (rowsOf makeVote (now (votes .entry)) «votes_used») ⌝ }
+    ensures { λ r. ⌜ r ≡ allPass (votedSound (rowsOf makeBlock (now (blocks .entry)) «blocks_used»)) (rowsOf makeVote (now (votes .entry)) «votes_used») ⌝ }
 {
     let mut i: usize = 0;
     while i < votes_used {

@@ -1,6 +1,6 @@
 // A packet's new entries are added at the tables' ends, where they wait.
-// Which are new was found when the packet was tested: `firsts` is a set of places among a table's rows and then the packet's entries, and an
-// entry is new if its place is in it. The cost is one step for each entry of the packet, and no function keeps an array.
+// Which are new was found when the packet was tested: `firsts` is a set of rows, of a table and then the packet's entries, and an
+// entry is new if its row is in it. The cost is one step for each entry of the packet, and no function keeps an array.
 ghost use mathlib.Core.Bool.{true};
 ghost use mathlib.Core.Path.{_≡_};
 ghost use Prim.Native.Nat.{_+_, _*_, _≤_};
@@ -13,7 +13,7 @@ ghost use Rattle.protocol.specs.Calls.Receive.{addBlocks, addSince};
 ghost use Rattle.index.specs.Firsts.{BlocksNew, VotesNew};
 ghost use Rattle.storing.specs.Grown.{grown, Holds};
 
-// The packet's new blocks are added, in order. Place `used` + i of `firsts` says whether block i is new, with `used` as it is before the call.
+// The packet's new blocks are added, in order. Row `used` + i of `firsts` says whether block i is new, with `used` as it is before the call.
 // The cost is one step for each block of the packet.
 pub fn add_blocks(blocks: &mut [u64], used: &mut usize, bytes: &[u8], firsts: &[u64])
     requires { ⌜ BlocksFit (length (addBlocks (entries (rowsOf makeBlock (now blocks) (now used))) (packetOf (now bytes) .blocks))) (now blocks) × (marksSound makeBlock (now blocks) (now used) ≡ true)
@@ -31,7 +31,7 @@ pub fn add_blocks(blocks: &mut [u64], used: &mut usize, bytes: &[u8], firsts: &[
     }
 }
 
-// The packet's new votes of slot `from` and later are added, in order. Place `used` + i of `firsts` says whether vote i is new, old or not.
+// The packet's new votes of slot `from` and later are added, in order. Row `used` + i of `firsts` says whether vote i is new, old or not.
 // The cost is one step for each vote of the packet.
 pub fn add_votes(votes: &mut [u64], used: &mut usize, bytes: &[u8], firsts: &[u64], from: u64)
     requires { ⌜ VotesFit (length (addSince from (entries (rowsOf makeVote (now votes) (now used))) (packetOf (now bytes) .votes))) (now votes) × (marksSound makeVote (now votes) (now used) ≡ true)

@@ -9,7 +9,7 @@ use Rattle.protocol.specs.declared.Width.{Width}
 use Rattle.protocol.specs.Store.{keptFrom}
 use Rattle.protocol.specs.Packet.{packetOf}
 use Rattle.protocol.specs.Refusal.{Refusal, pass, refuse, refused, done}
-use Rattle.protocol.specs.Calls.Receive.{brings, receiveTests, receivedOf, receiveInto, receive}
+use Rattle.protocol.specs.Calls.Receive.{viewedAtOnce, receiveTests, receiveAnswer, receiveInto, receive}
 use Rattle.protocol.specs.Calls.Propose.{baseOf, proposeTests, proposeInto, propose}
 use Rattle.protocol.specs.Calls.Vote.{headOf, voteTests, voteInto, vote}
 use Rattle.protocol.specs.Calls.Merge.{mergeTests, mergeInto, merge}
@@ -22,45 +22,45 @@ use Rattle.verdicts.proofs.Lent.{call-refused, call-done, ask-refused, 
 module _ (s : Settings) (m : Lent) where
   module _ (beat : ℕ) (bytes : List ℕ) where
     pub receive-refused : (k : Refusal) → lentVerdict s (λ p x. receiveTests s p x beat bytes) m ≡ refuse k
-        → callLent s (λ p x. receive s p x beat bytes) m ≡ record { reply = refused k; lent = m }
+        → callLent s (λ p x. receive s p x beat bytes) m ≡ record { answer = refused k; lent = m }
     unfolding receive
-    receive-refused = call-refused s (λ p x. receiveTests s p x beat bytes) m (λ p x. receivedOf (keptFrom s (x .clock .merged)) x beat (packetOf bytes)) (λ p x. receiveInto (keptFrom s (x .clock .merged)) (brings x beat (packetOf bytes)) beat x (packetOf bytes))
+    receive-refused = call-refused s (λ p x. receiveTests s p x beat bytes) m (λ p x. receiveAnswer (keptFrom s (x .clock .merged)) x beat (packetOf bytes)) (λ p x. receiveInto (keptFrom s (x .clock .merged)) (viewedAtOnce x beat (packetOf bytes)) beat x (packetOf bytes))
 
     pub receive-done : lentVerdict s (λ p x. receiveTests s p x beat bytes) m ≡ pass
         → callLent s (λ p x. receive s p x beat bytes) m ≡ record {
-          reply = done (receivedOf (keptFrom s (m .clock .merged)) (nodeOf m) beat (packetOf bytes));
-          lent = storeNode (receiveInto (keptFrom s (m .clock .merged)) (brings (nodeOf m) beat (packetOf bytes)) beat (nodeOf m) (packetOf bytes)) m;
+          answer = done (receiveAnswer (keptFrom s (m .clock .merged)) (nodeOf m) beat (packetOf bytes));
+          lent = storeNode (receiveInto (keptFrom s (m .clock .merged)) (viewedAtOnce (nodeOf m) beat (packetOf bytes)) beat (nodeOf m) (packetOf bytes)) m;
         }
     unfolding receive nodeOf
-    receive-done = call-done s (λ p x. receiveTests s p x beat bytes) m (λ p x. receivedOf (keptFrom s (x .clock .merged)) x beat (packetOf bytes)) (λ p x. receiveInto (keptFrom s (x .clock .merged)) (brings x beat (packetOf bytes)) beat x (packetOf bytes))
+    receive-done = call-done s (λ p x. receiveTests s p x beat bytes) m (λ p x. receiveAnswer (keptFrom s (x .clock .merged)) x beat (packetOf bytes)) (λ p x. receiveInto (keptFrom s (x .clock .merged)) (viewedAtOnce x beat (packetOf bytes)) beat x (packetOf bytes))
 
   module _ (beat number : ℕ) where
     pub propose-refused : (k : Refusal) → lentVerdict s (λ p x. proposeTests s p x beat number) m ≡ refuse k
-        → callLent s (λ p x. propose s p x beat number) m ≡ record { reply = refused k; lent = m }
+        → callLent s (λ p x. propose s p x beat number) m ≡ record { answer = refused k; lent = m }
     unfolding propose
     propose-refused = call-refused s (λ p x. proposeTests s p x beat number) m (λ p x. baseOf s x (beat / 3)) (λ p x. proposeInto s x beat number)
 
     pub propose-done : lentVerdict s (λ p x. proposeTests s p x beat number) m ≡ pass
-        → callLent s (λ p x. propose s p x beat number) m ≡ record { reply = done (baseOf s (nodeOf m) (beat / 3)); lent = storeNode (proposeInto s (nodeOf m) beat number) m }
+        → callLent s (λ p x. propose s p x beat number) m ≡ record { answer = done (baseOf s (nodeOf m) (beat / 3)); lent = storeNode (proposeInto s (nodeOf m) beat number) m }
     unfolding propose
     propose-done = call-done s (λ p x. proposeTests s p x beat number) m (λ p x. baseOf s x (beat / 3)) (λ p x. proposeInto s x beat number)
 
   module _ (beat : ℕ) where
-    pub vote-refused : (k : Refusal) → lentVerdict s (λ p x. voteTests s p x beat) m ≡ refuse k → callLent s (λ p x. vote s p x beat) m ≡ record { reply = refused k; lent = m }
+    pub vote-refused : (k : Refusal) → lentVerdict s (λ p x. voteTests s p x beat) m ≡ refuse k → callLent s (λ p x. vote s p x beat) m ≡ record { answer = refused k; lent = m }
     unfolding vote
     vote-refused = call-refused s (λ p x. voteTests s p x beat) m (λ p x. headOf s x (beat / 3)) (λ p x. voteInto s x beat)
 
     pub vote-done : lentVerdict s (λ p x. voteTests s p x beat) m ≡ pass
-        → callLent s (λ p x. vote s p x beat) m ≡ record { reply = done (headOf s (nodeOf m) (beat / 3)); lent = storeNode (voteInto s (nodeOf m) beat) m }
+        → callLent s (λ p x. vote s p x beat) m ≡ record { answer = done (headOf s (nodeOf m) (beat / 3)); lent = storeNode (voteInto s (nodeOf m) beat) m }
     unfolding vote
     vote-done = call-done s (λ p x. voteTests s p x beat) m (λ p x. headOf s x (beat / 3)) (λ p x. voteInto s x beat)
 
-    pub merge-refused : (k : Refusal) → lentVerdict s (λ p x. mergeTests s p x beat) m ≡ refuse k → callLent s (λ p x. merge s p x beat) m ≡ record { reply = refused k; lent = m }
+    pub merge-refused : (k : Refusal) → lentVerdict s (λ p x. mergeTests s p x beat) m ≡ refuse k → callLent s (λ p x. merge s p x beat) m ≡ record { answer = refused k; lent = m }
     unfolding merge
     merge-refused = call-refused s (λ p x. mergeTests s p x beat) m (λ p x. tt) (λ p x. mergeInto (keptFrom s (beat / 3)) x beat)
 
     pub merge-done : lentVerdict s (λ p x. mergeTests s p x beat) m ≡ pass
-        → callLent s (λ p x. merge s p x beat) m ≡ record { reply = done tt; lent = storeNode (mergeInto (keptFrom s (beat / 3)) (nodeOf m) beat) m }
+        → callLent s (λ p x. merge s p x beat) m ≡ record { answer = done tt; lent = storeNode (mergeInto (keptFrom s (beat / 3)) (nodeOf m) beat) m }
     unfolding merge
     merge-done = call-done s (λ p x. mergeTests s p x beat) m (λ p x. tt) (λ p x. mergeInto (keptFrom s (beat / 3)) x beat)
 
@@ -92,12 +92,12 @@ module _ (s : Settings) (m : Lent) where
 
   module _ (proposal : Bool) (width : Width) (buffer : List ℕ) where
     pub write-refused : (k : Refusal) → lentVerdict s (λ p x. writeTests s p x proposal width buffer) m ≡ refuse k
-        → writeLent s (λ p x. write s p x proposal width buffer) m buffer ≡ record { reply = refused k; buffer = buffer }
+        → writeLent s (λ p x. write s p x proposal width buffer) m buffer ≡ record { answer = refused k; buffer = buffer }
     unfolding write
     write-refused = written-refused s (λ p x. writeTests s p x proposal width buffer) m (λ p x. packetOut proposal width x) buffer
 
     pub write-done : lentVerdict s (λ p x. writeTests s p x proposal width buffer) m ≡ pass
         → writeLent s (λ p x. write s p x proposal width buffer) m buffer
-        ≡ record { reply = done (length (packetOut proposal width (nodeOf m))); buffer = over (packetOut proposal width (nodeOf m)) buffer }
+        ≡ record { answer = done (length (packetOut proposal width (nodeOf m))); buffer = over (packetOut proposal width (nodeOf m)) buffer }
     unfolding write
     write-done = written-done s (λ p x. writeTests s p x proposal width buffer) m (λ p x. packetOut proposal width x) buffer

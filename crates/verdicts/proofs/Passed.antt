@@ -30,12 +30,12 @@ pub record Ready (s : Settings) (m : Lent) : Type 0 where
   pub few-votes : m .votesUsed ≤ loom .votes
   -- block 0 is there, in view
   pub some-blocks : 1 ≤ m .blocksUsed
-  pub first-mark : makeBlock .of (m .blocks) .shown ≡ true
+  pub first-mark : makeBlock .of (m .blocks) .viewed ≡ true
 
-first-row : (slot : ℕ) (ws : List ℕ) (n : ℕ) → blocksSound slot (rowsOf makeBlock ws n) ≡ true → (1 ≤ n) × (makeBlock .of ws .shown ≡ true)
+first-row : (slot : ℕ) (ws : List ℕ) (n : ℕ) → blocksSound slot (rowsOf makeBlock ws n) ≡ true → (1 ≤ n) × (makeBlock .of ws .viewed ≡ true)
 unfolding blocksSound rowsOf
 first-row slot ws zero e = absurd (false≢true e)
-first-row slot ws (suc n) e = (omega arith, and-left (makeBlock .of ws .shown) _ (and-right (sameBlock _ genesis) _ e))
+first-row slot ws (suc n) e = (omega arith, and-left (makeBlock .of ws .viewed) _ (and-right (sameBlock _ genesis) _ e))
 
 sound-blocks : (s : Settings) (p : Places) (x : Node) → sound s p x ≡ true → blocksSound (x .clock .seen / 3) (x .blocks) ≡ true
 unfolding sound

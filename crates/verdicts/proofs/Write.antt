@@ -12,16 +12,16 @@ use Rattle.protocol.specs.declared.Settings.{Settings}
 use Rattle.protocol.specs.declared.Width.{Width}
 use Rattle.protocol.specs.Entry.{Block}
 use Rattle.protocol.specs.Chain.{genesis}
-use Rattle.protocol.specs.Store.{inView, Node}
+use Rattle.protocol.specs.Store.{viewOf, Node}
 use Rattle.protocol.specs.Refusal.{by, test, pass, refuse, first}
 use Rattle.protocol.specs.Calls.Write.{lastBlock, gossipOf, proposalOf, sentOf, proposedNow, tooWide, packetOut, writeTests}
 use Rattle.protocol.specs.Lent.{Lent, rowsOf, makeBlock, nodeOf, lentSound}
-use Rattle.writer.specs.Sent.{nodeIn, Readable}
+use Rattle.writer.specs.Sent.{nodeIn, RowsReadable}
 use Rattle.verdicts.specs.Lent.{lentVerdict}
 use Rattle.verdicts.proofs.Passed.{Ready}
 use Rattle.verdicts.proofs.Sequence.{sound-pass}
 
-pub readable : (s : Settings) (m : Lent) → Ready s m → Readable (m .blocks) (m .blocksUsed) (m .votes) (m .votesUsed)
+pub readable : (s : Settings) (m : Lent) → Ready s m → RowsReadable (m .blocks) (m .blocksUsed) (m .votes) (m .votesUsed)
 readable s m R = record {
   blockRows = R .memory .block-words;
   voteRows = R .memory .vote-words;
@@ -31,7 +31,7 @@ readable s m R = record {
 }
 
 -- the header's block, by the packet that the tables give
-pub header-fields : (proposal : Bool) (width : Width) (x : Node) {b : Block} → b ≡ cond proposal (lastBlock (inView (x .blocks))) genesis
+pub header-fields : (proposal : Bool) (width : Width) (x : Node) {b : Block} → b ≡ cond proposal (lastBlock (viewOf (x .blocks))) genesis
     → (b .slot ≡ sentOf proposal width x .slot) × (b .number ≡ sentOf proposal width x .number)
 unfolding sentOf proposalOf gossipOf
 header-fields true width x e = (ap (λ o. o .slot) e, ap (λ o. o .number) e)

@@ -23,7 +23,7 @@ ghost use Rattle.index.specs.Index.{Room};
 ghost use Rattle.soundness.specs.Parts.{TablesIndexed};
 ghost use Rattle.verdicts.specs.declared.Verdict.the-variants.{Pass};
 ghost use Rattle.verdicts.specs.Firsts.{FirstsNoted};
-ghost use Rattle.verdicts.specs.Verdict.{numberOf, indexOf, verdictOf};
+ghost use Rattle.verdicts.specs.Verdict.{refusalNumberOf, refusalIndexOf, verdictOf};
 ghost use Rattle.verdicts.specs.Lent.{lent, lentVerdict, beatTests, dueTests};
 
 // As many entries of table and packet together as Receive keeps an index of.
@@ -31,7 +31,7 @@ const INDEXED_BLOCKS: usize = 2 * limits::LOOM_BLOCKS;
 
 const INDEXED_VOTES: usize = 2 * limits::LOOM_VOTES;
 
-// The words of a set with a place for each row of the largest table and each entry of a packet, whose counts have two bytes.
+// The words of a set with a bit for each row of the largest table and each entry of a packet, whose counts have two bytes.
 pub const BLOCK_FIRSTS: usize = (limits::LOOM_BLOCKS + 65536) / 64;
 
 pub const VOTE_FIRSTS: usize = (limits::LOOM_VOTES + 65536) / 64;
@@ -39,45 +39,45 @@ pub const VOTE_FIRSTS: usize = (limits::LOOM_VOTES + 65536) / 64;
 // Why a call is refused, by document 01's numbers; 9 and 20 with the index of the entry in its section, from 0.
 pub enum Refusal {
     // the settings are out of range, or a table's length
-    Nodes,
-    Own,
-    Expiry,
-    Depth,
-    Length,
+    NodesOutOfRange,
+    OwnOutOfRange,
+    ExpiryOutOfRange,
+    DepthOutOfRange,
+    LengthOutOfRange,
     // the tables are not sound
     Unsound,
     // the beat is below the one seen, or its slot above the limit
-    Beat,
+    WrongBeat,
     // a packet is longer than the node's limit
-    Long,
+    PacketTooLong,
     // a packet's form: its length by its counts, kind or zero fields
-    Form,
+    PacketMalformed,
     // a block of a packet, a vote or a proposal's header breaks a rule: 9, 20, 21
-    Block(usize),
-    Vote(usize),
-    Header,
+    BadBlock(usize),
+    BadVote(usize),
+    BadHeader,
     // too few free places
-    Places,
+    TooFewPlaces,
     // another phase
-    Phase,
+    WrongPhase,
     // the beat is done already
-    Done,
+    BeatDone,
     // not joined for the slot
-    Joined,
+    NotJoined,
     // the slot is another's
-    Proposer,
+    NotProposer,
     // the new number is known
-    Number,
+    NumberKnown,
     // an own vote for the slot is known
-    Voted,
+    AlreadyVoted,
     // a question about slot 0, a slot above the one seen, or one before the slot last merged
-    Slot,
+    SlotOutOfRange,
     // the buffer is too short
-    Buffer,
+    BufferTooShort,
     // nothing was proposed at the beat seen
-    Proposal,
+    NoOwnProposal,
     // narrow writing meets a number of more than 64 bits
-    Wide,
+    NumberTooWide,
 }
 
 pub enum Verdict {
@@ -87,63 +87,63 @@ pub enum Verdict {
 
 // Document 01's number of a refusal.
 pub fn number(refusal: Refusal) -> u64
-    ensures { λ r. ⌜ r ≡ numberOf refusal ⌝ }
+    ensures { λ r. ⌜ r ≡ refusalNumberOf refusal ⌝ }
 {
     match refusal {
-        Refusal::Nodes => 1,
-        Refusal::Own => 2,
-        Refusal::Expiry => 3,
-        Refusal::Depth => 4,
-        Refusal::Length => 5,
+        Refusal::NodesOutOfRange => 1,
+        Refusal::OwnOutOfRange => 2,
+        Refusal::ExpiryOutOfRange => 3,
+        Refusal::DepthOutOfRange => 4,
+        Refusal::LengthOutOfRange => 5,
         Refusal::Unsound => 6,
-        Refusal::Beat => 7,
-        Refusal::Long => 24,
-        Refusal::Form => 8,
-        Refusal::Block(_) => 9,
-        Refusal::Vote(_) => 20,
-        Refusal::Header => 21,
-        Refusal::Places => 10,
-        Refusal::Phase => 11,
-        Refusal::Done => 12,
-        Refusal::Joined => 13,
-        Refusal::Proposer => 14,
-        Refusal::Number => 15,
-        Refusal::Voted => 16,
-        Refusal::Slot => 17,
-        Refusal::Buffer => 18,
-        Refusal::Proposal => 19,
-        Refusal::Wide => 23,
+        Refusal::WrongBeat => 7,
+        Refusal::PacketTooLong => 24,
+        Refusal::PacketMalformed => 8,
+        Refusal::BadBlock(_) => 9,
+        Refusal::BadVote(_) => 20,
+        Refusal::BadHeader => 21,
+        Refusal::TooFewPlaces => 10,
+        Refusal::WrongPhase => 11,
+        Refusal::BeatDone => 12,
+        Refusal::NotJoined => 13,
+        Refusal::NotProposer => 14,
+        Refusal::NumberKnown => 15,
+        Refusal::AlreadyVoted => 16,
+        Refusal::SlotOutOfRange => 17,
+        Refusal::BufferTooShort => 18,
+        Refusal::NoOwnProposal => 19,
+        Refusal::NumberTooWide => 23,
     }
 }
 
 // The index of the entry that Receive refused, in its section; 0 where no entry is refused.
 pub fn index(refusal: Refusal) -> usize
-    ensures { λ r. ⌜ r ≡ indexOf refusal ⌝ }
+    ensures { λ r. ⌜ r ≡ refusalIndexOf refusal ⌝ }
 {
     match refusal {
-        Refusal::Nodes => 0,
-        Refusal::Own => 0,
-        Refusal::Expiry => 0,
-        Refusal::Depth => 0,
-        Refusal::Length => 0,
+        Refusal::NodesOutOfRange => 0,
+        Refusal::OwnOutOfRange => 0,
+        Refusal::ExpiryOutOfRange => 0,
+        Refusal::DepthOutOfRange => 0,
+        Refusal::LengthOutOfRange => 0,
         Refusal::Unsound => 0,
-        Refusal::Beat => 0,
-        Refusal::Long => 0,
-        Refusal::Form => 0,
-        Refusal::Block(i) => i,
-        Refusal::Vote(i) => i,
-        Refusal::Header => 0,
-        Refusal::Places => 0,
-        Refusal::Phase => 0,
-        Refusal::Done => 0,
-        Refusal::Joined => 0,
-        Refusal::Proposer => 0,
-        Refusal::Number => 0,
-        Refusal::Voted => 0,
-        Refusal::Slot => 0,
-        Refusal::Buffer => 0,
-        Refusal::Proposal => 0,
-        Refusal::Wide => 0,
+        Refusal::WrongBeat => 0,
+        Refusal::PacketTooLong => 0,
+        Refusal::PacketMalformed => 0,
+        Refusal::BadBlock(i) => i,
+        Refusal::BadVote(i) => i,
+        Refusal::BadHeader => 0,
+        Refusal::TooFewPlaces => 0,
+        Refusal::WrongPhase => 0,
+        Refusal::BeatDone => 0,
+        Refusal::NotJoined => 0,
+        Refusal::NotProposer => 0,
+        Refusal::NumberKnown => 0,
+        Refusal::AlreadyVoted => 0,
+        Refusal::SlotOutOfRange => 0,
+        Refusal::BufferTooShort => 0,
+        Refusal::NoOwnProposal => 0,
+        Refusal::NumberTooWide => 0,
     }
 }
 
@@ -153,19 +153,19 @@ pub fn open_verdict(settings: Settings, blocks: &[u64], votes: &[u64]) -> Verdic
 {
     let profile = settings.profile;
     if !ranges::nodes_sound(profile, settings.nodes) {
-        return Verdict::Refuse(Refusal::Nodes);
+        return Verdict::Refuse(Refusal::NodesOutOfRange);
     }
     if settings.own >= settings.nodes {
-        return Verdict::Refuse(Refusal::Own);
+        return Verdict::Refuse(Refusal::OwnOutOfRange);
     }
     if !ranges::within(1, limits::MAX_EXPIRY, settings.expiry) {
-        return Verdict::Refuse(Refusal::Expiry);
+        return Verdict::Refuse(Refusal::ExpiryOutOfRange);
     }
     if !ranges::within(1, limits::MAX_DEPTH, settings.depth) {
-        return Verdict::Refuse(Refusal::Depth);
+        return Verdict::Refuse(Refusal::DepthOutOfRange);
     }
     if !ranges::places_sound(profile, blocks, votes) {
-        return Verdict::Refuse(Refusal::Length);
+        return Verdict::Refuse(Refusal::LengthOutOfRange);
     }
     Verdict::Pass
 }
@@ -202,10 +202,10 @@ fn indexed_verdict(
         return Verdict::Refuse(Refusal::Unsound);
     }
     if beat < clock.seen {
-        return Verdict::Refuse(Refusal::Beat);
+        return Verdict::Refuse(Refusal::WrongBeat);
     }
     if beat / 3 > limits::MAX_SLOT {
-        return Verdict::Refuse(Refusal::Beat);
+        return Verdict::Refuse(Refusal::WrongBeat);
     }
     Verdict::Pass
 }
@@ -263,17 +263,17 @@ fn due_verdict(
         return begun;
     }
     if beat % 3 != phase {
-        return Verdict::Refuse(Refusal::Phase);
+        return Verdict::Refuse(Refusal::WrongPhase);
     }
     if beat <= clock.done {
-        return Verdict::Refuse(Refusal::Done);
+        return Verdict::Refuse(Refusal::BeatDone);
     }
     Verdict::Pass
 }
 
 // ---- the calls
 
-// Receive. The sets, empty before, hold the first places of the packet's entries if the verdict is to pass: so the entries need not be looked up
+// Receive. The sets, empty before, hold the first rows of the packet's entries if the verdict is to pass: so the entries need not be looked up
 // again when they are stored. The cost beside soundness is two descents for each block and two for each vote of the packet, if there are at most
 // 4,096 blocks and 16,384 votes in table and packet together; a longer packet, which no honest node sends, costs its entries times all entries.
 // Stack: 192 KiB of links.
@@ -313,10 +313,10 @@ pub fn receive_verdict(
     let long = limits::too_long(profile, bytes.len());
     let formed = packets::well_formed(bytes);
     if long {
-        return Verdict::Refuse(Refusal::Long);
+        return Verdict::Refuse(Refusal::PacketTooLong);
     }
     if !formed {
-        return Verdict::Refuse(Refusal::Form);
+        return Verdict::Refuse(Refusal::PacketMalformed);
     }
     let header = packets::header_of(bytes);
     let block_count = header.blocks as usize;
@@ -332,7 +332,7 @@ pub fn receive_verdict(
         block_firsts,
     );
     if admitted.bad < block_count {
-        return Verdict::Refuse(Refusal::Block(admitted.bad));
+        return Verdict::Refuse(Refusal::BadBlock(admitted.bad));
     }
     let vote_count = header.votes as usize;
     let vote = admission::admit_votes(
@@ -346,15 +346,15 @@ pub fn receive_verdict(
         block_firsts,
     );
     if vote < vote_count {
-        return Verdict::Refuse(Refusal::Vote(vote));
+        return Verdict::Refuse(Refusal::BadVote(vote));
     }
     if !admission::header_allowed(bytes) {
-        return Verdict::Refuse(Refusal::Header);
+        return Verdict::Refuse(Refusal::BadHeader);
     }
     if ranges::places_in(6, blocks) - blocks_used < admitted.new {
-        return Verdict::Refuse(Refusal::Places);
+        return Verdict::Refuse(Refusal::TooFewPlaces);
     }
-    let from = own::kept_from(settings, clock.merged);
+    let from = own_entries::kept_from(settings, clock.merged);
     let votes_fit = packets::fits(votes_used, vote_count, INDEXED_VOTES);
     let new_votes = admission::new_votes(
         votes,
@@ -366,7 +366,7 @@ pub fn receive_verdict(
         vote_firsts,
     );
     if ranges::places_in(5, votes) - votes_used < new_votes {
-        return Verdict::Refuse(Refusal::Places);
+        return Verdict::Refuse(Refusal::TooFewPlaces);
     }
     Verdict::Pass
 }
@@ -396,19 +396,19 @@ pub fn propose_verdict(
     if let Verdict::Refuse(_) = due {
         return due;
     }
-    let joined = own::joined(clock, beat);
-    let proposer = own::is_proposer(settings, beat);
+    let joined = own_entries::joined(clock, beat);
+    let proposer = own_entries::is_proposer(settings, beat);
     if !joined {
-        return Verdict::Refuse(Refusal::Joined);
+        return Verdict::Refuse(Refusal::NotJoined);
     }
     if !proposer {
-        return Verdict::Refuse(Refusal::Proposer);
+        return Verdict::Refuse(Refusal::NotProposer);
     }
     if soundness::known_block(blocks, blocks_used, number) {
-        return Verdict::Refuse(Refusal::Number);
+        return Verdict::Refuse(Refusal::NumberKnown);
     }
     if ranges::places_in(6, blocks) <= blocks_used {
-        return Verdict::Refuse(Refusal::Places);
+        return Verdict::Refuse(Refusal::TooFewPlaces);
     }
     Verdict::Pass
 }
@@ -437,14 +437,14 @@ pub fn vote_verdict(
     if let Verdict::Refuse(_) = due {
         return due;
     }
-    if !own::joined(clock, beat) {
-        return Verdict::Refuse(Refusal::Joined);
+    if !own_entries::joined(clock, beat) {
+        return Verdict::Refuse(Refusal::NotJoined);
     }
-    if own::has_voted(votes, votes_used, settings.own, beat / 3) {
-        return Verdict::Refuse(Refusal::Voted);
+    if own_entries::has_voted(votes, votes_used, settings.own, beat / 3) {
+        return Verdict::Refuse(Refusal::AlreadyVoted);
     }
     if ranges::places_in(5, votes) <= votes_used {
-        return Verdict::Refuse(Refusal::Places);
+        return Verdict::Refuse(Refusal::TooFewPlaces);
     }
     Verdict::Pass
 }
@@ -488,13 +488,13 @@ pub fn query_verdict(
         return Verdict::Refuse(Refusal::Unsound);
     }
     if slot == 0 {
-        return Verdict::Refuse(Refusal::Slot);
+        return Verdict::Refuse(Refusal::SlotOutOfRange);
     }
     if clock.seen / 3 < slot {
-        return Verdict::Refuse(Refusal::Slot);
+        return Verdict::Refuse(Refusal::SlotOutOfRange);
     }
     if slot < clock.merged {
-        return Verdict::Refuse(Refusal::Slot);
+        return Verdict::Refuse(Refusal::SlotOutOfRange);
     }
     Verdict::Pass
 }
@@ -517,11 +517,11 @@ pub fn write_verdict(
         return Verdict::Refuse(Refusal::Unsound);
     }
     if proposal {
-        if !own::proposed_now(settings, clock, blocks, blocks_used) {
-            return Verdict::Refuse(Refusal::Proposal);
+        if !own_entries::proposed_now(settings, clock, blocks, blocks_used) {
+            return Verdict::Refuse(Refusal::NoOwnProposal);
         }
     }
-    let named = own::header_block(blocks, blocks_used, proposal);
+    let named = own_entries::header_block(blocks, blocks_used, proposal);
     if writer::too_wide(
         blocks,
         blocks_used,
@@ -531,11 +531,11 @@ pub fn write_verdict(
         width,
         named.number,
     ) {
-        return Verdict::Refuse(Refusal::Wide);
+        return Verdict::Refuse(Refusal::NumberTooWide);
     }
     let length = writer::written_length(blocks, blocks_used, votes, votes_used, proposal, width);
     if buffer.len() < length {
-        return Verdict::Refuse(Refusal::Buffer);
+        return Verdict::Refuse(Refusal::BufferTooShort);
     }
     Verdict::Pass
 }

@@ -10,7 +10,7 @@ use Rattle.rows.specs.Rows.{rowAt}
 use Rattle.rows.proofs.Rows.{getD-rowsOf}
 use Rattle.search_tree.proofs.Tree.{index-same}
 use Rattle.index.specs.Keys.{numberKey}
-use Rattle.index.specs.Places.{BlockIndex}
+use Rattle.index.specs.Links.{BlockIndex}
 
 module _ {A : Type 0} where
   getD-entries : (ms : List (Marked A)) (j : ℕ) (d : Marked A) → getD (entries ms) j (d .entry) ≡ getD ms j d .entry

@@ -1,6 +1,6 @@
 -- The laws of what comes into view, and the proofs of the functions. Assumes nothing.
 pub mod Named
-pub mod Shows
+pub mod Views
 pub mod Order
 pub mod Ancestors
 pub mod One

@@ -1,5 +1,5 @@
 -- Laws for the proofs of the functions. Assumes nothing.
-pub mod Places
+pub mod Positions
 pub mod Rows
 pub mod Sent
 pub mod Wide

@@ -14,14 +14,14 @@ use Rattle.protocol.proofs.Basics.Tests.{and-left, and-right}
 use Rattle.protocol.proofs.Store.Sound.{places-few}
 use Rattle.protocol.proofs.Lent.Memory.{lent-used}
 use Rattle.protocol.proofs.Lent.Rows.{blocks-fit, votes-fit}
-use Rattle.writer.specs.Sent.{nodeIn, Readable}
+use Rattle.writer.specs.Sent.{nodeIn, RowsReadable}
 
-first-shown : (slot : ℕ) (ws : List ℕ) (used : ℕ) → blocksSound slot (rowsOf makeBlock ws used) ≡ true → makeBlock .of ws .shown ≡ true
+first-viewed : (slot : ℕ) (ws : List ℕ) (used : ℕ) → blocksSound slot (rowsOf makeBlock ws used) ≡ true → makeBlock .of ws .viewed ≡ true
 unfolding blocksSound rowsOf
-first-shown slot ws zero e = absurd (false≢true e)
-first-shown slot ws (suc n) e = search (and-left, and-right)
+first-viewed slot ws zero e = absurd (false≢true e)
+first-viewed slot ws (suc n) e = search (and-left, and-right)
 
-pub sound-readable : (s : Settings) (m : Lent) → lentSound s m ≡ true → Readable (m .blocks) (m .blocksUsed) (m .votes) (m .votesUsed)
+pub sound-readable : (s : Settings) (m : Lent) → lentSound s m ≡ true → RowsReadable (m .blocks) (m .blocksUsed) (m .votes) (m .votesUsed)
 unfolding lentSound sound placesOf nodeOf
 sound-readable s m e =
     let u = lent-used s m e in
@@ -32,7 +32,7 @@ sound-readable s m e =
       voteRows = votes-fit (m .votes) (m .votesUsed) (u .1);
       blockCount = omega (arith, u .0, few .0);
       voteCount = omega (arith, u .1, few .1);
-      first = first-shown (m .clock .seen / 3) (m .blocks) (m .blocksUsed) (search (and-left, and-right) depth 14);
+      first = first-viewed (m .clock .seen / 3) (m .blocks) (m .blocksUsed) (search (and-left, and-right) depth 14);
     }
 
 -- a packet says nothing of the clock

@@ -17,7 +17,7 @@ use Rattle.rows.proofs.Rows.{drop-rowsOf}
 use Rattle.writer.specs.declared.Row.{Row}
 use Rattle.writer.specs.declared.Widths.{Widths}
 use Rattle.writer.specs.Rows.{makeRow, isSent, sentRows, sentFrom, rowBytes, entryBytes, entriesBytes}
-use Rattle.writer.proofs.Places.{sets-behind, sets-over, lent-rest}
+use Rattle.writer.proofs.Positions.{sets-behind, sets-over, lent-rest}
 
 -- a row before the last one is there
 pub row-fits : (words i used n : ℕ) → i < used → words * used ≤ n → words * (i + 1) ≤ n

@@ -10,8 +10,8 @@ use lib.Seq.{getD-drop}
 use Rattle.protocol.specs.declared.Width.{Width}
 use Rattle.protocol.specs.declared.Width.the-variants.{Narrow, Wide}
 use Rattle.protocol.specs.Entry.{Block, Vote}
-use Rattle.protocol.specs.Words.{join, lowerOf, upperOf}
-use Rattle.protocol.specs.Store.{Marked, entries, inView, Node}
+use Rattle.protocol.specs.Words.{fromHalves, lowerOf, upperOf}
+use Rattle.protocol.specs.Store.{Marked, entries, viewOf, Node}
 use Rattle.protocol.specs.Packet.{Packet, bytesOf, section, flat, sizeOf, widthOf, headBytes, blockBytes, voteBytes, packetAs, packetBytes}
 use Rattle.protocol.specs.Calls.Write.{bytesIn, kindOf, afterGenesis, gossipOf, proposalOf, sentOf, packetOut}
 use Rattle.protocol.specs.Lent.{blockWords, voteWords, rowsOf, makeBlock, makeVote}
@@ -23,18 +23,18 @@ use Rattle.protocol.proofs.Packet.Bytes.{packet-length}
 use Rattle.writer.specs.declared.Row.{Row}
 use Rattle.writer.specs.declared.Widths.{Widths}
 use Rattle.writer.specs.Rows.{makeRow, isSent, sentRows, sentFrom, rowBytes}
-use Rattle.writer.specs.Sent.{nodeIn, Readable}
+use Rattle.writer.specs.Sent.{nodeIn, RowsReadable}
 use Rattle.writer.proofs.Rows.{row-length}
 
 -- ---- rows as entries
 
 -- what a packet takes of a table
 abbrev pub taken : {A : Type 0} → Bool → List (Marked A) → List A
-taken proposal ms = cond proposal (inView ms) (entries ms)
+taken proposal ms = cond proposal (viewOf ms) (entries ms)
 
 module _ {A : Type 0} (entryOf : Row → A) where
   abbrev made : Row → Marked A
-  made r = record { entry = entryOf r; shown = eqb (r .mark) 1 }
+  made r = record { entry = entryOf r; viewed = eqb (r .mark) 1 }
 
   rows-made : (words : ℕ) (clean : List ℕ → Bool) (ws : List ℕ) (n : ℕ)
       → rowsOf (record { words = words; of = λ us. made (makeRow words .of us); clean = clean }) ws n ≡ map made (rowsOf (makeRow words) ws n)
@@ -47,22 +47,22 @@ module _ {A : Type 0} (entryOf : Row → A) where
   drop-made (r ∷ rs) = refl
 
   taken-made : (proposal : Bool) (rs : List Row) → taken proposal (map made rs) ≡ map entryOf (sentRows proposal rs)
-  unfolding inView entries sentRows
+  unfolding viewOf entries sentRows
   taken-made true [] = refl
   taken-made false [] = refl
   taken-made false (r ∷ rs) = ap {B = List A} (λ rest. entryOf r ∷ rest) (taken-made false rs)
   taken-made true (r ∷ rs) = go (eqb (r .mark) 1) (taken-made true rs)
     where
-      go : (t : Bool) → inView (map made rs) ≡ map entryOf (sentRows true rs)
-          → cond t (entryOf r ∷ inView (map made rs)) (inView (map made rs)) ≡ map entryOf (cond t (r ∷ sentRows true rs) (sentRows true rs))
+      go : (t : Bool) → viewOf (map made rs) ≡ map entryOf (sentRows true rs)
+          → cond t (entryOf r ∷ viewOf (map made rs)) (viewOf (map made rs)) ≡ map entryOf (cond t (r ∷ sentRows true rs) (sentRows true rs))
       go true e = ap {B = List A} (λ rest. entryOf r ∷ rest) e
       go false e = e
 
 abbrev block : Row → Block
-block r = record { number = join (r .first) (r .second); parent = join (r .third) (r .fourth); slot = r .fifth }
+block r = record { number = fromHalves (r .first) (r .second); parent = fromHalves (r .third) (r .fourth); slot = r .fifth }
 
 abbrev vote : Row → Vote
-vote r = record { voter = r .first; slot = r .second; number = join (r .third) (r .fourth) }
+vote r = record { voter = r .first; slot = r .second; number = fromHalves (r .third) (r .fourth) }
 
 -- ---- their bytes; the upper half of a number takes so many
 
@@ -129,11 +129,11 @@ low-from proposal words ws from n h = low-sent proposal (drop from (rowsOf (make
 
 -- from rows as entries to rows
 packet-made : (upper kind slot lower half : ℕ) (bs vs : List Row) → lower < 2 ^ 64 → Each Low bs → Each Low vs
-    → packetAs (8 + upper) (record { kind = kind; slot = slot; number = join lower half; blocks = map block bs; votes = map vote vs })
+    → packetAs (8 + upper) (record { kind = kind; slot = slot; number = fromHalves lower half; blocks = map block bs; votes = map vote vs })
     ≡ rowBytes (voteWidths upper) (front kind slot lower half) ++ section (rowBytes (blockWidths upper)) bs ++ section (rowBytes (voteWidths upper)) vs
 unfolding packetAs headBytes
 packet-made upper kind slot lower half bs vs l h k =
-    let head : bytesOf 1 kind ++ (bytesOf 4 slot ++ bytesOf (8 + upper) (join lower half)) ≡ rowBytes (voteWidths upper) (front kind slot lower half) =
+    let head : bytesOf 1 kind ++ (bytesOf 4 slot ++ bytesOf (8 + upper) (fromHalves lower half)) ≡ rowBytes (voteWidths upper) (front kind slot lower half) =
     unfold rowBytes bytesOf in rw (bytes-halves upper lower half l, append-nil) in
     rw (head, section-made block (blockBytes (8 + upper)) (rowBytes (blockWidths upper)) (block-bytes upper) bs h, section-made vote (voteBytes (8 + upper)) (rowBytes (voteWidths upper)) (vote-bytes upper) vs k)
     (sym (append-assoc (rowBytes (voteWidths upper) (front kind slot lower half)) (section (rowBytes (blockWidths upper)) bs) (section (rowBytes (voteWidths upper)) vs)))
@@ -152,9 +152,9 @@ sent-parts true width x = refl
 sent-parts false width x = refl
 
 -- the first row is taken, and left out
-after-first : (proposal : Bool) (ws : List ℕ) (n : ℕ) → makeBlock .of ws .shown ≡ true
+after-first : (proposal : Bool) (ws : List ℕ) (n : ℕ) → makeBlock .of ws .viewed ≡ true
     → afterGenesis (taken proposal (rowsOf makeBlock ws n)) ≡ taken proposal (drop 1 (rowsOf makeBlock ws n))
-unfolding afterGenesis inView entries rowsOf
+unfolding afterGenesis viewOf entries rowsOf
 after-first true ws zero h = refl
 after-first false ws zero h = refl
 after-first true ws (suc n) h = rw h refl
@@ -166,7 +166,7 @@ width-of-kind true Wide = refl
 width-of-kind false Narrow = refl
 width-of-kind false Wide = refl
 
-module _ (proposal : Bool) (width : Width) (blocks : List ℕ) (blocksUsed : ℕ) (votes : List ℕ) (votesUsed : ℕ) (ok : Readable blocks blocksUsed votes votesUsed) where
+module _ (proposal : Bool) (width : Width) (blocks : List ℕ) (blocksUsed : ℕ) (votes : List ℕ) (votesUsed : ℕ) (ok : RowsReadable blocks blocksUsed votes votesUsed) where
   abbrev x : Node
   x = nodeIn blocks blocksUsed votes votesUsed
 
@@ -209,7 +209,7 @@ module _ (proposal : Bool) (width : Width) (blocks : List ℕ) (blocksUsed : ℕ
   -- ---- as bytes, where the words are words
 
   module _ (upper : ℕ) (w : 8 + upper ≡ bytesIn width) (b : (i : ℕ) → getD blocks i 0 < 2 ^ 64) (v : (i : ℕ) → getD votes i 0 < 2 ^ 64) where
-    pub sent-sections : (kind slot lower half : ℕ) → kind ≡ kindOf proposal width → slot ≡ sentOf proposal width x .slot → join lower half ≡ sentOf proposal width x .number → lower < 2 ^ 64
+    pub sent-sections : (kind slot lower half : ℕ) → kind ≡ kindOf proposal width → slot ≡ sentOf proposal width x .slot → fromHalves lower half ≡ sentOf proposal width x .number → lower < 2 ^ 64
         → packetOut proposal width x
         ≡ rowBytes (voteWidths upper) (front kind slot lower half) ++ section (rowBytes (blockWidths upper)) bs ++ section (rowBytes (voteWidths upper)) vs
     unfolding packetOut packetBytes

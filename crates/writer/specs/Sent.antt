@@ -15,15 +15,15 @@ nodeIn blocks blocksUsed votes votesUsed =
 
 -- the row is sent, and a number of its entry has more than 64 bits
 abbrev pub wideBlock : Bool → Marked Block → Bool
-wideBlock proposal m = (not proposal || m .shown) && (isWide (m .entry .number) || isWide (m .entry .parent))
+wideBlock proposal m = (not proposal || m .viewed) && (isWide (m .entry .number) || isWide (m .entry .parent))
 
 abbrev pub wideVote : Bool → Marked Vote → Bool
-wideVote proposal m = (not proposal || m .shown) && isWide (m .entry .number)
+wideVote proposal m = (not proposal || m .viewed) && isWide (m .entry .number)
 
 -- what the writer asks of the tables, and sound memory has: the rows are there, their counts fit two bytes, and the first block is marked in view
-pub record Readable (blocks : List ℕ) (blocksUsed : ℕ) (votes : List ℕ) (votesUsed : ℕ) : Type 0 where
+pub record RowsReadable (blocks : List ℕ) (blocksUsed : ℕ) (votes : List ℕ) (votesUsed : ℕ) : Type 0 where
   pub blockRows : BlocksFit blocksUsed blocks
   pub voteRows : VotesFit votesUsed votes
   pub blockCount : blocksUsed ≤ 65535
   pub voteCount : votesUsed ≤ 65535
-  pub first : makeBlock .of blocks .shown ≡ true
+  pub first : makeBlock .of blocks .viewed ≡ true

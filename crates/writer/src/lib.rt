@@ -8,12 +8,12 @@ ghost use lib.ListN.{length, drop};
 ghost use lib.Seq.{sets};
 ghost use Rattle.protocol.specs.Words.{value};
 ghost use Rattle.protocol.specs.Packet.{bytesOf, section};
-ghost use Rattle.protocol.specs.Lists.{any};
+ghost use Rattle.protocol.specs.Lists.{anyPass};
 ghost use Rattle.protocol.specs.Lent.{BlocksFit, VotesFit, rowsOf, makeBlock, makeVote};
 ghost use Rattle.protocol.specs.Calls.Write.{bytesIn, kindOf, sentOf, tooWide, packetOut, over};
 ghost use Rattle.rows.specs.Rows.{rowAt};
 ghost use Rattle.writer.specs.Rows.{makeRow, isSent, sentFrom, rowBytes, entryBytes, entriesBytes};
-ghost use Rattle.writer.specs.Sent.{nodeIn, Readable, wideBlock, wideVote};
+ghost use Rattle.writer.specs.Sent.{nodeIn, RowsReadable, wideBlock, wideVote};
 
 // A row of a table: the words of an entry, and its mark. Of a vote, which has four, the fifth is not written.
 pub struct Row {
@@ -81,7 +81,7 @@ fn count_sent(words: usize, rows: &[u64], from: usize, used: usize, proposal: bo
 
 // ---- bytes
 
-// Writes a number to `width` bytes from a place on, the lowest first.
+// Writes a number to `width` bytes from a position on, the lowest first.
 fn put_number(buf: &mut [u8], at: usize, width: usize, n: u64)
     requires { ⌜ at + width ≤ length (now buf) ⌝ }
     ensures { λ _. ⌜ now (buf .exit) ≡ sets (now (buf .entry)) at (bytesOf width n) ⌝ }
@@ -95,7 +95,7 @@ fn put_number(buf: &mut [u8], at: usize, width: usize, n: u64)
     }
 }
 
-// Five words from a place on.
+// Five words from a position on.
 fn put_five(buf: &mut [u8], at: usize, widths: Widths, row: Row)
     requires { ⌜ at + (widths .first + widths .second + widths .third + widths .fourth + widths .fifth) ≤ length (now buf) ⌝ }
     ensures { λ _. ⌜ now (buf .exit) ≡ sets (now (buf .entry)) at (rowBytes widths row) ⌝ }
@@ -111,7 +111,7 @@ fn put_five(buf: &mut [u8], at: usize, widths: Widths, row: Row)
     put_number(buf, fifth, widths.fifth, row.fifth);
 }
 
-// A row, if it is sent. The answer is the place behind it.
+// A row, if it is sent. The answer is the position behind it.
 fn put_row(buf: &mut [u8], at: usize, widths: Widths, proposal: bool, row: Row) -> usize
     requires { ⌜ at + length (entryBytes widths proposal row) ≤ length (now buf) ⌝ }
     ensures { λ r. ⌜ (r ≡ at + length (entryBytes widths proposal row)) × (now (buf .exit) ≡ sets (now (buf .entry)) at (entryBytes widths proposal row)) ⌝ }
@@ -199,7 +199,7 @@ pub fn written_length(
     proposal: bool,
     width: Width,
 ) -> usize
-    requires { ⌜ Readable (now blocks) «blocks_used» (now votes) «votes_used» ⌝ }
+    requires { ⌜ RowsReadable (now blocks) «blocks_used» (now votes) «votes_used» ⌝ }
     ensures { λ r. ⌜ r ≡ length (packetOut proposal width (nodeIn (now (blocks .entry)) «blocks_used» (now (votes .entry)) «votes_used»)) ⌝ }
 {
     let b = count_sent(6, blocks, 1, blocks_used, proposal);
@@ -211,12 +211,12 @@ pub fn written_length(
 // Whether a block that is sent, or its parent, has a number of more than 64 bits. One pass over the rows.
 fn wide_block(blocks: &[u64], used: usize, proposal: bool) -> bool
     requires { ⌜ BlocksFit used (now blocks) ⌝ }
-    ensures { λ r. ⌜ r ≡ any (wideBlock proposal) (drop 1 (rowsOf makeBlock (now (blocks .entry)) used)) ⌝ }
+    ensures { λ r. ⌜ r ≡ anyPass (wideBlock proposal) (drop 1 (rowsOf makeBlock (now (blocks .entry)) used)) ⌝ }
 {
     let mut i: usize = 1;
     while i < used {
         let row = rows::block_at(blocks, i);
-        if rows::selects(!proposal, row.shown) {
+        if rows::selects(!proposal, row.viewed) {
             if numbers::is_wide(row.block.number) {
                 return true;
             }
@@ -232,12 +232,12 @@ fn wide_block(blocks: &[u64], used: usize, proposal: bool) -> bool
 // Whether a vote that is sent is for a number of more than 64 bits. One pass over the rows.
 fn wide_vote(votes: &[u64], used: usize, proposal: bool) -> bool
     requires { ⌜ VotesFit used (now votes) ⌝ }
-    ensures { λ r. ⌜ r ≡ any (wideVote proposal) (rowsOf makeVote (now (votes .entry)) used) ⌝ }
+    ensures { λ r. ⌜ r ≡ anyPass (wideVote proposal) (rowsOf makeVote (now (votes .entry)) used) ⌝ }
 {
     let mut i: usize = 0;
     while i < used {
         let row = rows::vote_at(votes, i);
-        if rows::selects(!proposal, row.shown) {
+        if rows::selects(!proposal, row.viewed) {
             if numbers::is_wide(row.vote.number) {
                 return true;
             }
@@ -258,7 +258,7 @@ pub fn too_wide(
     width: Width,
     number: Number,
 ) -> bool
-    requires { ⌜ Readable (now blocks) «blocks_used» (now votes) «votes_used»
+    requires { ⌜ RowsReadable (now blocks) «blocks_used» (now votes) «votes_used»
         × (value number ≡ sentOf proposal width (nodeIn (now blocks) «blocks_used» (now votes) «votes_used») .number) ⌝ }
     ensures { λ r. ⌜ r ≡ tooWide width (sentOf proposal width (nodeIn (now (blocks .entry)) «blocks_used» (now (votes .entry)) «votes_used»)) ⌝ }
 {
@@ -288,7 +288,7 @@ pub fn write_packet(
     number: Number,
     buf: &mut [u8],
 )
-    requires { ⌜ Readable (now blocks) «blocks_used» (now votes) «votes_used»
+    requires { ⌜ RowsReadable (now blocks) «blocks_used» (now votes) «votes_used»
         × (slot ≡ sentOf proposal width (nodeIn (now blocks) «blocks_used» (now votes) «votes_used») .slot)
         × (value number ≡ sentOf proposal width (nodeIn (now blocks) «blocks_used» (now votes) «votes_used») .number)
         × (length (packetOut proposal width (nodeIn (now blocks) «blocks_used» (now votes) «votes_used»)) ≤ length (now buf)) ⌝ }

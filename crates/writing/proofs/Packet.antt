@@ -31,16 +31,16 @@ module _ (s : Settings) (m : Lent) (proposal : Bool) (width : Width) (buffer : L
   pub write-leaves : {e : Refusal} → v ≡ Refuse e → Writes s m proposal width buffer buffer (written.Refused e)
   write-leaves e =
       let q = write-refused s m proposal width buffer _ (said (Refuse _) h e) in
-      record { buffer = sym (ap (λ w. w .buffer) q); length = sym (ap (λ w. w .reply) q) }
+      record { buffer = sym (ap (λ w. w .buffer) q); answer = sym (ap (λ w. w .answer) q) }
 
   pub write-room : v ≡ Pass → length (bytes m proposal width) ≤ length buffer
   write-room e = rw (sent-held proposal width m) (room.write-room s m proposal width buffer (said Pass h e))
 
-  pub write-fills : {n : ℕ} {new : List ℕ} → v ≡ Pass → n ≡ length (bytes m proposal width) → new ≡ over (bytes m proposal width) buffer → Writes s m proposal width buffer new (written.Length n)
+  pub write-fills : {n : ℕ} {new : List ℕ} → v ≡ Pass → n ≡ length (bytes m proposal width) → new ≡ over (bytes m proposal width) buffer → Writes s m proposal width buffer new (written.Bytes n)
   write-fills e f g =
       let q = write-done s m proposal width buffer (said Pass h e) in
       let p = sent-held proposal width m in
       record {
         buffer = g ∙ ap (λ (o : List ℕ). over o buffer) p ∙ sym (ap (λ w. w .buffer) q);
-        length = ap (λ (n : ℕ). done n) (f ∙ ap length p) ∙ sym (ap (λ w. w .reply) q);
+        answer = ap (λ (n : ℕ). done n) (f ∙ ap length p) ∙ sym (ap (λ w. w .answer) q);
       }

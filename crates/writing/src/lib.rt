@@ -44,7 +44,7 @@ pub fn write(
                 proposal,
                 width,
             );
-            let named = own::header_block(blocks, blocks_used, proposal);
+            let named = own_entries::header_block(blocks, blocks_used, proposal);
             writer::write_packet(
                 blocks,
                 blocks_used,
@@ -56,7 +56,7 @@ pub fn write(
                 named.number,
                 buffer,
             );
-            Written::Length(length as u64)
+            Written::Bytes(length as u64)
         }
     }
 }

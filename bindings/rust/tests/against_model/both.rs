@@ -51,7 +51,7 @@ impl Call {
             Call::Receive { beat, packet } => node.receive(*beat, packet).map(|r| Answer::Received {
                 new_blocks: r.new_blocks,
                 new_votes: r.new_votes,
-                brought: r.brought,
+                viewed: r.viewed,
             }),
             Call::Propose { beat, number } => node.propose(*beat, *number).map(Answer::Block),
             Call::Vote { beat } => node.vote(*beat).map(Answer::Block),
@@ -72,7 +72,7 @@ impl Call {
 #[derive(Clone, Copy, Debug, PartialEq, Eq)]
 pub enum Answer {
     Done,
-    Received { new_blocks: u64, new_votes: u64, brought: bool },
+    Received { new_blocks: u64, new_votes: u64, viewed: bool },
     Block(u128),
     Nothing,
     Length(usize),
@@ -157,7 +157,7 @@ impl Both {
             Call::Open => node.open().map(|()| Answer::Done).map_err(whole),
             _ if !self.readable => Err(whole(6)),
             Call::Receive { beat, packet } => match node.receive(*beat, packet) {
-                Ok(r) => Ok(Answer::Received { new_blocks: r.new_blocks, new_votes: r.new_votes, brought: r.brought }),
+                Ok(r) => Ok(Answer::Received { new_blocks: r.new_blocks, new_votes: r.new_votes, viewed: r.brought }),
                 Err(refused) => Err((u64::from(refused.number), refused.index)),
             },
             Call::Propose { beat, number } => node.propose(*beat, *number).map(Answer::Block).map_err(whole),

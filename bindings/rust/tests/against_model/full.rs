@@ -74,7 +74,7 @@ fn largest_tables() {
             assert_eq!(received, Err((refusal, None)));
             continue;
         }
-        assert_eq!(received, Ok(Answer::Received { new_blocks: 2047, new_votes: 8192, brought: false }));
+        assert_eq!(received, Ok(Answer::Received { new_blocks: 2047, new_votes: 8192, viewed: false }));
         assert_eq!(make(Call::Merge { beat: beat + 1 }, &mut []), Ok(Answer::Done));
         let mut buffer = vec![0; packet.len() + 3];
         let write = |wide| Call::Write { proposal: false, wide };
@@ -93,7 +93,7 @@ fn largest_tables() {
         assert_eq!(make(Call::Vote { beat: beat + 1 }, &mut []), Err((10, None)));
         assert_eq!(
             make(Call::Receive { beat, packet: packet.clone() }, &mut []),
-            Ok(Answer::Received { new_blocks: 0, new_votes: 0, brought: false })
+            Ok(Answer::Received { new_blocks: 0, new_votes: 0, viewed: false })
         );
     }
 }
@@ -112,10 +112,10 @@ fn freed_places() {
     };
     let receive = |slot: u64, packet: &[u8]| Call::Receive { beat: 3 * slot, packet: packet.to_vec() };
     let merge = |slot: u64| Call::Merge { beat: 3 * slot + 2 };
-    let new_votes = |new_votes| Ok(Answer::Received { new_blocks: 0, new_votes, brought: false });
+    let new_votes = |new_votes| Ok(Answer::Received { new_blocks: 0, new_votes, viewed: false });
     assert_eq!(make(Call::Open, 0), Ok(Answer::Done));
     let first = gossip(blocks(random, 2047), votes(random, 64, 8192, 385)).encode();
-    assert_eq!(make(receive(512, &first), 8192), Ok(Answer::Received { new_blocks: 2047, new_votes: 8192, brought: false }));
+    assert_eq!(make(receive(512, &first), 8192), Ok(Answer::Received { new_blocks: 2047, new_votes: 8192, viewed: false }));
     // Slots 385 to 447 are old after this Merge: 63 slots of 64 votes.
     assert_eq!(make(merge(512), 8192 - 63 * 64), Ok(Answer::Done));
     // What left does not come back, and takes no places.
@@ -143,7 +143,7 @@ fn longer_than_honest() {
     // the tables half full
     let known = (blocks(random, 1250), votes(random, 64, 4000, 250));
     let answer = receive(known.0.clone(), known.1.clone());
-    assert_eq!(answer, Ok(Answer::Received { new_blocks: 1250, new_votes: 4000, brought: false }));
+    assert_eq!(answer, Ok(Answer::Received { new_blocks: 1250, new_votes: 4000, viewed: false }));
     // more blocks than there are places, with the lower halves of known ones, and one that is bad far behind
     let many = blocks(random, 5000);
     let mut other = known.0.clone();
@@ -158,12 +158,12 @@ fn longer_than_honest() {
     let mut all: Vec<PacketVote> = known.1.iter().cycle().take(20_000).copied().collect();
     let blocks: Vec<PacketBlock> = known.0.iter().cycle().take(6000).copied().collect();
     let answer = receive(blocks.clone(), all.clone());
-    assert_eq!(answer, Ok(Answer::Received { new_blocks: 0, new_votes: 0, brought: false }));
+    assert_eq!(answer, Ok(Answer::Received { new_blocks: 0, new_votes: 0, viewed: false }));
     let vote = PacketVote { voter: 63, slot: 1300, number: number(1000) };
     all.push(vote);
     all.push(vote);
     let answer = receive(blocks.clone(), all.clone());
-    assert_eq!(answer, Ok(Answer::Received { new_blocks: 0, new_votes: 1, brought: false }));
+    assert_eq!(answer, Ok(Answer::Received { new_blocks: 0, new_votes: 1, viewed: false }));
     // a bad vote behind all these: its block is known by its lower half alone
     all.push(PacketVote { number: vote.number + (99_999 << 64), ..vote });
     assert_eq!(receive(blocks, all), Err((20, Some(20_002))));

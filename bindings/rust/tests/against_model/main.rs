@@ -56,7 +56,7 @@ fn random_calls() {
         let refused: Vec<String> = (1..25).filter(|&k| replies[k] > 0).map(|k| format!("{k}: {}", replies[k])).collect();
         println!("{name}: {} carried out; refused by {}", replies[0], refused.join(", "));
     }
-    println!("{} proposals came into view on arrival, {} fast blocks", run.brought, run.fast);
+    println!("{} proposals came into view on arrival, {} fast blocks", run.viewed, run.fast);
     println!("the largest index of a refused block {}, of a refused vote {}", run.deepest[0], run.deepest[1]);
     let met = [&run.old_votes.list()[..], &run.wide.list(), &run.racks.list()].concat();
     for (what, times) in &met {
@@ -68,7 +68,7 @@ fn random_calls() {
                 assert!(run.replies[call][reply] > 0, "no {} answered {reply}", Call::NAMES[call]);
             }
         }
-        assert!(run.brought > 0 && run.fast > 0);
+        assert!(run.viewed > 0 && run.fast > 0);
         assert!(run.deepest.iter().all(|&index| index >= 2), "refused entries stand deep in their sections too");
         for (what, times) in met {
             assert!(times >= calls / 1_000, "{what}: {times} in {calls} calls");

@@ -27,7 +27,7 @@ pub struct OldVotes {
     accepted_of_last_slot: u64,
     stored_of_first_slot: u64,
     block_without_vote: u64,
-    brought: u64,
+    viewed: u64,
     brought_alone: u64,
     bad: u64,
     bad_behind: u64,
@@ -53,7 +53,7 @@ impl OldVotes {
             ("of these, of the last slot that is old", self.accepted_of_last_slot),
             ("new votes of the first slot that is not old", self.stored_of_first_slot),
             ("packets with a new block and an old vote for it", self.block_without_vote),
-            ("proposals with an old vote that came into view", self.brought),
+            ("proposals with an old vote that came into view", self.viewed),
             ("of these, with a block that only an old vote brought", self.brought_alone),
             ("old votes that break a rule", self.bad),
             ("votes that break a rule, behind an old one", self.bad_behind),
@@ -80,10 +80,10 @@ impl OldVotes {
                     node.removed.places = node.removed.places.max(before.votes_used);
                 }
             }
-            (Call::Receive { beat, packet }, Ok(Answer::Received { new_votes, brought, .. })) => {
+            (Call::Receive { beat, packet }, Ok(Answer::Received { new_votes, viewed, .. })) => {
                 let packet = Packet::decode(packet).expect("it was accepted");
                 self.count_accepted(before, old, &packet, *new_votes as usize);
-                if *brought && packet.votes.iter().any(|vote| old.is(vote.slot.into())) {
+                if *viewed && packet.votes.iter().any(|vote| old.is(vote.slot.into())) {
                     self.count_brought(node, before, old, *beat, packet);
                 }
             }
@@ -151,13 +151,13 @@ impl OldVotes {
     }
 
     fn count_brought(&mut self, node: &Both, before: &Memory, old: Old, beat: u64, mut packet: Packet) {
-        self.brought += 1;
+        self.viewed += 1;
         let in_view = |memory: &Memory| blocks(memory).filter(|block| block.in_view).count();
         packet.votes.retain(|vote| !old.is(vote.slot.into()));
         let mut without = modelled(node.settings(), before);
         without.receive(beat, &packet.encode()).expect("it is accepted with more votes");
-        let brought = without.blocks[..without.blocks_used].iter().filter(|block| block.in_view).count();
-        self.brought_alone += u64::from(in_view(node.memory()) > brought);
+        let viewed = without.blocks[..without.blocks_used].iter().filter(|block| block.in_view).count();
+        self.brought_alone += u64::from(in_view(node.memory()) > viewed);
         let came = votes(before).zip(votes(node.memory())).filter(|(was, is)| old.is(was.slot) && !was.in_view && is.in_view);
         self.lent_brought += came.count() as u64;
     }

@@ -77,9 +77,9 @@ impl Wide {
     /// Counts a call on a node, which had this memory before it. The buffer that was passed has so many bytes.
     pub fn count(&mut self, node: &Both, before: &Memory, call: &Call, reply: &Reply, buffer: usize) {
         match (call, reply) {
-            (Call::Receive { packet, .. }, Ok(Answer::Received { brought, .. })) => {
+            (Call::Receive { packet, .. }, Ok(Answer::Received { viewed, .. })) => {
                 let packet = Packet::decode(packet).expect("it was accepted");
-                self.count_accepted(node, before, &packet, *brought);
+                self.count_accepted(node, before, &packet, *viewed);
             }
             (Call::Receive { packet, .. }, Err((8, _))) => self.count_malformed(packet),
             (Call::Receive { packet, .. }, Err((number @ (9 | 20 | 21), index))) => {
@@ -129,11 +129,11 @@ impl Wide {
         }
     }
 
-    fn count_accepted(&mut self, node: &Both, before: &Memory, packet: &Packet, brought: bool) {
+    fn count_accepted(&mut self, node: &Both, before: &Memory, packet: &Packet, viewed: bool) {
         let narrow = packet.kind < 2;
         self.accepted[usize::from(packet.kind)] += u64::from(!packet.blocks.is_empty() || !packet.votes.is_empty());
-        self.brought_narrow += u64::from(brought && narrow);
-        self.brought_wide += u64::from(brought && !narrow && needs_wide(packet));
+        self.brought_narrow += u64::from(viewed && narrow);
+        self.brought_wide += u64::from(viewed && !narrow && needs_wide(packet));
         self.narrow_beside_upper += u64::from(narrow && has_upper_half(before));
         let mut known: HashSet<u64> = blocks(before).map(|block| lower(block.number)).collect();
         for block in blocks(node.memory()).skip(before.blocks_used) {
@@ -145,7 +145,7 @@ impl Wide {
             let earlier = cast.insert((vote.voter, vote.slot, lower(vote.number)), upper(vote.number));
             self.votes_for_twins += u64::from(i >= before.votes_used && earlier.is_some());
         }
-        if brought {
+        if viewed {
             let of = |voter: u64, slot: u64, number: u128| (voter, slot, lower(number));
             let votes_brought = packet.votes.iter().map(|vote| of(vote.voter.into(), vote.slot.into(), vote.number));
             let votes_brought: HashSet<_> = votes_brought.collect();

@@ -21,7 +21,7 @@ pub struct Run {
     /// The largest index of a refused block and vote.
     pub deepest: [u64; 2],
     /// Proposals that came into view on arrival, and Fast blocks.
-    pub brought: u64,
+    pub viewed: u64,
     pub fast: u64,
     pub old_votes: OldVotes,
     pub wide: Wide,
@@ -35,7 +35,7 @@ impl Run {
             calls: 0,
             replies: [[0; 25]; 9],
             deepest: [0; 2],
-            brought: 0,
+            viewed: 0,
             fast: 0,
             old_votes: OldVotes::default(),
             wide: Wide::default(),
@@ -57,7 +57,7 @@ impl Run {
         match reply {
             Err((9, Some(index))) => self.deepest[0] = self.deepest[0].max(index),
             Err((20, Some(index))) => self.deepest[1] = self.deepest[1].max(index),
-            Ok(Answer::Received { brought: true, .. }) => self.brought += 1,
+            Ok(Answer::Received { viewed: true, .. }) => self.viewed += 1,
             Ok(Answer::Block(_)) if matches!(call, Call::Fast { .. }) => self.fast += 1,
             _ => {}
         }

@@ -11,8 +11,8 @@ use Rattle.protocol.proofs.Packet.Numbers.{bytes-by-index}
 use Rattle.protocol.proofs.Packet.Bytes.{read-fits}
 use Rattle.index.specs.Keys.{numberKey}
 use Rattle.index.proofs.Known.{known-next}
-use Rattle.index.proofs.Firsts.{placed-within, first-most}
-use Rattle.admission.proofs.Places.{block-key, place-told, block-new}
+use Rattle.index.proofs.Firsts.{linked-within, first-most}
+use Rattle.admission.proofs.Links.{block-key, link-told, block-new}
 use Rattle.admission.proofs.FirstBad.{block-told}
 use Rattle.admission.proofs.Seen.{blocks-next}
 use Rattle.admission.proofs.admit_block.Statement.{statement}
@@ -39,7 +39,7 @@ known-block-requires c κs =
 block-of-requires : tie.Need-block-of-requires
 block-of-requires c κs =
     let s = start (c .before .before) in
-    (s .pre .0, omega (arith, s .pre .2, placed-within _ (c .known-block .ensures)))
+    (s .pre .0, omega (arith, s .pre .2, linked-within _ (c .known-block .ensures)))
 
 join-block-requires : tie.Need-join-block-requires
 join-block-requires c κs =
@@ -51,7 +51,7 @@ block-of-requires-2 : tie.Need-block-of-requires-2
 block-of-requires-2 c κs =
     let j = c .before .before in
     let s = start (j .before .before .before .before .before) in
-    (s .pre .0, omega (arith, s .pre .2, placed-within _ (j .join-block .ensures .0)))
+    (s .pre .0, omega (arith, s .pre .2, linked-within _ (j .join-block .ensures .0)))
 
 note-first-requires : tie.Need-note-first-requires
 note-first-requires c κs =
@@ -70,8 +70,8 @@ returns c =
     let s = start b in
     let i = s .args .i in
     let h = s .pre .2 in (
-      block-told _ _ _ (b .block-at .ensures) (place-told _ _ _ i (omega arith) _ refl (q .known-block .ensures) (p .block-of .ensures))
-          (place-told _ _ _ i (omega arith) _ (block-key _ _ _ i ∙ ap (λ (x : Block). numberKey (x .number)) (sym (b .block-at .ensures))) (j .join-block .ensures .0) (o .block-of2 .ensures)) (c .block-allowed .ensures),
+      block-told _ _ _ (b .block-at .ensures) (link-told _ _ _ i (omega arith) _ refl (q .known-block .ensures) (p .block-of .ensures))
+          (link-told _ _ _ i (omega arith) _ (block-key _ _ _ i ∙ ap (λ (x : Block). numberKey (x .number)) (sym (b .block-at .ensures))) (j .join-block .ensures .0) (o .block-of2 .ensures)) (c .block-allowed .ensures),
       block-new _ _ _ i (omega arith) _ (j .join-block .ensures .0),
       j .join-block .ensures .1,
       blocks-next _ _ _ (s .pre .1) i _ _ _ h (j .join-block .ensures .0) (s .pre .4) (f .note-first .ensures) (s .pre .5),

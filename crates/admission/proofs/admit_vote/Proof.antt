@@ -18,9 +18,9 @@ use Rattle.protocol.specs.Calls.Receive.{addBlocks, voteAllowed}
 use Rattle.protocol.proofs.Packet.Numbers.{bytes-by-index}
 use Rattle.protocol.proofs.Packet.Bytes.{read-fits}
 use Rattle.packets.specs.Header.{noVote}
-use Rattle.index.proofs.Firsts.{placed-within, first-found}
+use Rattle.index.proofs.Firsts.{linked-within, first-found}
 use Rattle.admission.proofs.FirstBad.{vote-told, vote-found}
-use Rattle.admission.proofs.Places.{place-told}
+use Rattle.admission.proofs.Links.{link-told}
 use Rattle.admission.proofs.Seen.{voted-next}
 use Rattle.admission.proofs.admit_vote.Statement.{statement}
 use Rattle.admission.proofs.admit_vote.Tie as tie
@@ -43,7 +43,7 @@ known-block-requires v κs =
 block-of-requires : tie.Need-block-of-requires
 block-of-requires c κs =
     let s = start (c .before) in
-    (s .pre .0, omega (arith, s .pre .2, placed-within _ (c .known-block .ensures)))
+    (s .pre .0, omega (arith, s .pre .2, linked-within _ (c .known-block .ensures)))
 
 -- the answer on vote i
 told : (c : tie.After-vote-allowed) → let s = start (c .before .before .before) in let a = s .args in let p = packetOf (now (a .bytes)) in
@@ -58,7 +58,7 @@ told c =
     let l : length (packetOf (now (a .bytes)) .blocks) ≤ a .known = omega (arith, s .pre .2) in
     let p = packetOf (now (a .bytes)) in
     let E = entries (rowsOf makeBlock (now (a .blocks)) (a .used)) in
-    vote-told _ _ _ _ (place-told _ _ _ (a .known) (omega (arith, s .pre .2)) _ refl (k .known-block .ensures) (b .block-of .ensures)) (c .vote-allowed .ensures)
+    vote-told _ _ _ _ (link-told _ _ _ (a .known) (omega (arith, s .pre .2)) _ refl (k .known-block .ensures) (b .block-of .ensures)) (c .vote-allowed .ensures)
     ∙ ap (λ (bs : List Block). voteAllowed (a .nodes) (a .slot) (addBlocks E bs) (voteOf (v .vote-at .result))) (take-all (a .known) (p .blocks) l)
     ∙ ap (voteAllowed (a .nodes) (a .slot) (addBlocks E (p .blocks))) (v .vote-at .ensures)
 

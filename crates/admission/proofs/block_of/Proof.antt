@@ -7,16 +7,16 @@ use mathlib.Core.Path.{_≡_, refl, ap, _∙_}
 use lib.ListN.{getD}
 use Rattle.protocol.specs.Entry.{Block}
 use Rattle.protocol.specs.Chain.{found, missing, genesis}
-use Rattle.index.specs.Places.{foundAt}
+use Rattle.index.specs.Links.{lookupAt}
 use Rattle.admission.proofs.block_of.Statement.{statement}
 use Rattle.admission.proofs.block_of.Tie as tie
 
-none : (bs : List Block) (p : ℕ) → p ≡ 0 → missing ≡ foundAt bs p
-unfolding foundAt
+none : (bs : List Block) (p : ℕ) → p ≡ 0 → missing ≡ lookupAt bs p
+unfolding lookupAt
 none bs p e = rw e
 
-some : (bs : List Block) (p : ℕ) {b : Block} → (p ≡ 0 → ⊥) → b ≡ getD bs (p - 1) genesis → found b ≡ foundAt bs p
-unfolding foundAt
+some : (bs : List Block) (p : ℕ) {b : Block} → (p ≡ 0 → ⊥) → b ≡ getD bs (p - 1) genesis → found b ≡ lookupAt bs p
+unfolding lookupAt
 some bs zero f e = absurd (f refl)
 some bs (suc p) f e = let z : suc p - 1 ≡ p = omega arith in ap found (e ∙ rw z)
 

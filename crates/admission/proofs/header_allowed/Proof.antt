@@ -11,7 +11,7 @@ use lib.ListN.{length, take, drop}
 use lib.Seq.{take-all}
 use Rattle.protocol.specs.Entry.{Block}
 use Rattle.protocol.specs.Words.{value}
-use Rattle.protocol.specs.Lists.{any}
+use Rattle.protocol.specs.Lists.{anyPass}
 use Rattle.protocol.specs.Chain.{genesis}
 use Rattle.protocol.specs.Packet.{packetOf, isProposal}
 use Rattle.protocol.specs.Calls.Receive.{headerAllowed}
@@ -28,7 +28,7 @@ isHeader h b = eqb (b .number) (value (h .number)) && eqb (b .slot) (h .slot)
 abbrev Inv-loop : tie.InvT-loop
 Inv-loop bytes h count i₀ i =
     (count ≤ length (packetOf bytes .blocks))
-    × (headerAllowed (packetOf bytes) ≡ any (isHeader h) (drop i (take count (packetOf bytes .blocks))))
+    × (headerAllowed (packetOf bytes) ≡ anyPass (isHeader h) (drop i (take count (packetOf bytes .blocks))))
 
 abbrev μ-loop : tie.MeasureT-loop
 μ-loop bytes h count i₀ i = count - i
@@ -37,7 +37,7 @@ returns : tie.Need-returns Inv-loop μ-loop
 unfolding headerAllowed
 returns c = rw (← header-kind _ (c .before .before .header-of .ensures), sym (c .before .is-proposal .ensures) ∙ not-true _ (c .if1 .taken))
 
-begin : (bs : List ℕ) (h : Header) → h ≡ headerOf bs → isProposal (h .kind) ≡ true → headerAllowed (packetOf bs) ≡ any (isHeader h) (take (h .blocks) (packetOf bs .blocks))
+begin : (bs : List ℕ) (h : Header) → h ≡ headerOf bs → isProposal (h .kind) ≡ true → headerAllowed (packetOf bs) ≡ anyPass (isHeader h) (take (h .blocks) (packetOf bs .blocks))
 unfolding headerAllowed
 begin bs h e k =
     let l : length (packetOf bs .blocks) ≤ h .blocks = omega (arith, header-blocks _ e) in

@@ -17,7 +17,7 @@ use Rattle.index.specs.Firsts.{voteNew}
 use Rattle.index.proofs.Known.{known-next}
 use Rattle.index.proofs.Firsts.{first-most}
 use Rattle.admission.specs.Seen.{VotesSeen}
-use Rattle.admission.proofs.Places.{vote-new}
+use Rattle.admission.proofs.Links.{vote-new}
 use Rattle.admission.proofs.Seen.{votes-next}
 use Rattle.admission.proofs.is_new_vote.Statement.{statement}
 use Rattle.admission.proofs.is_new_vote.Tie as tie
@@ -43,14 +43,14 @@ note-first-requires c κs =
     let j = c .before .before .before in
     omega (arith, first-most _ (j .join-vote .ensures .0), start (j .before .before) .pre .4)
 
--- whether vote i is new, by the place that it was found at
+-- whether vote i is new, by the link that was found
 told : (j : tie.After-join-vote) → let a = start (j .before .before) .args in eqb (j .join-vote .result) 0 ≡ voteNew (now (a .votes)) (a .used) (now (a .bytes)) (a .i)
 told j = let s = start (j .before .before) in vote-new _ _ _ (s .args .i) (omega (arith, s .pre .2)) _ (j .join-vote .ensures .0)
 
 abbrev joined : tie.After-note-first → tie.After-join-vote
 joined f = f .before .before .before .before
 
--- the set with its first place
+-- the set with its first row
 noted : (f : tie.After-note-first) → let a = start (joined f .before .before) .args in
     VotesSeen (now (a .votes)) (a .used) (now (a .bytes)) (a .i + 1) (f .note-first .last .0)
 noted f =

@@ -2,7 +2,7 @@
 use borrow.Author.Needs.{needs}
 use mathlib.Core.Path.{_∙_, ap}
 use Rattle.protocol.proofs.Lent.Calls.{ask-lent}
-use Rattle.answers.specs.Answers.{mapReply}
+use Rattle.answers.specs.Answers.{mapAnswer}
 use Rattle.protocol.specs.Filters.{chosen}
 use Rattle.asking.specs.Ask.{askAll, gather}
 use Rattle.asking.proofs.queried.Statement.{statement}
@@ -12,8 +12,8 @@ returns : tie.Need-returns
 unfolding askAll
 returns c =
     let S = c .before .before .before .before .before .before .pre in
-    let h = c .before .before .before .head .ensures ∙ ap (mapReply chosen) (ask-lent _ _ _ S) in
-    let d = c .before .before .deep .ensures ∙ ap (mapReply chosen) (ask-lent _ _ _ S) in
+    let h = c .before .before .before .head .ensures ∙ ap (mapAnswer chosen) (ask-lent _ _ _ S) in
+    let d = c .before .before .deep .ensures ∙ ap (mapAnswer chosen) (ask-lent _ _ _ S) in
     let f = c .before .fast .ensures ∙ ask-lent _ _ _ S in
     c .gathered .ensures _ _ h d ∙ ap (gather _ _) f
 

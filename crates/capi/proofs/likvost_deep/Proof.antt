@@ -7,7 +7,7 @@ use Rattle.capi.proofs.likvost_deep.Tie as tie
 returns : tie.Need-returns
 returns c =
     let k = c .before .before in
-    deep _ _ _ _ _ (c .before .deep .result) (k .before .settings-in .ensures) (k .clock-in .ensures) (c .before .deep .ensures) (c .found-of .ensures)
+    deep _ _ _ _ _ (c .before .deep .result) (k .before .node-settings .ensures) (k .node-clock .ensures) (c .before .deep .ensures) (c .found-struct .ensures)
 
 pub likvost-deep-spec : {M : Type 1} → statement M
 likvost-deep-spec =

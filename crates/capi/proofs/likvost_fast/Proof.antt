@@ -7,7 +7,7 @@ use Rattle.capi.proofs.likvost_fast.Tie as tie
 returns : tie.Need-returns
 returns c =
     let k = c .before .before in
-    fast _ _ _ _ _ (c .before .fast .result) (k .before .settings-in .ensures) (k .clock-in .ensures) (c .before .fast .ensures) (c .found-of .ensures)
+    fast _ _ _ _ _ (c .before .fast .result) (k .before .node-settings .ensures) (k .node-clock .ensures) (c .before .fast .ensures) (c .found-struct .ensures)
 
 pub likvost-fast-spec : {M : Type 1} → statement M
 likvost-fast-spec =

@@ -7,7 +7,7 @@ use Rattle.capi.proofs.likvost_head.Tie as tie
 returns : tie.Need-returns
 returns c =
     let k = c .before .before in
-    head _ _ _ _ _ (c .before .head .result) (k .before .settings-in .ensures) (k .clock-in .ensures) (c .before .head .ensures) (c .found-of .ensures)
+    head _ _ _ _ _ (c .before .head .result) (k .before .node-settings .ensures) (k .node-clock .ensures) (c .before .head .ensures) (c .found-struct .ensures)
 
 pub likvost-head-spec : {M : Type 1} → statement M
 likvost-head-spec =

@@ -10,7 +10,7 @@ returns c =
     let n = o .before .before .before .before .before .before in
     let i = n .before in
     let k = i .before .before .before .before .before in
-    proposes _ _ _ _ _ _ (k .before .settings-in .ensures) (k .clock-in .ensures) (rw (i .number-in .ensures) at (n .propose .ensures)) (o .clock-out .ensures) (c .answer-of .ensures)
+    proposes _ _ _ _ _ _ (k .before .node-settings .ensures) (k .node-clock .ensures) (rw (i .node-number .ensures) at (n .propose .ensures)) (o .exported-clock .ensures) (c .answer-struct .ensures)
 
 pub likvost-propose-spec : {M : Type 1} → statement M
 likvost-propose-spec {M} =

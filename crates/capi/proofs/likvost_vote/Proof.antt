@@ -9,7 +9,7 @@ returns c =
     let o = c .before in
     let n = o .before .before .before .before .before .before in
     let k = n .before .before .before .before .before in
-    votes _ _ _ _ _ (k .before .settings-in .ensures) (k .clock-in .ensures) (n .vote .ensures) (o .clock-out .ensures) (c .answer-of .ensures)
+    votes _ _ _ _ _ (k .before .node-settings .ensures) (k .node-clock .ensures) (n .vote .ensures) (o .exported-clock .ensures) (c .answer-struct .ensures)
 
 pub likvost-vote-spec : {M : Type 1} → statement M
 likvost-vote-spec {M} =

@@ -9,7 +9,7 @@ returns c =
     let n = c .before .before .before in
     let w = n .before .before in
     let k = w .before in
-    writes _ _ _ _ (k .before .settings-in .ensures) (k .clock-in .ensures) (rw (w .width-in .ensures) at (n .write .ensures)) (c .written-of .ensures)
+    writes _ _ _ _ (k .before .node-settings .ensures) (k .node-clock .ensures) (rw (w .node-width .ensures) at (n .write .ensures)) (c .written-struct .ensures)
 
 pub likvost-write-spec : {M : Type 1} → statement M
 likvost-write-spec =

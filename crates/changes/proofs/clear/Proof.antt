@@ -6,7 +6,7 @@ use mathlib.Core.Path.{ap, _∙_}
 use denote.Ref.{now}
 use lib.ListN.{length}
 use Rattle.protocol.specs.Chain.{genesis}
-use Rattle.protocol.specs.Store.{visible}
+use Rattle.protocol.specs.Store.{inView}
 use Rattle.protocol.specs.Lent.{blockWords, blockRow}
 use Rattle.rows.specs.Rows.{putRow}
 use Rattle.changes.proofs.Zeros.{fill-whole, put-first}
@@ -21,7 +21,7 @@ returns c =
     let b = v .before .before .before .before in
     let a = b .before .before .before .before .args in (
       (rw (z .zero3 .ensures) at (p .put-block .ensures))
-          ∙ ap (λ (w : List ℕ). putRow blockWords w 0 (blockRow (visible genesis))) (b .zero .ensures ∙ fill-whole 0 (now (a .blocks)))
+          ∙ ap (λ (w : List ℕ). putRow blockWords w 0 (blockRow (inView genesis))) (b .zero .ensures ∙ fill-whole 0 (now (a .blocks)))
           ∙ put-first (length (now (a .blocks))),
       v .zero2 .ensures ∙ fill-whole 0 (now (a .votes)),
     )

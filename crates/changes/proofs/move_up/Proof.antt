@@ -7,7 +7,7 @@ use mathlib.Core.Logic.{⊎-elim}
 use denote.Ref.{now}
 use lib.ListN.{length}
 use Rattle.protocol.specs.Words.{voteOf}
-use Rattle.protocol.specs.Store.{showAll}
+use Rattle.protocol.specs.Store.{viewAll}
 use Rattle.protocol.specs.Lent.{stored, voteRow}
 use Rattle.protocol.proofs.Store.Since.{since-holds, since-fails}
 use Rattle.changes.proofs.MoveUp.{keptTo, movedTo, move-begin, kept-most, move-turn, move-skip, move-end}
@@ -72,7 +72,7 @@ returns c =
     let l = c .before in
     let s = l .before .before in
     let e = move-end (now (s .args .votes)) (s .args .used) (s .args .from) (l .loop .i) (c .loop-test .left) in
-    (l .loop .inv .2 ∙ ap (λ m. stored voteRow (showAll m) (now (s .args .votes))) e, l .loop .inv .3 ∙ ap length e)
+    (l .loop .inv .2 ∙ ap (λ m. stored voteRow (viewAll m) (now (s .args .votes))) e, l .loop .inv .3 ∙ ap length e)
 
 pub move-up-spec : {M : Type 1} → statement M
 move-up-spec {M} =

@@ -2,8 +2,8 @@
 use native.Mathlib.Omega.{arith}
 use mathlib.Core.Bool.{false}
 use mathlib.Core.Path.{refl, _∙_}
-use Rattle.subtrees.specs.Places.{blockAt}
-use Rattle.choice.proofs.Held.{held}
+use Rattle.subtree_voters.specs.BlockRows.{blockAt}
+use Rattle.fork_choice.proofs.Held.{held}
 use Rattle.confirm.proofs.Descent.{Down, down-end, down-on}
 use Rattle.confirm.proofs.climb_down.Statement.{statement}
 use Rattle.confirm.proofs.climb_down.Tie as tie
@@ -19,7 +19,7 @@ abbrev μ-loop : tie.MeasureT-loop
 loop-holds : tie.Need-loop-holds Inv-loop μ-loop
 loop-holds c =
     let s = c .before .before in
-    record { inside = s .pre .4; shown = s .pre .5; is = refl }
+    record { inside = s .pre .4; viewed = s .pre .5; is = refl }
 
 block-at-requires : tie.Need-block-at-requires Inv-loop μ-loop
 block-at-requires c κs =

@@ -6,7 +6,7 @@ use mathlib.Core.Bool.{false}
 use mathlib.Core.Path.{refl}
 use lib.ListN.{length-replicate}
 use Rattle.protocol.specs.Limits.{loom}
-use Rattle.choice.proofs.Tables.{few, blocks-held, blocks-sound, leaf-in}
+use Rattle.fork_choice.proofs.Tables.{few, blocks-held, blocks-sound, leaf-in}
 use Rattle.confirm.proofs.Descent.{deep-number}
 use Rattle.confirm.proofs.deep.Statement.{statement}
 use Rattle.confirm.proofs.deep.Tie as tie

@@ -6,7 +6,7 @@ use mathlib.Core.Bool.{false}
 use mathlib.Core.Path.{refl, _∙_}
 use lib.ListN.{length-replicate}
 use Rattle.protocol.specs.Limits.{loom}
-use Rattle.choice.proofs.Tables.{few, blocks-held, vote-real, words-weigh}
+use Rattle.fork_choice.proofs.Tables.{few, blocks-held, vote-real, words-weigh}
 use Rattle.confirm.proofs.Candidates.{fast-is, fast-view}
 use Rattle.confirm.proofs.fast.Statement.{statement}
 use Rattle.confirm.proofs.fast.Tie as tie

@@ -3,7 +3,7 @@ use borrow.Author.Needs.{needs}
 use native.Mathlib.Omega.{arith}
 use mathlib.Core.Path.{_≡_}
 use denote.Ref.{now}
-use Rattle.search_tree.specs.Tree.{Placed}
+use Rattle.search_tree.specs.Tree.{Points}
 use Rattle.search_tree.proofs.Tree.{index-old, index-new, free-within}
 use Rattle.index.specs.Index.{keyAt}
 use Rattle.index.proofs.Keys.{readable-less}
@@ -19,13 +19,13 @@ descend-requires c κs =
     let a = s .args in
     (readable-less (a .kind) (now (a .words)) (a .used) (now (a .bytes)) _ (a .n) (omega arith) (s .pre .0), s .pre .2)
 
--- the key looked for is the one at place n
+-- the key looked for is the one at row n
 row : (d : tie.After-descend) → let a = start d .args in a .key ≡ keyAt (a .kind) (now (a .words)) (a .used) (now (a .bytes)) (a .n)
 row d = start d .pre .3
 
 told : (d : tie.After-descend) → let a = start d .args in let key = keyAt (a .kind) (now (a .words)) (a .used) (now (a .bytes)) in
-    Placed key (a .n) (key (a .n)) (d .descend .result .place)
-told d = rw (row d) at (d .descend .ensures .placed)
+    Points key (a .n) (key (a .n)) (d .descend .result .link)
+told d = rw (row d) at (d .descend .ensures .linked)
 
 put-link-requires : tie.Need-put-link-requires
 put-link-requires c κs =

@@ -10,7 +10,7 @@ use Rattle.search_tree.specs.Lists.{distinct}
 use Rattle.search_tree.proofs.Tree.{index-free}
 use Rattle.index.specs.Index.{keyAt, IndexOf, listed, keysDiffer}
 use Rattle.index.proofs.Keys.{readable-less}
-use Rattle.index.proofs.Places.{keys-new, keys-old}
+use Rattle.index.proofs.Links.{keys-new, keys-old}
 use Rattle.index.proofs.build.Statement.{statement}
 use Rattle.index.proofs.build.Tie as tie
 

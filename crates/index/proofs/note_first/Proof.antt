@@ -4,14 +4,14 @@ use native.Mathlib.Omega.{arith}
 use Prim.Native.Nat.{ℕ, zero, suc, _-_}
 use mathlib.Core.Path.{_≡_, refl, ap, _∙_}
 use Rattle.bitset.specs.Bitset.{inserted}
-use Rattle.index.specs.Firsts.{firstPlace}
+use Rattle.index.specs.Firsts.{firstRow}
 use Rattle.index.proofs.note_first.Statement.{statement}
 use Rattle.index.proofs.note_first.Tie as tie
 
-own : (n place : ℕ) → place ≡ 0 → n ≡ firstPlace n place
-own n place e = rw e
+own : (n link : ℕ) → link ≡ 0 → n ≡ firstRow n link
+own n link e = rw e
 
-earlier : (n place : ℕ) → (place ≡ 0 → ⊥) → place - 1 ≡ firstPlace n place
+earlier : (n link : ℕ) → (link ≡ 0 → ⊥) → link - 1 ≡ firstRow n link
 earlier n zero f = absurd (f refl)
 earlier n (suc p) f = omega arith
 
@@ -30,8 +30,8 @@ note-first-spec =
     tie.close
     (tie.spec
     (λ c. search needs)
-    (λ c κs. let i = c .before in let s = i .before .before in omega (arith, s .pre, earlier (s .args .n) (s .args .place) (i .if1 .taken)))
-    (λ c κs. let i = c .before in let s = i .before .before in omega (arith, s .pre, own (s .args .n) (s .args .place) (i .if1 .left)))
+    (λ c κs. let i = c .before in let s = i .before .before in omega (arith, s .pre, earlier (s .args .n) (s .args .link) (i .if1 .taken)))
+    (λ c κs. let i = c .before in let s = i .before .before in omega (arith, s .pre, own (s .args .n) (s .args .link) (i .if1 .left)))
     (λ c. search needs)
     returns
     (λ c. search needs)

@@ -6,7 +6,7 @@ use Prim.Native.Nat.{ℕ, _+_, _-_, _≤_, _<_}
 use mathlib.Core.Path.{_≡_, ap, sym, _∙_}
 use denote.Ref.{now}
 use Rattle.protocol.proofs.Basics.Tests.{clashing}
-use Rattle.search_tree.specs.Tree.{First, Placed}
+use Rattle.search_tree.specs.Tree.{First, Points}
 use Rattle.index.specs.declared.Key.{Key}
 use Rattle.index.specs.Keys.{sameKey}
 use Rattle.index.specs.Index.{keyAt}
@@ -14,7 +14,7 @@ use Rattle.index.proofs.Keys.{key-same, same-key, readable-less}
 use Rattle.index.proofs.search.Statement.{statement}
 use Rattle.index.proofs.search.Tie as tie
 
--- none of the first j places has the key
+-- none of the first j rows has the key
 abbrev Unmet : (ℕ → Key) → ℕ → Key → Type 0
 Unmet key j k = (m : ℕ) → m < j → key m ≡ k → ⊥
 
@@ -25,7 +25,7 @@ further key j k u f m h e = go (decLt m j)
     go (yes l) = u m l e
     go (no l) = let z : j ≡ m = omega arith in f (ap key z ∙ e)
 
-met : (key : ℕ → Key) (n j : ℕ) (k : Key) → j < n → Unmet key j k → key j ≡ k → Placed key n k (j + 1)
+met : (key : ℕ → Key) (n j : ℕ) (k : Key) → j < n → Unmet key j k → key j ≡ k → Points key n k (j + 1)
 met key n j k h u e =
     record {
       hit = λ p q. let z : j ≡ p = omega arith in rw z at first;

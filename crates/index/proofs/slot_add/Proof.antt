@@ -5,8 +5,8 @@ use Prim.Native.Nat.{ℕ, _+_}
 use mathlib.Core.Bool.{Bool}
 use mathlib.Core.List.{List}
 use mathlib.Core.Path.{_≡_}
-use Rattle.search_tree.specs.Tree.{Placed}
-use Rattle.index.specs.Places.{SlotIndex, slotKey}
+use Rattle.search_tree.specs.Tree.{Points}
+use Rattle.index.specs.Links.{SlotIndex, slotKey}
 use Rattle.index.proofs.slot_add.Statement.{statement}
 use Rattle.index.proofs.slot_add.Tie as tie
 
@@ -14,9 +14,9 @@ use Rattle.index.proofs.slot_add.Tie as tie
 told : {whole b : Bool} → whole ≡ b → (ws : List ℕ) (n : ℕ) (ls : List ℕ) → SlotIndex whole ws n ls → SlotIndex b ws n ls
 told e ws n ls x = rw e at x
 
-answer : {whole b : Bool} → whole ≡ b → (ws : List ℕ) (n place : ℕ) (ls : List ℕ) → Placed (slotKey b ws) n (slotKey b ws n) place × SlotIndex b ws (n + 1) ls
-    → Placed (slotKey whole ws) n (slotKey whole ws n) place × SlotIndex whole ws (n + 1) ls
-answer e ws n place ls x = rw e x
+answer : {whole b : Bool} → whole ≡ b → (ws : List ℕ) (n link : ℕ) (ls : List ℕ) → Points (slotKey b ws) n (slotKey b ws n) link × SlotIndex b ws (n + 1) ls
+    → Points (slotKey whole ws) n (slotKey whole ws n) link × SlotIndex whole ws (n + 1) ls
+answer e ws n link ls x = rw e x
 
 add-requires : tie.Need-add-requires
 add-requires c κs =

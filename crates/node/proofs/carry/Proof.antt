@@ -57,8 +57,8 @@ use Rattle.protocol.proofs.Settings as S·Settings
 use Rattle.protocol.proofs.Settings.Laws as S·Settings′
 use Rattle.answers.proofs.Call as S·Call
 use Rattle.answers.proofs.Call.Laws as S·Call′
-use Rattle.answers.proofs.Reply as S·Reply
-use Rattle.answers.proofs.Reply.Laws as S·Reply′
+use Rattle.answers.proofs.Answer as S·Answer
+use Rattle.answers.proofs.Answer.Laws as S·Answer′
 use Rattle.node.proofs.carried as core
 use Rattle.node.proofs.carried.Symbol as core-def
 use Rattle.node.proofs.carried.Symbol.{name as #core}
@@ -83,8 +83,8 @@ kvals = LL.vals K.the-type K′.the-laws
 clock-is : (r : Moved) (v : Val) → Is R.the-row r (v ∷ []) → Is K.the-row (r .clock) (kvals (r .clock))
 clock-is r v is = LL.owed R.the-type R′.the-laws r (v ∷ []) is .1 .0
 
-reply-is : (r : Moved) (v : Val) → Is R.the-row r (v ∷ []) → Is S·Reply.the-row (r .reply) (EL.vals S·Reply.the-type S·Reply′.the-laws (r .reply))
-reply-is r v is = LL.owed R.the-type R′.the-laws r (v ∷ []) is .0
+answer-is : (r : Moved) (v : Val) → Is R.the-row r (v ∷ []) → Is S·Answer.the-row (r .answer) (EL.vals S·Answer.the-type S·Answer′.the-laws (r .answer))
+answer-is r v is = LL.owed R.the-type R′.the-laws r (v ∷ []) is .0
 
 module _ {M : Type 1} (𝓤 : URA M) (H : Heap 𝓤) (A : Atoms 𝓤) (W : Given 𝓤 H A) (at-mem : Memory → SProp 𝓤) (run : Routine → Fun 𝓤) (κ0 κ1 κ2 κ3 κ4 κ5 : Lft) (q0 q1 q2 q3 q4 q5 : Share) (bounds : AllOutlive 6 (carry.signature .outlives) (κ0, (κ1, (κ2, (κ3, (κ4, (κ5, tt))))))) (x1 : Settings) (b2 o2 : ℕ) (γ2 : GName) (x2 : Clock) (b3 o3 : ℕ) (γ3 : GName) (x3 : List ℕ) (b4 o4 : ℕ) (γ4 : GName) (x4 : ℕ) (b5 o5 : ℕ) (γ5 : GName) (x5 : List ℕ) (b6 o6 : ℕ) (γ6 : GName) (x6 : ℕ) (x7 : Call) (x8 : ℕ) (b9 o9 : ℕ) (γ9 : GName) (x9 : List ℕ) (f1 : Is S·Settings.the-row x1 (LL.vals S·Settings.the-type S·Settings′.the-laws x1)) (f3 : Is (MutSlice (named 1) κ1 u64) (record { ptr = (b3, o3); name = γ3; now = x3 }) (slice-vals {X = ℕ} (record { ptr = (b3, o3); name = γ3; now = x3 }))) (f5 : Is (MutSlice (named 3) κ3 u64) (record { ptr = (b5, o5); name = γ5; now = x5 }) (slice-vals {X = ℕ} (record { ptr = (b5, o5); name = γ5; now = x5 }))) (f7 : Is S·Call.the-row x7 (EL.vals S·Call.the-type S·Call′.the-laws x7)) (f8 : x8 < 2 ^ 64) (f9 : Is (ShrSlice (named 5) κ5 u8) (record { ptr = (b9, o9); name = γ9; now = x9 }) (slice-vals {X = ℕ} (record { ptr = (b9, o9); name = γ9; now = x9 }))) where
   abbrev r2 : RefT Clock
@@ -134,18 +134,18 @@ module _ {M : Type 1} (𝓤 : URA M) (H : Heap 𝓤) (A : Atoms 𝓤) (W : Given
   to-core = ((ks, (q1, (q2, (q3, (q4, (q5, tt))))), tt, xs, ats), tt)
 
   abbrev Claim : Moved → List ℕ → ℕ → List ℕ → ℕ → Type 0
-  Claim r z3 z4 z5 z6 = Carries x1 (lent x3 x5 x4 x6 x2) x7 x8 x9 (lent z3 z5 z4 z6 (r .clock)) (r .reply)
+  Claim r z3 z4 z5 z6 = Carries x1 (lent x3 x5 x4 x6 x2) x7 x8 x9 (lent z3 z5 z4 z6 (r .clock)) (r .answer)
 
   goes-core : ent 𝓤 (⋆ 𝓤 H A ((‵ (flft κ1 q1) ⊛ ‵ (flft κ2 q2) ⊛ ‵ (flft κ3 q3) ⊛ ‵ (flft κ4 q4) ⊛ ‵ (flft κ5 q5) ⊛ ‵ ftrue) ∷ ‵ (owns (S·Settings.the-row ∷ K.the-row ∷ MutSlice (named 0) κ1 u64 ∷ MutRef (named 1) κ2 usize ∷ MutSlice (named 2) κ3 u64 ∷ MutRef (named 3) κ4 usize ∷ S·Call.the-row ∷ u64 ∷ ShrSlice (named 4) κ5 u8 ∷ []) xs ats) ∷ [])) (Core 𝓤 H A at-mem run .pre to-core)
   goes-core = qed W ((‵ (flft κ1 q1) ⊛ ‵ (flft κ2 q2) ⊛ ‵ (flft κ3 q3) ⊛ ‵ (flft κ4 q4) ⊛ ‵ (flft κ5 q5) ⊛ ‵ ftrue) ∷ ‵ (owns (S·Settings.the-row ∷ K.the-row ∷ MutSlice (named 0) κ1 u64 ∷ MutRef (named 1) κ2 usize ∷ MutSlice (named 2) κ3 u64 ∷ MutRef (named 3) κ4 usize ∷ S·Call.the-row ∷ u64 ∷ ShrSlice (named 4) κ5 u8 ∷ []) xs ats) ∷ []) ∵ join ! $ frame ! $ done !
 
-  exits : (r : Moved) (u : Val) (z3 : List ℕ) (z4 : ℕ) (z5 : List ℕ) (z6 : ℕ) → length z3 ≡ length x3 → length z5 ≡ length x5 → Claim r z3 z4 z5 z6 → Is S·Reply.the-row (r .reply) (u ∷ []) → ent 𝓤 (⋆ 𝓤 H A (‵ (fobs γ2 (K.the-row .coded .code (r .clock))) ∷ ‵ (fbor κ0 (Body (mem K.the-row) b2 o2 γ2)) ∷ ‵ (flft κ0 q0) ∷ (‵ (flft κ1 q1) ⊛ ‵ (flft κ2 q2) ⊛ ‵ (flft κ3 q3) ⊛ ‵ (flft κ4 q4) ⊛ ‵ (flft κ5 q5) ⊛ ‵ ftrue) ∷ ‵ (finally u64 γ3 z3) ∷ ‵ (fres γ4 (usize .coded .code z4)) ∷ ‵ (finally u64 γ5 z5) ∷ ‵ (fres γ6 (usize .coded .code z6)) ∷ ‵ (ShrSlice (named 5) κ5 u8 .own r9 (sliceVal (b9, o9) (length x9) ∷ [])) ∷ [])) (Post u)
+  exits : (r : Moved) (u : Val) (z3 : List ℕ) (z4 : ℕ) (z5 : List ℕ) (z6 : ℕ) → length z3 ≡ length x3 → length z5 ≡ length x5 → Claim r z3 z4 z5 z6 → Is S·Answer.the-row (r .answer) (u ∷ []) → ent 𝓤 (⋆ 𝓤 H A (‵ (fobs γ2 (K.the-row .coded .code (r .clock))) ∷ ‵ (fbor κ0 (Body (mem K.the-row) b2 o2 γ2)) ∷ ‵ (flft κ0 q0) ∷ (‵ (flft κ1 q1) ⊛ ‵ (flft κ2 q2) ⊛ ‵ (flft κ3 q3) ⊛ ‵ (flft κ4 q4) ⊛ ‵ (flft κ5 q5) ⊛ ‵ ftrue) ∷ ‵ (finally u64 γ3 z3) ∷ ‵ (fres γ4 (usize .coded .code z4)) ∷ ‵ (finally u64 γ5 z5) ∷ ‵ (fres γ6 (usize .coded .code z6)) ∷ ‵ (ShrSlice (named 5) κ5 u8 .own r9 (sliceVal (b9, o9) (length x9) ∷ [])) ∷ [])) (Post u)
   exits r u z3 z4 z5 z6 e3 e5 e is =
       qed W (‵ (fobs γ2 (K.the-row .coded .code (r .clock))) ∷ ‵ (fbor κ0 (Body (mem K.the-row) b2 o2 γ2)) ∷ ‵ (flft κ0 q0) ∷ (‵ (flft κ1 q1) ⊛ ‵ (flft κ2 q2) ⊛ ‵ (flft κ3 q3) ⊛ ‵ (flft κ4 q4) ⊛ ‵ (flft κ5 q5) ⊛ ‵ ftrue) ∷ ‵ (finally u64 γ3 z3) ∷ ‵ (fres γ4 (usize .coded .code z4)) ∷ ‵ (finally u64 γ5 z5) ∷ ‵ (fres γ6 (usize .coded .code z6)) ∷ ‵ (ShrSlice (named 5) κ5 u8 .own r9 (sliceVal (b9, o9) (length x9) ∷ [])) ∷ []) ∵
-      suffices ! _ (ends-at 𝓤 H A carry.ended stayed (carry.clauses 𝓤 H A at-mem run) W (((κ0, (κ1, (κ2, (κ3, (κ4, (κ5, tt)))))), (q0, (q1, (q2, (q3, (q4, (q5, tt)))))), bounds, x, at), tt) u (r .reply) (tt, (r .clock, (z3, (z4, (z5, (z6, (tt, (tt, (tt, tt))))))))) (tt, (tt, (e3, (tt, (e5, (tt, (tt, (tt, (tt, tt)))))))))) $ says ! (e) $
+      suffices ! _ (ends-at 𝓤 H A carry.ended stayed (carry.clauses 𝓤 H A at-mem run) W (((κ0, (κ1, (κ2, (κ3, (κ4, (κ5, tt)))))), (q0, (q1, (q2, (q3, (q4, (q5, tt)))))), bounds, x, at), tt) u (r .answer) (tt, (r .clock, (z3, (z4, (z5, (z6, (tt, (tt, (tt, tt))))))))) (tt, (tt, (e3, (tt, (e5, (tt, (tt, (tt, (tt, tt)))))))))) $ says ! (e) $
       move ! (3 ∷ []) $ split ! $ move ! (1 ∷ []) $ split ! $ move ! (1 ∷ []) $ split ! $ move ! (1 ∷ []) $ split ! $ move ! (1 ∷ []) $ split ! $ move ! (1 ∷ []) $ move ! (1 ∷ 0 ∷ []) $ join ! $ move ! (1 ∷ 0 ∷ []) $ join ! $ move ! (1 ∷ 0 ∷ []) $ join ! $ move ! (1 ∷ 0 ∷ []) $ join ! $ move ! (1 ∷ 0 ∷ []) $ join ! $ move ! (3 ∷ 0 ∷ []) $ join ! $ frame ! $
       nothing ! $ move ! (7 ∷ 0 ∷ []) $ fjoin ! $ owned ! u64 (Is u64) (uint-makes 𝓤 H A W w64) x8 _ (refl, f8) $ fjoin ! $ owned ! S·Call.the-row (Is S·Call.the-row) (EL.makes S·Call.the-type S·Call′.the-plain 𝓤 H A) x7 m7 f7 $ fjoin ! $ move ! (6 ∷ 0 ∷ []) $ fjoin ! $ move ! (5 ∷ 0 ∷ []) $ fjoin ! $ move ! (4 ∷ 0 ∷ []) $ fjoin ! $ move ! (3 ∷ 0 ∷ []) $ fjoin ! $ move ! (1 ∷ 2 ∷ []) $ feqI ! (List Val) (vptr b2 o2 ∷ []) (vptr b2 o2 ∷ []) refl $ fjoin3 ! $ fjoin ! $ owned ! S·Settings.the-row (Is S·Settings.the-row) (LL.makes S·Settings.the-type S·Settings′.the-plain 𝓤 H A) x1 m1 f1 $ fjoin ! $ frame ! $
-      owned ! S·Reply.the-row (Is S·Reply.the-row) (EL.makes S·Reply.the-type S·Reply′.the-plain 𝓤 H A) (r .reply) (u ∷ []) is $ done !
+      owned ! S·Answer.the-row (Is S·Answer.the-row) (EL.makes S·Answer.the-type S·Answer′.the-plain 𝓤 H A) (r .answer) (u ∷ []) is $ done !
 
   module _ (C : Calls 𝓤 H) (Λ : Loops 𝓤 H) (fm : FmC 𝓤 H (W .laws) C) (known : Triple 𝓤 (C #core) (Core 𝓤 H A at-mem run)) where
     walk : ent 𝓤 (onEntry 𝓤 H A carry.signature (κ0, (κ1, (κ2, (κ3, (κ4, (κ5, tt)))))) (q0, (q1, (q2, (q3, (q4, (q5, tt)))))) x at) (WpFn 𝓤 H C Λ code.function (only m1 ∷ (vptr b2 o2) ∷ (sliceVal (b3, o3) (length x3)) ∷ (vptr b4 o4) ∷ (sliceVal (b5, o5) (length x5)) ∷ (vptr b6 o6) ∷ only m7 ∷ (vint w64 x8) ∷ (sliceVal (b9, o9) (length x9)) ∷ []) Post)
@@ -176,11 +176,11 @@ module _ {M : Type 1} (𝓤 : URA M) (H : Heap 𝓤) (A : Atoms 𝓤) (W : Given
         land ! (from ! (stop !)) (init ! 28 refl (LL.lawful R.the-type R′.the-laws 𝓤 H A W .typed r _ is .0)) $ rewrite ! 28 (λ (u : Val). ‵ (fat fullShare R′.mir l10 0 u)) (ap only ((LL.tells R.the-type R′.the-laws) r (v ∷ []) is)) refl $ drop ! $
         -- [toks; last6; last5; last4; last3; kept9; cell; obor; obs; auth; own8; own7; own1; p6; s5; p5; p4; s3; p3; k; m; _9; _8; _7; _6; _5; _4; _3; _2; _1; _0]
         assigns ! (of-opd ! (load ! (from ! (fld ! refl (stop !))) (look-in ! 27 (sub ! 1 refl (whole !))))) (from ! (hop ! (look ! 43 refl) (stop !))) (store-raw ! 6 refl (LL.lawful K.the-type K′.the-laws 𝓤 H A W .typed (r .clock) _ (clock-is r v is) .0)) $
-        assigns ! (of-opd ! (load ! (from ! (fld ! refl (stop !))) (look-in ! 27 (sub ! 0 refl (whole !))))) (from ! (stop !)) (init ! 47 refl (EL.lawful S·Reply.the-type S·Reply′.the-laws 𝓤 H A W tt .typed (r .reply) _ (reply-is r v is) .0)) $
+        assigns ! (of-opd ! (load ! (from ! (fld ! refl (stop !))) (look-in ! 27 (sub ! 0 refl (whole !))))) (from ! (stop !)) (init ! 47 refl (EL.lawful S·Answer.the-type S·Answer′.the-laws 𝓤 H A W tt .typed (r .answer) _ (answer-is r v is) .0)) $
         owned ! K.the-row (Is K.the-row) (LL.makes K.the-type K′.the-plain 𝓤 H A) (r .clock) (kvals (r .clock)) (clock-is r v is) $ move ! (7 ∷ 0 ∷ 8 ∷ 9 ∷ 10 ∷ []) $ closes ! tt K.the-row (r .clock) (kvals (r .clock)) b2 o2 $
         returns ! (look ! 46 refl) $ forget ! 12 refl $ forget ! 14 refl $ forget ! 16 refl $ forget ! 18 refl $ forget ! 20 refl $ forget ! 22 refl $ forget ! 24 refl $ forget ! 26 refl $ forget ! 28 refl $ forget ! 30 refl $ forget ! 32 refl $ forget ! 34 refl $ forget ! 36 refl $ forget ! 38 refl $ forget ! 40 refl $ forget ! 42 refl $ forget ! 44 refl $ forget ! 46 refl $
         move ! (46 ∷ 47 ∷ []) $ free1 ! $ move ! (44 ∷ 45 ∷ []) $ free1 ! $ move ! (42 ∷ 43 ∷ []) $ free1 ! $ move ! (40 ∷ 41 ∷ []) $ free1 ! $ move ! (38 ∷ 39 ∷ []) $ free1 ! $ move ! (36 ∷ 37 ∷ []) $ free1 ! $ move ! (34 ∷ 35 ∷ []) $ free1 ! $ move ! (32 ∷ 33 ∷ []) $ free1 ! $ move ! (30 ∷ 31 ∷ []) $ free1 ! $ move ! (28 ∷ 29 ∷ []) $ free1 ! $ move ! (26 ∷ 27 ∷ []) $ free1 ! $ move ! (24 ∷ 25 ∷ []) $ free1 ! $ move ! (22 ∷ 23 ∷ []) $ free1 ! $ move ! (20 ∷ 21 ∷ []) $ free1 ! $ move ! (18 ∷ 19 ∷ []) $ free1 ! $ move ! (16 ∷ 17 ∷ []) $ free1 ! $ move ! (14 ∷ 15 ∷ []) $ free1 ! $ move ! (12 ∷ 13 ∷ []) $ free1 ! $ free0 ! $
-        keep ! (0 ∷ 1 ∷ 2 ∷ 3 ∷ 7 ∷ 6 ∷ 5 ∷ 4 ∷ 8 ∷ []) $ by ! (exits r _ (ws .1 .1 .0) (ws .1 .1 .1 .0) (ws .1 .1 .1 .1 .0) (ws .1 .1 .1 .1 .1 .0) e3 e5 e (reply-is r v is)))))))))))))))))))))))))))))
+        keep ! (0 ∷ 1 ∷ 2 ∷ 3 ∷ 7 ∷ 6 ∷ 5 ∷ 4 ∷ 8 ∷ []) $ by ! (exits r _ (ws .1 .1 .0) (ws .1 .1 .1 .0) (ws .1 .1 .1 .1 .0) (ws .1 .1 .1 .1 .1 .0) e3 e5 e (answer-is r v is)))))))))))))))))))))))))))))
 
 module _ {M : Type 1} (𝓤 : URA M) (H : Heap 𝓤) (A : Atoms 𝓤) (W : Given 𝓤 H A) (mem : Memory → SProp 𝓤) (run : Routine → Fun 𝓤) where
   carry-walks : (C : Calls 𝓤 H) (Λ : Loops 𝓤 H) → FmC 𝓤 H (W .laws) C → Triple 𝓤 (C #core) (Core 𝓤 H A mem run) → Walks 𝓤 H A carry.ended stayed (WpFn 𝓤 H C Λ code.function) (carry.clauses 𝓤 H A mem run)

@@ -5,8 +5,8 @@ use Rattle.node.proofs.Calls.{merge-leaves, merge-stores}
 use Rattle.node.proofs.merge.Statement.{statement}
 use Rattle.node.proofs.merge.Tie as tie
 
-show-all-blocks-requires : tie.Need-show-all-blocks-requires
-show-all-blocks-requires c κs =
+view-all-blocks-requires : tie.Need-view-all-blocks-requires
+view-all-blocks-requires c κs =
     let t = c .before .before in
     passed-ready _ _ _ (t .before .before .merge-verdict .ensures) (t .enum-told .given .1) .memory .block-words
 
@@ -24,11 +24,11 @@ returns-2 c =
     let b = v .before .before .before .before .before in
     let f = b .before .before in
     let t = f .before in
-    merge-stores _ _ _ (t .before .before .merge-verdict .ensures) (t .enum-told .given .1) (f .kept-from .ensures) (b .show-all-blocks .ensures)
+    merge-stores _ _ _ (t .before .before .merge-verdict .ensures) (t .enum-told .given .1) (f .kept-from .ensures) (b .view-all-blocks .ensures)
     (v .merge-votes .ensures .0) (v .merge-votes .ensures .1)
 
 pub merge-spec : {M : Type 1} → statement M
 merge-spec {M} =
     let s₁ = tie.spec {M = M} (λ c κs. search needs) (λ c. search needs) (λ c κs. search needs) (λ c. search needs) (λ c κs. search needs) in
-    let s₂ = s₁ show-all-blocks-requires merge-votes-requires (λ c. search needs) (λ c. search needs) returns (λ c. search needs) in
+    let s₂ = s₁ view-all-blocks-requires merge-votes-requires (λ c. search needs) (λ c. search needs) returns (λ c. search needs) in
     tie.close (s₂ (λ c. search needs) returns-2)

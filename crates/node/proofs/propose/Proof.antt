@@ -3,7 +3,7 @@ use borrow.Author.Needs.{needs}
 use native.Mathlib.Omega.{arith}
 use Rattle.protocol.proofs.Lent.Rows.{block-codec}
 use Rattle.answers.proofs.Verdict.{passed-ready, tables-sound}
-use Rattle.node.proofs.Tables.{shown-marks}
+use Rattle.node.proofs.Tables.{viewed-marks}
 use Rattle.node.proofs.Calls.{propose-leaves, propose-room, propose-stores}
 use Rattle.node.proofs.propose.Statement.{statement}
 use Rattle.node.proofs.propose.Tie as tie
@@ -13,8 +13,8 @@ base-requires c κs =
     let t = c .before .before in
     tables-sound _ _ (passed-ready _ _ _ (t .before .before .propose-verdict .ensures) (t .enum-told .given .1))
 
-show-all-blocks-requires : tie.Need-show-all-blocks-requires
-show-all-blocks-requires c κs =
+view-all-blocks-requires : tie.Need-view-all-blocks-requires
+view-all-blocks-requires c κs =
     let t = c .before .before .before .before in
     passed-ready _ _ _ (t .before .before .propose-verdict .ensures) (t .enum-told .given .1) .memory .block-words
 
@@ -22,12 +22,12 @@ append-block-requires : tie.Need-append-block-requires
 append-block-requires c κs =
     let b = c .before .before .before .before in
     let t = b .before .before .before .before .before in (
-      omega (arith, propose-room _ _ _ _ (t .before .before .propose-verdict .ensures) (t .enum-told .given .1), b .show-all-blocks .kept .0),
-      shown-marks block-codec _ _ (b .show-all-blocks .ensures),
+      omega (arith, propose-room _ _ _ _ (t .before .before .propose-verdict .ensures) (t .enum-told .given .1), b .view-all-blocks .kept .0),
+      viewed-marks block-codec _ _ (b .view-all-blocks .ensures),
     )
 
-show-all-votes-requires : tie.Need-show-all-votes-requires
-show-all-votes-requires c κs =
+view-all-votes-requires : tie.Need-view-all-votes-requires
+view-all-votes-requires c κs =
     let t = c .before .before .before .before .before .before .before .before .before .before .before .before .before in
     passed-ready _ _ _ (t .before .before .propose-verdict .ensures) (t .enum-told .given .1) .memory .vote-words
 
@@ -41,11 +41,11 @@ returns-2 c =
     let b = a .before .before .before .before .before in
     let f = b .before .before in
     let t = f .before .before .before in
-    propose-stores _ _ _ _ (t .before .before .propose-verdict .ensures) (t .enum-told .given .1) (f .base .ensures) (b .show-all-blocks .ensures)
-    (a .append-block .ensures .0) (a .append-block .ensures .1) (v .show-all-votes .ensures)
+    propose-stores _ _ _ _ (t .before .before .propose-verdict .ensures) (t .enum-told .given .1) (f .base .ensures) (b .view-all-blocks .ensures)
+    (a .append-block .ensures .0) (a .append-block .ensures .1) (v .view-all-votes .ensures)
 
 pub propose-spec : {M : Type 1} → statement M
 propose-spec {M} =
-    let s₁ = tie.spec {M = M} (λ c κs. search needs) (λ c. search needs) (λ c κs. search needs) (λ c. search needs) base-requires show-all-blocks-requires in
-    let s₂ = s₁ append-block-requires show-all-votes-requires (λ c. search needs) (λ c. search needs) returns (λ c. search needs) in
+    let s₁ = tie.spec {M = M} (λ c κs. search needs) (λ c. search needs) (λ c κs. search needs) (λ c. search needs) base-requires view-all-blocks-requires in
+    let s₂ = s₁ append-block-requires view-all-votes-requires (λ c. search needs) (λ c. search needs) returns (λ c. search needs) in
     tie.close (s₂ (λ c. search needs) returns-2)

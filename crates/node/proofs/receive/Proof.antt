@@ -47,7 +47,7 @@ returns-2 c =
     let b = f .before .before .before in
     let q = b .before .before .before .before in
     let t = q .before in
-    receive-stores _ _ _ _ (asked t .receive-verdict .ensures .0) (t .enum-told .given .1) (q .brings .ensures) (f .kept-from .ensures)
+    receive-stores _ _ _ _ (asked t .receive-verdict .ensures .0) (t .enum-told .given .1) (q .viewed-at-once .ensures) (f .kept-from .ensures)
     (b .receive-blocks .ensures) (v .receive-votes .ensures) (c .received-clock .ensures)
 
 pub receive-spec : {M : Type 1} → statement M

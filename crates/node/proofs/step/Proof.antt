@@ -51,7 +51,7 @@ use Rattle.protocol.specs.declared.Clock.{Clock}
 use Rattle.answers.specs.declared.Moved.{Moved}
 use Rattle.protocol.specs.declared.Settings.{Settings}
 use Rattle.answers.specs.declared.Call.{Call}
-use Rattle.answers.specs.declared.Reply.{Reply}
+use Rattle.answers.specs.declared.Answer.{Answer}
 use Rattle.protocol.proofs.Clock as K
 use Rattle.protocol.proofs.Clock.Laws as K′
 use Rattle.answers.proofs.Moved as R
@@ -60,8 +60,8 @@ use Rattle.protocol.proofs.Settings as S·Settings
 use Rattle.protocol.proofs.Settings.Laws as S·Settings′
 use Rattle.answers.proofs.Call as S·Call
 use Rattle.answers.proofs.Call.Laws as S·Call′
-use Rattle.answers.proofs.Reply as S·Reply
-use Rattle.answers.proofs.Reply.Laws as S·Reply′
+use Rattle.answers.proofs.Answer as S·Answer
+use Rattle.answers.proofs.Answer.Laws as S·Answer′
 use Rattle.node.proofs.carry as core
 use Rattle.node.proofs.carry.Symbol as core-def
 use Rattle.node.proofs.carry.Symbol.{name as #core}
@@ -83,10 +83,10 @@ abbrev kvals : Clock → List Val
 kvals = LL.vals K.the-type K′.the-laws
 
 -- the result, and what whoever builds it owes
-abbrev made : Reply → Clock → Moved
-made r k = record { reply = r; clock = k }
+abbrev made : Answer → Clock → Moved
+made r k = record { answer = r; clock = k }
 
-made-is : (r : Reply) (k : Clock) → Is S·Reply.the-row r (EL.vals S·Reply.the-type S·Reply′.the-laws r) → Is K.the-row k (kvals k) → Is R.the-row (made r k) (LL.vals R.the-type R′.the-laws (made r k))
+made-is : (r : Answer) (k : Clock) → Is S·Answer.the-row r (EL.vals S·Answer.the-type S·Answer′.the-laws r) → Is K.the-row k (kvals k) → Is R.the-row (made r k) (LL.vals R.the-type R′.the-laws (made r k))
 made-is r k is isk = LL.owes R.the-type R′.the-laws (made r k) (is, (isk, tt))
 
 -- a local clock as what lies in memory, and back
@@ -150,7 +150,7 @@ module _ {M : Type 1} (𝓤 : URA M) (H : Heap 𝓤) (A : Atoms 𝓤) (W : Given
   abbrev to-core : ℕ → GName → ℕ → Core 𝓤 H A at-mem run .Ghost
   to-core ν γ l = ((ks ν, (fullShare, (q0, (q1, (q2, (q3, (q4, tt)))))), tt, xs γ l, ats l), tt)
 
-  abbrev Claim : Reply → Clock → List ℕ → ℕ → List ℕ → ℕ → Type 0
+  abbrev Claim : Answer → Clock → List ℕ → ℕ → List ℕ → ℕ → Type 0
   Claim r z2 z3 z4 z5 z6 = Carries x1 (lent x3 x5 x4 x6 x2) x7 x8 x9 (lent z3 z5 z4 z6 z2) r
 
   goes-core : (ν : ℕ) (γ : GName) (l : ℕ) → ent 𝓤 (⋆ 𝓤 H A ((‵ (flft (ν ∷ []) fullShare) ⊛ ‵ (flft κ0 q0) ⊛ ‵ (flft κ1 q1) ⊛ ‵ (flft κ2 q2) ⊛ ‵ (flft κ3 q3) ⊛ ‵ (flft κ4 q4) ⊛ ‵ ftrue) ∷ ‵ (owns (S·Settings.the-row ∷ MutRef (named 0) (ν ∷ []) K.the-row ∷ MutSlice (named 1) κ0 u64 ∷ MutRef (named 2) κ1 usize ∷ MutSlice (named 3) κ2 u64 ∷ MutRef (named 4) κ3 usize ∷ S·Call.the-row ∷ u64 ∷ ShrSlice (named 5) κ4 u8 ∷ []) (xs γ l) (ats l)) ∷ [])) (Core 𝓤 H A at-mem run .pre (to-core ν γ l))
@@ -162,7 +162,7 @@ module _ {M : Type 1} (𝓤 : URA M) (H : Heap 𝓤) (A : Atoms 𝓤) (W : Given
   back : (l : ℕ) (h : Clock) → ent 𝓤 (sem 𝓤 H A (mem K.the-row .lies h l 0)) (guard 𝓤 (Is K.the-row h (kvals h)) (sem 𝓤 H A (fat fullShare K′.mir l 0 (LL.val K.the-type K′.the-laws h))))
   back l h = back′ 𝓤 H A W l h
 
-  exits : (r : Reply) (z2 : Clock) (z3 : List ℕ) (z4 : ℕ) (z5 : List ℕ) (z6 : ℕ) → length z3 ≡ length x3 → length z5 ≡ length x5 → Claim r z2 z3 z4 z5 z6 → Is S·Reply.the-row r (EL.vals S·Reply.the-type S·Reply′.the-laws r) → Is K.the-row z2 (kvals z2) → ent 𝓤 (⋆ 𝓤 H A (‵ (flft κ0 q0) ∷ ‵ (flft κ1 q1) ∷ ‵ (flft κ2 q2) ∷ ‵ (flft κ3 q3) ∷ ‵ (flft κ4 q4) ∷ ‵ (finally u64 γ3 z3) ∷ ‵ (fres γ4 (usize .coded .code z4)) ∷ ‵ (finally u64 γ5 z5) ∷ ‵ (fres γ6 (usize .coded .code z6)) ∷ ‵ (ShrSlice (named 4) κ4 u8 .own r9 (sliceVal (b9, o9) (length x9) ∷ [])) ∷ [])) (Post (LL.val R.the-type R′.the-laws (made r z2)))
+  exits : (r : Answer) (z2 : Clock) (z3 : List ℕ) (z4 : ℕ) (z5 : List ℕ) (z6 : ℕ) → length z3 ≡ length x3 → length z5 ≡ length x5 → Claim r z2 z3 z4 z5 z6 → Is S·Answer.the-row r (EL.vals S·Answer.the-type S·Answer′.the-laws r) → Is K.the-row z2 (kvals z2) → ent 𝓤 (⋆ 𝓤 H A (‵ (flft κ0 q0) ∷ ‵ (flft κ1 q1) ∷ ‵ (flft κ2 q2) ∷ ‵ (flft κ3 q3) ∷ ‵ (flft κ4 q4) ∷ ‵ (finally u64 γ3 z3) ∷ ‵ (fres γ4 (usize .coded .code z4)) ∷ ‵ (finally u64 γ5 z5) ∷ ‵ (fres γ6 (usize .coded .code z6)) ∷ ‵ (ShrSlice (named 4) κ4 u8 .own r9 (sliceVal (b9, o9) (length x9) ∷ [])) ∷ [])) (Post (LL.val R.the-type R′.the-laws (made r z2)))
   exits r z2 z3 z4 z5 z6 e3 e5 e is isk =
       qed W (‵ (flft κ0 q0) ∷ ‵ (flft κ1 q1) ∷ ‵ (flft κ2 q2) ∷ ‵ (flft κ3 q3) ∷ ‵ (flft κ4 q4) ∷ ‵ (finally u64 γ3 z3) ∷ ‵ (fres γ4 (usize .coded .code z4)) ∷ ‵ (finally u64 γ5 z5) ∷ ‵ (fres γ6 (usize .coded .code z6)) ∷ ‵ (ShrSlice (named 4) κ4 u8 .own r9 (sliceVal (b9, o9) (length x9) ∷ [])) ∷ []) ∵
       suffices ! _ (ends-at 𝓤 H A step.ended stayed (step.clauses 𝓤 H A at-mem run) W (((κ0, (κ1, (κ2, (κ3, (κ4, tt))))), (q0, (q1, (q2, (q3, (q4, tt))))), bounds, x, at), tt) (LL.val R.the-type R′.the-laws (made r z2)) (made r z2) (tt, (tt, (z3, (z4, (z5, (z6, (tt, (tt, (tt, tt))))))))) (tt, (tt, (e3, (tt, (e5, (tt, (tt, (tt, (tt, tt)))))))))) $ says ! (e) $
@@ -194,19 +194,19 @@ module _ {M : Type 1} (𝓤 : URA M) (H : Heap 𝓤) (A : Atoms 𝓤) (W : Given
         nothing ! $ move ! (1 ∷ 0 ∷ []) $ fjoin ! $ owned ! u64 (Is u64) (uint-makes 𝓤 H A W w64) x8 _ (refl, f8) $ fjoin ! $ owned ! S·Call.the-row (Is S·Call.the-row) (EL.makes S·Call.the-type S·Call′.the-plain 𝓤 H A) x7 m7 f7 $ fjoin ! $ move ! (12 ∷ 0 ∷ []) $ fjoin ! $ move ! (12 ∷ 0 ∷ []) $ fjoin ! $ move ! (12 ∷ 0 ∷ []) $ fjoin ! $ move ! (12 ∷ 0 ∷ []) $ fjoin ! $ move ! (2 ∷ 0 ∷ []) $ fjoin ! $ owned ! S·Settings.the-row (Is S·Settings.the-row) (LL.makes S·Settings.the-type S·Settings′.the-plain 𝓤 H A) x1 m1 f1 $ fjoin ! $ nothing ! $ move ! (5 ∷ 0 ∷ []) $ join ! $ move ! (5 ∷ 0 ∷ []) $ join ! $ move ! (5 ∷ 0 ∷ []) $ join ! $ move ! (5 ∷ 0 ∷ []) $ join ! $ move ! (5 ∷ 0 ∷ []) $ join ! $ move ! (4 ∷ 0 ∷ []) $ join ! $
         use2 W (raw (Core 𝓤 H A at-mem run .pre (to-core ν γ l10))) (goes-core ν γ l10) $
         calls-at ! fm (Core 𝓤 H A at-mem run) known (to-core ν γ l10) (and-then ! (load ! (from ! (stop !)) (look ! 41 refl)) (and-then ! (load ! (from ! (stop !)) (look ! 20 refl)) (and-then ! (load ! (from ! (stop !)) (look ! 16 refl)) (and-then ! (load ! (from ! (stop !)) (look ! 14 refl)) (and-then ! (load ! (from ! (stop !)) (look ! 10 refl)) (and-then ! (load ! (from ! (stop !)) (look ! 8 refl)) (and-then ! (load ! (from ! (stop !)) (look ! 29 refl)) (and-then ! (load ! (from ! (stop !)) (look ! 27 refl)) (and-then ! (load ! (from ! (stop !)) (look ! 25 refl)) (no-more !)))))))))) (λ v.
-        use1 W (later (some (λ (r : Reply). ((‵ (flft (ν ∷ []) fullShare) ⊛ ‵ (flft κ0 q0) ⊛ ‵ (flft κ1 q1) ⊛ ‵ (flft κ2 q2) ⊛ ‵ (flft κ3 q3) ⊛ ‵ (flft κ4 q4) ⊛ ‵ ftrue) ⊛ ‵ (S·Reply.the-row .own r (v ∷ []))) ⊛ raw (ensured 𝓤 H A core.ended (core.clauses 𝓤 H A at-mem run) (ks ν) (xs γ l10) tt r)))) (id⊢ 𝓤 _) $ await ! tt $ pick ! (λ r.
+        use1 W (later (some (λ (r : Answer). ((‵ (flft (ν ∷ []) fullShare) ⊛ ‵ (flft κ0 q0) ⊛ ‵ (flft κ1 q1) ⊛ ‵ (flft κ2 q2) ⊛ ‵ (flft κ3 q3) ⊛ ‵ (flft κ4 q4) ⊛ ‵ ftrue) ⊛ ‵ (S·Answer.the-row .own r (v ∷ []))) ⊛ raw (ensured 𝓤 H A core.ended (core.clauses 𝓤 H A at-mem run) (ks ν) (xs γ l10) tt r)))) (id⊢ 𝓤 _) $ await ! tt $ pick ! (λ r.
         split ! $ move ! (1 ∷ []) $ use1 W (some (λ (ws : Unit {0} × (Clock × (List ℕ × (ℕ × (List ℕ × (ℕ × (Unit {0} × (Unit {0} × (Unit {0} × Unit {0}))))))))). ‵ (lasts core.ended (ks ν) (xs γ l10) ws) ⊛ raw (fact 𝓤 (Claim r (ws .1 .0) (ws .1 .1 .0) (ws .1 .1 .1 .0) (ws .1 .1 .1 .1 .0) (ws .1 .1 .1 .1 .1 .0))))) (id⊢ 𝓤 _) $ pick ! (λ ws.
         split ! $ move ! (1 ∷ []) $ heard ! (Claim r (ws .1 .0) (ws .1 .1 .0) (ws .1 .1 .1 .0) (ws .1 .1 .1 .1 .0) (ws .1 .1 .1 .1 .1 .0)) (λ e. fsplit ! $ drop ! $ fsplit ! $ move ! (1 ∷ []) $ fsplit ! $ fsplit ! $ move ! (1 ∷ []) $ feqL ! (λ e3. move ! (1 ∷ []) $ fsplit ! $ move ! (1 ∷ []) $ fsplit ! $ fsplit ! $ move ! (1 ∷ []) $ feqL ! (λ e5. move ! (1 ∷ []) $ fsplit ! $ move ! (1 ∷ []) $ fsplit ! $ drop ! $ fsplit ! $ drop ! $ fsplit ! $ drop ! $ drop ! $
-        move ! (5 ∷ []) $ split ! $ move ! (1 ∷ []) $ peeks ! S·Reply.the-row (Is S·Reply.the-row) (shows 𝓤 H A S·Reply.the-row) r (v ∷ []) (λ is.
-        land ! (from ! (stop !)) (init ! 28 refl (EL.lawful S·Reply.the-type S·Reply′.the-laws 𝓤 H A W tt .typed r _ is .0)) $ rewrite ! 28 (λ (u : Val). ‵ (fat fullShare S·Reply′.mir l11 0 u)) (ap only ((EL.tells S·Reply.the-type S·Reply′.the-laws) r (v ∷ []) is)) refl $ drop ! $
+        move ! (5 ∷ []) $ split ! $ move ! (1 ∷ []) $ peeks ! S·Answer.the-row (Is S·Answer.the-row) (shows 𝓤 H A S·Answer.the-row) r (v ∷ []) (λ is.
+        land ! (from ! (stop !)) (init ! 28 refl (EL.lawful S·Answer.the-type S·Answer′.the-laws 𝓤 H A W tt .typed r _ is .0)) $ rewrite ! 28 (λ (u : Val). ‵ (fat fullShare S·Answer′.mir l11 0 u)) (ap only ((EL.tells S·Answer.the-type S·Answer′.the-laws) r (v ∷ []) is)) refl $ drop ! $
         -- the lifetime is ended, and the clock is a local again
         split ! $ move ! (1 ∷ []) $ split ! $ move ! (1 ∷ []) $ split ! $ move ! (1 ∷ []) $ split ! $ move ! (1 ∷ []) $ split ! $ move ! (1 ∷ []) $ split ! $ move ! (1 ∷ []) $ drop ! $ move ! (5 ∷ []) $ lft-end ! tt $ move ! (0 ∷ 12 ∷ 10 ∷ []) $ use3 W (later (‵ (mem K.the-row .lies (ws .1 .0) l10 0))) (ref-back 𝓤 H A W K.the-row (ν ∷ []) γ (ws .1 .0) l10 0) $ await ! tt $ use1 W (given (Is K.the-row (ws .1 .0) (kvals (ws .1 .0))) (‵ (fat fullShare K′.mir l10 0 (LL.val K.the-type K′.the-laws (ws .1 .0))))) (back l10 (ws .1 .0)) $ learn ! (λ isk.
         -- [k; lft4; lft3; lft2; lft1; lft0; last6; last5; last4; last3; kept9; own8; own7; own1; kk; p6; s5; p5; p4; s3; p3; pk; m; _9; _8; _7; _6; _5; _4; _3; _2; _1; _0]
         assigns ! (of-opd ! (load ! (from ! (stop !)) (look ! 0 refl))) (from ! (stop !)) (init ! 14 refl (LL.lawful K.the-type K′.the-laws 𝓤 H A W .typed (ws .1 .0) _ isk .0)) $
-        assigns ! (agg ! (and-then ! (load ! (from ! (stop !)) (look ! 30 refl)) (and-then ! (load ! (from ! (stop !)) (look ! 14 refl)) (no-more !)))) (from ! (stop !)) (init ! 51 refl (LL.lawful R.the-type R′.the-laws 𝓤 H A W .typed (made r (ws .1 .0)) _ (made-is r (ws .1 .0) (EL.owes S·Reply.the-type S·Reply′.the-laws r (EL.owed S·Reply.the-type S·Reply′.the-laws r (v ∷ []) is)) isk) .0)) $
+        assigns ! (agg ! (and-then ! (load ! (from ! (stop !)) (look ! 30 refl)) (and-then ! (load ! (from ! (stop !)) (look ! 14 refl)) (no-more !)))) (from ! (stop !)) (init ! 51 refl (LL.lawful R.the-type R′.the-laws 𝓤 H A W .typed (made r (ws .1 .0)) _ (made-is r (ws .1 .0) (EL.owes S·Answer.the-type S·Answer′.the-laws r (EL.owed S·Answer.the-type S·Answer′.the-laws r (v ∷ []) is)) isk) .0)) $
         returns ! (look ! 51 refl) $ forget ! 14 refl $ forget ! 16 refl $ forget ! 18 refl $ forget ! 20 refl $ forget ! 22 refl $ forget ! 24 refl $ forget ! 26 refl $ forget ! 28 refl $ forget ! 30 refl $ forget ! 0 refl $ forget ! 33 refl $ forget ! 35 refl $ forget ! 37 refl $ forget ! 39 refl $ forget ! 41 refl $ forget ! 43 refl $ forget ! 45 refl $ forget ! 47 refl $ forget ! 49 refl $ forget ! 51 refl $
         move ! (51 ∷ 52 ∷ []) $ free1 ! $ move ! (49 ∷ 50 ∷ []) $ free1 ! $ move ! (47 ∷ 48 ∷ []) $ free1 ! $ move ! (45 ∷ 46 ∷ []) $ free1 ! $ move ! (43 ∷ 44 ∷ []) $ free1 ! $ move ! (41 ∷ 42 ∷ []) $ free1 ! $ move ! (39 ∷ 40 ∷ []) $ free1 ! $ move ! (37 ∷ 38 ∷ []) $ free1 ! $ move ! (35 ∷ 36 ∷ []) $ free1 ! $ move ! (33 ∷ 34 ∷ []) $ free1 ! $ move ! (0 ∷ 32 ∷ []) $ free1 ! $ move ! (29 ∷ 30 ∷ []) $ free1 ! $ move ! (27 ∷ 28 ∷ []) $ free1 ! $ move ! (25 ∷ 26 ∷ []) $ free1 ! $ move ! (23 ∷ 24 ∷ []) $ free1 ! $ move ! (21 ∷ 22 ∷ []) $ free1 ! $ move ! (19 ∷ 20 ∷ []) $ free1 ! $ move ! (17 ∷ 18 ∷ []) $ free1 ! $ move ! (15 ∷ 16 ∷ []) $ free1 ! $ move ! (13 ∷ 14 ∷ []) $ free1 ! $ free0 ! $
-        keep ! (4 ∷ 3 ∷ 2 ∷ 1 ∷ 0 ∷ 8 ∷ 7 ∷ 6 ∷ 5 ∷ 9 ∷ []) $ by ! (exits r (ws .1 .0) (ws .1 .1 .0) (ws .1 .1 .1 .0) (ws .1 .1 .1 .1 .0) (ws .1 .1 .1 .1 .1 .0) e3 e5 e (EL.owes S·Reply.the-type S·Reply′.the-laws r (EL.owed S·Reply.the-type S·Reply′.the-laws r (v ∷ []) is)) isk)))))))))))))))))))))))))))))))
+        keep ! (4 ∷ 3 ∷ 2 ∷ 1 ∷ 0 ∷ 8 ∷ 7 ∷ 6 ∷ 5 ∷ 9 ∷ []) $ by ! (exits r (ws .1 .0) (ws .1 .1 .0) (ws .1 .1 .1 .0) (ws .1 .1 .1 .1 .0) (ws .1 .1 .1 .1 .1 .0) e3 e5 e (EL.owes S·Answer.the-type S·Answer′.the-laws r (EL.owed S·Answer.the-type S·Answer′.the-laws r (v ∷ []) is)) isk)))))))))))))))))))))))))))))))
 
 module _ {M : Type 1} (𝓤 : URA M) (H : Heap 𝓤) (A : Atoms 𝓤) (W : Given 𝓤 H A) (mem : Memory → SProp 𝓤) (run : Routine → Fun 𝓤) where
   step-walks : (C : Calls 𝓤 H) (Λ : Loops 𝓤 H) → FmC 𝓤 H (W .laws) C → Triple 𝓤 (C #core) (Core 𝓤 H A mem run) → Walks 𝓤 H A step.ended stayed (WpFn 𝓤 H C Λ code.function) (step.clauses 𝓤 H A mem run)

@@ -6,7 +6,7 @@ use mathlib.Core.Path.{sym}
 use denote.Ref.{now}
 use lib.ListN.{set, length-set}
 use Rattle.protocol.proofs.Words.{lower-join, upper-join}
-use Rattle.numbers.specs.Kept.{keptIn}
+use Rattle.numbers.specs.NumberWords.{keptIn}
 use Rattle.numbers.proofs.keep.Statement.{statement}
 use Rattle.numbers.proofs.keep.Tie as tie
 

@@ -1,7 +1,7 @@
 -- `kept_at` meets its contract. Assumes nothing.
 use borrow.Author.Needs.{needs}
 use mathlib.Core.Path.{refl}
-use Rattle.numbers.specs.Kept.{numberIn}
+use Rattle.numbers.specs.NumberWords.{numberIn}
 use Rattle.numbers.proofs.kept_at.Statement.{statement}
 use Rattle.numbers.proofs.kept_at.Tie as tie
 

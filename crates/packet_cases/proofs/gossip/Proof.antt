@@ -2,7 +2,7 @@
 use mathlib.Core.Path.{refl}
 use native.Mathlib.Omega.{arith}
 use borrow.Author.Needs.{needs}
-use Rattle.protocol.specs.Words.{join}
+use Rattle.protocol.specs.Words.{fromHalves}
 use Rattle.protocol.specs.Calls.Write.{gossipOf, sentOf}
 use Rattle.packet_cases.proofs.gossip.Statement.{statement}
 use Rattle.packet_cases.proofs.gossip.Tie as tie
@@ -14,7 +14,7 @@ slice-aggregate-put-2 : tie.Need-slice-aggregate-put-2
 slice-aggregate-put-2 c = search needs
 
 put-requires : tie.Need-put-requires
-unfolding sentOf gossipOf join
+unfolding sentOf gossipOf fromHalves
 put-requires c κs = (record { blockRows = omega arith; voteRows = omega arith; blockCount = omega arith; voteCount = omega arith; first = refl }, refl, refl)
 
 same-length : tie.Need-same-length

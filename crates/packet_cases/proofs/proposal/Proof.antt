@@ -2,7 +2,7 @@
 use mathlib.Core.Path.{refl}
 use native.Mathlib.Omega.{arith}
 use borrow.Author.Needs.{needs}
-use Rattle.protocol.specs.Store.{inView}
+use Rattle.protocol.specs.Store.{viewOf}
 use Rattle.protocol.specs.Calls.Write.{lastBlock, proposalOf, sentOf}
 use Rattle.protocol.specs.Lent.{rowsOf}
 use Rattle.writer.specs.Sent.{nodeIn}
@@ -16,7 +16,7 @@ slice-aggregate-put-2 : tie.Need-slice-aggregate-put-2
 slice-aggregate-put-2 c = search needs
 
 put-requires : tie.Need-put-requires
-unfolding nodeIn sentOf proposalOf inView lastBlock rowsOf
+unfolding nodeIn sentOf proposalOf viewOf lastBlock rowsOf
 put-requires c κs = (record { blockRows = omega arith; voteRows = omega arith; blockCount = omega arith; voteCount = omega arith; first = refl }, refl, refl)
 
 same-length : tie.Need-same-length

@@ -25,8 +25,8 @@ returns c =
     let k = u .before in
     let s = k .before .before in
     let kind : widthOf (k .number-at .result) ≡ widthIn (s .args .bytes .now) = ap widthOf (k .number-at .ensures .0) in
-    let place = p .behind-blocks .ensures .0 ∙ ap (λ w. afterBlocks w (s .args .i)) (u .upper-bytes .ensures .0 ∙ kind) in
-    rw kind at (c .block-from .ensures) ∙ block-there (s .args .bytes .now) (s .args .i) _ genesis place (s .pre)
+    let position = p .behind-blocks .ensures .0 ∙ ap (λ w. afterBlocks w (s .args .i)) (u .upper-bytes .ensures .0 ∙ kind) in
+    rw kind at (c .block-from .ensures) ∙ block-there (s .args .bytes .now) (s .args .i) _ genesis position (s .pre)
 
 pub block-at-spec : {M : Type 1} → statement M
 block-at-spec = tie.close (tie.spec (λ c κs. search needs) (λ c κs. search needs) behind-blocks-requires (λ c κs. search needs) returns)

@@ -39,8 +39,8 @@ use denote.Triple.Clauses.{ensured, lasts}
 use native.Mathlib.Nat.{zero-add}
 use lib.ListN.{drop as dropped}
 use Rattle.protocol.specs.Words.{blockOf}
-use Rattle.protocol.specs.Packet.{blockAt, widthOf}
-use Rattle.packets.specs.Reader.{placeAfter}
+use Rattle.protocol.specs.Packet.{readBlock, widthOf}
+use Rattle.packets.specs.Reader.{positionAfter}
 use Rattle.packets.proofs.Reading.{Stands, stands-new, stands-skip, stands-entry}
 use Rattle.packets.specs.declared.Reader.{Reader}
 use Rattle.packets.proofs.Reader as T
@@ -69,8 +69,8 @@ abbrev the : (X : Type 0) → X → X
 the X x = x
 
 -- what the function says, of what its calls say
-claims : (p1 : RefT (List ℕ)) (p2 : ℕ) (p3 : ℕ) (r1 : Reader) (e1 : (r1 .bytes ≡ p1) × (r1 .at ≡ 0)) (r2 : Reader) (e2 : (r2 .bytes ≡ r1 .bytes) × (r2 .at ≡ placeAfter (r1 .bytes .now) (r1 .at) p2)) (r3 : Block) (e3 : blockOf r3 ≡ blockAt (widthOf p3) (dropped (r2 .at) (r2 .bytes .now))) → blockOf r3 ≡ blockAt (widthOf p3) (dropped p2 (p1 .now))
-claims p1 p2 p3 r1 e1 r2 e2 r3 e3 = let s : Stands r2 (p1 .now) p2 = rw (zero-add p2) at (stands-skip (stands-new p1 r1 e1) r2 p2 e2) in stands-entry s (blockAt (widthOf p3)) (blockOf r3) e3
+claims : (p1 : RefT (List ℕ)) (p2 : ℕ) (p3 : ℕ) (r1 : Reader) (e1 : (r1 .bytes ≡ p1) × (r1 .at ≡ 0)) (r2 : Reader) (e2 : (r2 .bytes ≡ r1 .bytes) × (r2 .at ≡ positionAfter (r1 .bytes .now) (r1 .at) p2)) (r3 : Block) (e3 : blockOf r3 ≡ readBlock (widthOf p3) (dropped (r2 .at) (r2 .bytes .now))) → blockOf r3 ≡ readBlock (widthOf p3) (dropped p2 (p1 .now))
+claims p1 p2 p3 r1 e1 r2 e2 r3 e3 = let s : Stands r2 (p1 .now) p2 = rw (zero-add p2) at (stands-skip (stands-new p1 r1 e1) r2 p2 e2) in stands-entry s (readBlock (widthOf p3)) (blockOf r3) e3
 
 abbrev stayed : Stays (block-from.ended .signature .params) (block-from.ended .kept)
 stayed = (stay-none-slice (0 ∷ []) tt (plain (λ _. u8)) yes, (stay-none (λ _. usize) yes, (stay-none (λ _. u64) yes, tt)))
@@ -119,14 +119,14 @@ module _ {M : Type 1} (𝓤 : URA M) (H : Heap 𝓤) (A : Atoms 𝓤) (W : Given
         nothing ! $ owned ! usize (Is usize) (uint-makes 𝓤 H A W w64) p2 ((vint w64 p2) ∷ []) i2 $ fjoin ! $ move ! (1 ∷ []) $ use1 W (‵ ((T.the-row α) .own r1 ((LL.val (T.the-type α) (T′.the-laws α) r1) ∷ [])) ⊛ ‵ ((T.the-row α) .own r1 ((LL.val (T.the-type α) (T′.the-laws α) r1) ∷ []))) ((LL.copy (T.the-type α) (T′.the-copy α) 𝓤 H A W) .twice r1 ((LL.val (T.the-type α) (T′.the-laws α) r1) ∷ [])) $ split ! $ move ! (0 ∷ 2 ∷ []) $ fjoin ! $ move ! (2 ∷ 0 ∷ []) $ use2 W (raw (skip·spec 𝓤 H A mem run .pre (((κ, tt), (q, tt), tt, (r1, (p2, tt)), (((LL.val (T.the-type α) (T′.the-laws α) r1) ∷ []), (((vint w64 p2) ∷ []), tt))), tt))) (qed W ((‵ (flft κ q) ⊛ ‵ ftrue) ∷ ‵ (owns ((T.the-row α) ∷ usize ∷ []) (r1, (p2, tt)) (((LL.val (T.the-type α) (T′.the-laws α) r1) ∷ []), (((vint w64 p2) ∷ []), tt))) ∷ []) ∵ join ! $ frame ! $ done !) $
         calls-at ! fm (skip·spec 𝓤 H A mem run) known-skip (((κ, tt), (q, tt), tt, (r1, (p2, tt)), (((LL.val (T.the-type α) (T′.the-laws α) r1) ∷ []), (((vint w64 p2) ∷ []), tt))), tt) (and-then ! (load ! (from ! (stop !)) (look ! 7 refl)) (and-then ! (load ! (from ! (stop !)) (look ! 15 refl)) (no-more !))) (λ u2.
         use1 W (later (some (λ (r2 : Reader). ((‵ (flft κ q) ⊛ ‵ ftrue) ⊛ ‵ ((T.the-row α) .own r2 (u2 ∷ []))) ⊛ raw (ensured 𝓤 H A skip.ended (skip.clauses 𝓤 H A mem run) (κ, tt) (r1, (p2, tt)) tt r2)))) (id⊢ 𝓤 _) $ await ! tt $ pick ! (λ r2.
-        split ! $ move ! (1 ∷ []) $ use1 W (raw (fact 𝓤 ((r2 .bytes ≡ r1 .bytes) × (r2 .at ≡ placeAfter (r1 .bytes .now) (r1 .at) p2)))) (exE 𝓤 _ (λ ws. snd∗ 𝓤 (sem 𝓤 H A (lasts skip.ended (κ, tt) (r1, (p2, tt)) ws)) (fact 𝓤 ((r2 .bytes ≡ r1 .bytes) × (r2 .at ≡ placeAfter (r1 .bytes .now) (r1 .at) p2))))) $ heard ! ((r2 .bytes ≡ r1 .bytes) × (r2 .at ≡ placeAfter (r1 .bytes .now) (r1 .at) p2)) (λ e2. split ! $ move ! (1 ∷ []) $ peeks ! (T.the-row α) (Is (T.the-row α)) (shows 𝓤 H A (T.the-row α)) r2 (u2 ∷ []) (λ j2.
+        split ! $ move ! (1 ∷ []) $ use1 W (raw (fact 𝓤 ((r2 .bytes ≡ r1 .bytes) × (r2 .at ≡ positionAfter (r1 .bytes .now) (r1 .at) p2)))) (exE 𝓤 _ (λ ws. snd∗ 𝓤 (sem 𝓤 H A (lasts skip.ended (κ, tt) (r1, (p2, tt)) ws)) (fact 𝓤 ((r2 .bytes ≡ r1 .bytes) × (r2 .at ≡ positionAfter (r1 .bytes .now) (r1 .at) p2))))) $ heard ! ((r2 .bytes ≡ r1 .bytes) × (r2 .at ≡ positionAfter (r1 .bytes .now) (r1 .at) p2)) (λ e2. split ! $ move ! (1 ∷ []) $ peeks ! (T.the-row α) (Is (T.the-row α)) (shows 𝓤 H A (T.the-row α)) r2 (u2 ∷ []) (λ j2.
         land ! (from ! (stop !)) (init ! 10 refl (LL.lawful (T.the-type αᵉ) (T′.the-laws αᵉ) 𝓤 H A W .typed r2 _ j2 .0)) $ rewrite ! 10 (λ (y : Val). ‵ (fat fullShare (T′.mir erased) l5 0 y)) (ap only (LL.tells (T.the-type α) (T′.the-laws α) r2 (u2 ∷ []) j2)) refl $ rewrite ! 0 (λ (y : Val). ‵ ((T.the-row α) .own r2 (y ∷ []))) (ap only (LL.tells (T.the-type α) (T′.the-laws α) r2 (u2 ∷ []) j2)) refl $
         assigns ! (of-opd ! (load ! (from ! (stop !)) (look ! 10 refl))) (from ! (stop !)) (init ! 6 refl (LL.lawful (T.the-type αᵉ) (T′.the-laws αᵉ) 𝓤 H A W .typed r2 _ (LL.owes (T.the-type α) (T′.the-laws α) r2 (LL.owed (T.the-type α) (T′.the-laws α) r2 (u2 ∷ []) j2)) .0)) $
         -- `take_block`
         nothing ! $ owned ! u64 (Is u64) (uint-makes 𝓤 H A W w64) p3 ((vint w64 p3) ∷ []) i3 $ fjoin ! $ move ! (1 ∷ []) $ use1 W (‵ ((T.the-row α) .own r2 ((LL.val (T.the-type α) (T′.the-laws α) r2) ∷ [])) ⊛ ‵ ((T.the-row α) .own r2 ((LL.val (T.the-type α) (T′.the-laws α) r2) ∷ []))) ((LL.copy (T.the-type α) (T′.the-copy α) 𝓤 H A W) .twice r2 ((LL.val (T.the-type α) (T′.the-laws α) r2) ∷ [])) $ split ! $ move ! (0 ∷ 2 ∷ []) $ fjoin ! $ move ! (2 ∷ 0 ∷ []) $ use2 W (raw (take-block·spec 𝓤 H A mem run .pre (((κ, tt), (q, tt), tt, (r2, (p3, tt)), (((LL.val (T.the-type α) (T′.the-laws α) r2) ∷ []), (((vint w64 p3) ∷ []), tt))), tt))) (qed W ((‵ (flft κ q) ⊛ ‵ ftrue) ∷ ‵ (owns ((T.the-row α) ∷ u64 ∷ []) (r2, (p3, tt)) (((LL.val (T.the-type α) (T′.the-laws α) r2) ∷ []), (((vint w64 p3) ∷ []), tt))) ∷ []) ∵ join ! $ frame ! $ done !) $
         calls-at ! fm (take-block·spec 𝓤 H A mem run) known-take-block (((κ, tt), (q, tt), tt, (r2, (p3, tt)), (((LL.val (T.the-type α) (T′.the-laws α) r2) ∷ []), (((vint w64 p3) ∷ []), tt))), tt) (and-then ! (load ! (from ! (stop !)) (look ! 6 refl)) (and-then ! (load ! (from ! (stop !)) (look ! 14 refl)) (no-more !))) (λ u3.
         use1 W (later (some (λ (r3 : Block). ((‵ (flft κ q) ⊛ ‵ ftrue) ⊛ ‵ (S·Block.the-row .own r3 (u3 ∷ []))) ⊛ raw (ensured 𝓤 H A take-block.ended (take-block.clauses 𝓤 H A mem run) (κ, tt) (r2, (p3, tt)) tt r3)))) (id⊢ 𝓤 _) $ await ! tt $ pick ! (λ r3.
-        split ! $ move ! (1 ∷ []) $ use1 W (raw (fact 𝓤 (blockOf r3 ≡ blockAt (widthOf p3) (dropped (r2 .at) (r2 .bytes .now))))) (exE 𝓤 _ (λ ws. snd∗ 𝓤 (sem 𝓤 H A (lasts take-block.ended (κ, tt) (r2, (p3, tt)) ws)) (fact 𝓤 (blockOf r3 ≡ blockAt (widthOf p3) (dropped (r2 .at) (r2 .bytes .now)))))) $ heard ! (blockOf r3 ≡ blockAt (widthOf p3) (dropped (r2 .at) (r2 .bytes .now))) (λ e3. split ! $ move ! (1 ∷ []) $ peeks ! S·Block.the-row (Is S·Block.the-row) (shows 𝓤 H A S·Block.the-row) r3 (u3 ∷ []) (λ j3.
+        split ! $ move ! (1 ∷ []) $ use1 W (raw (fact 𝓤 (blockOf r3 ≡ readBlock (widthOf p3) (dropped (r2 .at) (r2 .bytes .now))))) (exE 𝓤 _ (λ ws. snd∗ 𝓤 (sem 𝓤 H A (lasts take-block.ended (κ, tt) (r2, (p3, tt)) ws)) (fact 𝓤 (blockOf r3 ≡ readBlock (widthOf p3) (dropped (r2 .at) (r2 .bytes .now)))))) $ heard ! (blockOf r3 ≡ readBlock (widthOf p3) (dropped (r2 .at) (r2 .bytes .now))) (λ e3. split ! $ move ! (1 ∷ []) $ peeks ! S·Block.the-row (Is S·Block.the-row) (shows 𝓤 H A S·Block.the-row) r3 (u3 ∷ []) (λ j3.
         land ! (from ! (stop !)) (init ! 21 refl (LL.lawful S·Block.the-type S·Block′.the-laws 𝓤 H A W .typed r3 _ j3 .0)) $ rewrite ! 21 (λ (y : Val). ‵ (fat fullShare (S·Block′.mir) l0 0 y)) (ap only (LL.tells S·Block.the-type S·Block′.the-laws r3 (u3 ∷ []) j3)) refl $ drop ! $
         returns ! (look ! 20 refl) $ forget ! 6 refl $ forget ! 8 refl $ forget ! 10 refl $ forget ! 12 refl $ forget ! 14 refl $ forget ! 16 refl $ forget ! 18 refl $ forget ! 20 refl $
         move ! (20 ∷ 21 ∷ []) $ free1 ! $ move ! (18 ∷ 19 ∷ []) $ free1 ! $ move ! (16 ∷ 17 ∷ []) $ free1 ! $ move ! (14 ∷ 15 ∷ []) $ free1 ! $ move ! (12 ∷ 13 ∷ []) $ free1 ! $ move ! (10 ∷ 11 ∷ []) $ free1 ! $ move ! (8 ∷ 9 ∷ []) $ free1 ! $ move ! (6 ∷ 7 ∷ []) $ free1 ! $ free0 ! $

@@ -3,13 +3,13 @@ use Prim.Native.Nat.{_+_, _*_, _-_, _^_, _≤_, _<_}
 use mathlib.Core.Path.{_≡_, sym}
 use native.Mathlib.Omega.{arith}
 use borrow.Author.Needs.{needs}
-use Rattle.protocol.specs.Packet.{field}
+use Rattle.protocol.specs.Packet.{numberAt}
 use Rattle.packets.proofs.Fields.{field-none, field-step, field-step-below, fits-word}
 use Rattle.packets.proofs.bytewise_at.Statement.{statement}
 use Rattle.packets.proofs.bytewise_at.Tie as tie
 
 abbrev Inv-loop : tie.InvT-loop
-Inv-loop bytes at width sum₀ i₀ sum i = (i ≤ width) × (sum ≡ field bytes (at + i) (width - i)) × (sum < 256 ^ (width - i))
+Inv-loop bytes at width sum₀ i₀ sum i = (i ≤ width) × (sum ≡ numberAt bytes (at + i) (width - i)) × (sum < 256 ^ (width - i))
 
 abbrev μ-loop : tie.MeasureT-loop
 μ-loop bytes at width sum₀ i₀ sum i = i
@@ -58,9 +58,9 @@ returns : tie.Need-returns Inv-loop μ-loop
 returns c =
     let l = c .before .loop in
     let a = c .before .before .before .args in
-    let place : a .at + l .i ≡ a .at = omega arith in
+    let position : a .at + l .i ≡ a .at = omega arith in
     let size : a .width - l .i ≡ a .width = omega arith in
-    (rw (place, size) at (l .inv .1), rw size at (l .inv .2))
+    (rw (position, size) at (l .inv .1), rw size at (l .inv .2))
 
 pub bytewise-at-spec : {M : Type 1} → statement M
 bytewise-at-spec =

@@ -4,11 +4,11 @@ use mathlib.Core.Path.{sym, _∙_}
 use lib.ListN.{length}
 use borrow.Author.Needs.{needs}
 use borrow.Author.Tests.{leb-true, leb-false, lt-ltb, le-ltb}
-use Rattle.packets.specs.Reader.{placeAfter}
+use Rattle.packets.specs.Reader.{positionAfter}
 use Rattle.packets.proofs.onward.Statement.{statement}
 use Rattle.packets.proofs.onward.Tie as tie
 
--- the place is not past the end
+-- the position is not past the end
 whole : (c : tie.Then1) → let a = c .before .before .before .args in a .at + a .n ≤ length (a .bytes .now)
 whole c = leb-true _ _ (sym (c .before .fits2 .ensures) ∙ c .if1 .taken)
 
@@ -16,13 +16,13 @@ add-result : tie.Need-add-result
 add-result c = let h = whole c in search needs
 
 returns : tie.Need-returns
-unfolding placeAfter
+unfolding positionAfter
 returns c =
     let a = c .before .before .before .args in
     simp (le-ltb (length (a .bytes .now)) (a .at + a .n) (whole c))
 
 returns-2 : tie.Need-returns-2
-unfolding placeAfter
+unfolding positionAfter
 returns-2 c =
     let a = c .before .before .before .args in
     simp (lt-ltb (length (a .bytes .now)) (a .at + a .n) (leb-false _ _ (sym (c .before .fits2 .ensures) ∙ c .if1 .left)))

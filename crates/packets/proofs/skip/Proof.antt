@@ -38,7 +38,7 @@ use denote.Triple.Table.{entered, cited}
 use denote.Triple.Walked.{says, Stays, stay-none, walkOf, goes-none, Walks, ends-at, walked, walk-meets}
 use denote.Exit.{yes}
 use denote.Triple.Clauses.{ensured, lasts}
-use Rattle.packets.specs.Reader.{placeAfter}
+use Rattle.packets.specs.Reader.{positionAfter}
 use Rattle.packets.specs.declared.Reader.{Reader}
 use Rattle.packets.proofs.Reader as T
 use Rattle.packets.proofs.Reader.Laws as T′
@@ -55,7 +55,7 @@ abbrev the : (X : Type 0) → X → X
 the X x = x
 
 -- what the function says, of what its calls say
-claims : (p1 : Reader) (p2 : ℕ) (r1 : ℕ) (e1 : r1 ≡ placeAfter ((p1 .bytes) .now) (p1 .at) p2) → ((the Reader (record { bytes = (p1 .bytes); at = r1 })) .bytes ≡ p1 .bytes) × ((the Reader (record { bytes = (p1 .bytes); at = r1 })) .at ≡ placeAfter (p1 .bytes .now) (p1 .at) p2)
+claims : (p1 : Reader) (p2 : ℕ) (r1 : ℕ) (e1 : r1 ≡ positionAfter ((p1 .bytes) .now) (p1 .at) p2) → ((the Reader (record { bytes = (p1 .bytes); at = r1 })) .bytes ≡ p1 .bytes) × ((the Reader (record { bytes = (p1 .bytes); at = r1 })) .at ≡ positionAfter (p1 .bytes .now) (p1 .at) p2)
 claims p1 p2 r1 e1 = (refl, e1)
 
 abbrev stayed : Stays (skip.ended .signature .params) (skip.ended .kept)
@@ -94,7 +94,7 @@ module _ {M : Type 1} (𝓤 : URA M) (H : Heap 𝓤) (A : Atoms 𝓤) (W : Given
         nothing ! $ owned ! usize (Is usize) (uint-makes 𝓤 H A W w64) p2 ((vint w64 p2) ∷ []) i2 $ fjoin ! $ owned ! usize (Is usize) (uint-makes 𝓤 H A W w64) (p1 .at) ((vint w64 (p1 .at)) ∷ []) (LL.owed (T.the-type α) (T′.the-laws α) p1 _ i1 .1 .0) $ fjoin ! $ move ! (2 ∷ []) $ use1 W (‵ ((T.the-row α) .own p1 ((LL.val (T.the-type α) (T′.the-laws α) p1) ∷ [])) ⊛ ‵ ((T.the-row α) .own p1 ((LL.val (T.the-type α) (T′.the-laws α) p1) ∷ []))) ((LL.copy (T.the-type α) (T′.the-copy α) 𝓤 H A W) .twice p1 ((LL.val (T.the-type α) (T′.the-laws α) p1) ∷ [])) $ split ! $ use1 W (given ((LL.val (T.the-type α) (T′.the-laws α) p1) ∷ [] ≡ (LL.val (T.the-type α) (T′.the-laws α) p1) ∷ []) (‵ (all-own (T.the-type α .parts) (T′.the-laws α) (p1 .bytes, (p1 .at, tt))))) (own-open 𝓤 H A W (T.the-type α) (T′.the-laws α) (p1 .bytes, (p1 .at, tt)) (LL.val (T.the-type α) (T′.the-laws α) p1)) $ learn ! (λ _. use1 W (‵ (ownAt (T.the-type α .parts) (T′.the-laws α) 0 (p1 .bytes)) ⊛ ‵ (rest (T.the-type α .parts) (T′.the-laws α) 0 (p1 .bytes, (p1 .at, tt)))) (own-out 𝓤 H A W (T.the-type α .parts) (T′.the-laws α) 0 (p1 .bytes, (p1 .at, tt))) $ split ! $ move ! (1 ∷ []) $ drop ! $ move ! (0 ∷ 2 ∷ []) $ fjoin ! $ move ! (17 ∷ 0 ∷ []) $ use2 W (raw (onward·spec 𝓤 H A mem run .pre (((κ, tt), (q, tt), tt, ((p1 .bytes), ((p1 .at), (p2, tt))), (((sliceVal ((p1 .bytes) .ptr) (length ((p1 .bytes) .now))) ∷ []), (((vint w64 (p1 .at)) ∷ []), (((vint w64 p2) ∷ []), tt)))), tt))) (qed W ((‵ (flft κ q) ⊛ ‵ ftrue) ∷ ‵ (owns ((ShrSlice (named 0) κ u8) ∷ usize ∷ usize ∷ []) ((p1 .bytes), ((p1 .at), (p2, tt))) (((sliceVal ((p1 .bytes) .ptr) (length ((p1 .bytes) .now))) ∷ []), (((vint w64 (p1 .at)) ∷ []), (((vint w64 p2) ∷ []), tt)))) ∷ []) ∵ join ! $ frame ! $ done !) $
         calls-at ! fm (onward·spec 𝓤 H A mem run) known-onward (((κ, tt), (q, tt), tt, ((p1 .bytes), ((p1 .at), (p2, tt))), (((sliceVal ((p1 .bytes) .ptr) (length ((p1 .bytes) .now))) ∷ []), (((vint w64 (p1 .at)) ∷ []), (((vint w64 p2) ∷ []), tt)))), tt) (and-then ! (load ! (from ! (stop !)) (look ! 7 refl)) (and-then ! (load ! (from ! (stop !)) (look ! 5 refl)) (and-then ! (load ! (from ! (stop !)) (look ! 11 refl)) (no-more !)))) (λ u1.
         use1 W (later (some (λ (r1 : ℕ). ((‵ (flft κ q) ⊛ ‵ ftrue) ⊛ ‵ (usize .own r1 (u1 ∷ []))) ⊛ raw (ensured 𝓤 H A onward.ended (onward.clauses 𝓤 H A mem run) (κ, tt) ((p1 .bytes), ((p1 .at), (p2, tt))) tt r1)))) (id⊢ 𝓤 _) $ await ! tt $ pick ! (λ r1.
-        split ! $ move ! (1 ∷ []) $ use1 W (raw (fact 𝓤 (r1 ≡ placeAfter ((p1 .bytes) .now) (p1 .at) p2))) (exE 𝓤 _ (λ ws. snd∗ 𝓤 (sem 𝓤 H A (lasts onward.ended (κ, tt) ((p1 .bytes), ((p1 .at), (p2, tt))) ws)) (fact 𝓤 (r1 ≡ placeAfter ((p1 .bytes) .now) (p1 .at) p2)))) $ heard ! (r1 ≡ placeAfter ((p1 .bytes) .now) (p1 .at) p2) (λ e1. split ! $ move ! (1 ∷ []) $ peeks ! usize (Is usize) (shows 𝓤 H A usize) r1 (u1 ∷ []) (λ j1.
+        split ! $ move ! (1 ∷ []) $ use1 W (raw (fact 𝓤 (r1 ≡ positionAfter ((p1 .bytes) .now) (p1 .at) p2))) (exE 𝓤 _ (λ ws. snd∗ 𝓤 (sem 𝓤 H A (lasts onward.ended (κ, tt) ((p1 .bytes), ((p1 .at), (p2, tt))) ws)) (fact 𝓤 (r1 ≡ positionAfter ((p1 .bytes) .now) (p1 .at) p2)))) $ heard ! (r1 ≡ positionAfter ((p1 .bytes) .now) (p1 .at) p2) (λ e1. split ! $ move ! (1 ∷ []) $ peeks ! usize (Is usize) (shows 𝓤 H A usize) r1 (u1 ∷ []) (λ j1.
         land ! (from ! (stop !)) (init ! 10 refl (uint-lawful 𝓤 H A W w64 .typed r1 _ j1 .0)) $ rewrite ! 10 (λ (y : Val). ‵ (fat fullShare ((tyInt w64)) l3 0 y)) (ap only (j1 .0)) refl $ drop ! $
         assigns ! (of-opd ! (load ! (from ! (fld ! refl (stop !))) (look-in ! 13 (sub ! 0 refl (whole !))))) (from ! (stop !)) (init ! 3 refl (shr-slice-lawful 𝓤 H A W (named 0) κ u8 .typed (p1 .bytes) _ (LL.owed (T.the-type α) (T′.the-laws α) p1 _ i1 .0) .0)) $
         assigns ! (agg ! (and-then ! (load ! (from ! (stop !)) (look ! 3 refl)) (and-then ! (load ! (from ! (stop !)) (look ! 9 refl)) (no-more !)))) (from ! (stop !)) (init ! 15 refl (LL.lawful (T.the-type α) (T′.the-laws α) 𝓤 H A W .typed (the Reader (record { bytes = (p1 .bytes); at = r1 })) _ (LL.owes (T.the-type α) (T′.the-laws α) (the Reader (record { bytes = (p1 .bytes); at = r1 })) ((LL.owed (T.the-type α) (T′.the-laws α) p1 _ i1 .0), ((refl, j1 .1), tt))) .0)) $

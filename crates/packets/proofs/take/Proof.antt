@@ -39,7 +39,7 @@ use denote.Triple.Walked.{says, needs, Stays, stay-none, walkOf, goes-none, Walk
 use denote.Exit.{yes}
 use denote.Triple.Clauses.{ensured, lasts}
 use Prim.Native.Nat.{_≤_}
-use Rattle.protocol.specs.Packet.{field}
+use Rattle.protocol.specs.Packet.{numberAt}
 use Rattle.packets.specs.declared.Reader.{Reader}
 use Rattle.packets.proofs.Reader as T
 use Rattle.packets.proofs.Reader.Laws as T′
@@ -56,7 +56,7 @@ abbrev the : (X : Type 0) → X → X
 the X x = x
 
 -- what the function says, of what its calls say
-claims : (p1 : Reader) (p2 : ℕ) (pre : p2 ≤ 8) (r1 : ℕ) (e1 : (r1 ≡ field ((p1 .bytes) .now) (p1 .at) p2) × (r1 < 256 ^ p2)) → (r1 ≡ field (p1 .bytes .now) (p1 .at) p2) × (r1 < 256 ^ p2)
+claims : (p1 : Reader) (p2 : ℕ) (pre : p2 ≤ 8) (r1 : ℕ) (e1 : (r1 ≡ numberAt ((p1 .bytes) .now) (p1 .at) p2) × (r1 < 256 ^ p2)) → (r1 ≡ numberAt (p1 .bytes .now) (p1 .at) p2) × (r1 < 256 ^ p2)
 claims p1 p2 pre r1 e1 = e1
 
 abbrev stayed : Stays (take.ended .signature .params) (take.ended .kept)
@@ -95,7 +95,7 @@ module _ {M : Type 1} (𝓤 : URA M) (H : Heap 𝓤) (A : Atoms 𝓤) (W : Given
         nothing ! $ owned ! usize (Is usize) (uint-makes 𝓤 H A W w64) p2 ((vint w64 p2) ∷ []) i2 $ fjoin ! $ owned ! usize (Is usize) (uint-makes 𝓤 H A W w64) (p1 .at) ((vint w64 (p1 .at)) ∷ []) (LL.owed (T.the-type α) (T′.the-laws α) p1 _ i1 .1 .0) $ fjoin ! $ move ! (2 ∷ []) $ use1 W (‵ ((T.the-row α) .own p1 ((LL.val (T.the-type α) (T′.the-laws α) p1) ∷ [])) ⊛ ‵ ((T.the-row α) .own p1 ((LL.val (T.the-type α) (T′.the-laws α) p1) ∷ []))) ((LL.copy (T.the-type α) (T′.the-copy α) 𝓤 H A W) .twice p1 ((LL.val (T.the-type α) (T′.the-laws α) p1) ∷ [])) $ split ! $ use1 W (given ((LL.val (T.the-type α) (T′.the-laws α) p1) ∷ [] ≡ (LL.val (T.the-type α) (T′.the-laws α) p1) ∷ []) (‵ (all-own (T.the-type α .parts) (T′.the-laws α) (p1 .bytes, (p1 .at, tt))))) (own-open 𝓤 H A W (T.the-type α) (T′.the-laws α) (p1 .bytes, (p1 .at, tt)) (LL.val (T.the-type α) (T′.the-laws α) p1)) $ learn ! (λ _. use1 W (‵ (ownAt (T.the-type α .parts) (T′.the-laws α) 0 (p1 .bytes)) ⊛ ‵ (rest (T.the-type α .parts) (T′.the-laws α) 0 (p1 .bytes, (p1 .at, tt)))) (own-out 𝓤 H A W (T.the-type α .parts) (T′.the-laws α) 0 (p1 .bytes, (p1 .at, tt))) $ split ! $ move ! (1 ∷ []) $ drop ! $ move ! (0 ∷ 2 ∷ []) $ fjoin ! $ move ! (13 ∷ 0 ∷ []) $ use2 W (raw (number-at·spec 𝓤 H A mem run .pre (((κ, tt), (q, tt), tt, ((p1 .bytes), ((p1 .at), (p2, tt))), (((sliceVal ((p1 .bytes) .ptr) (length ((p1 .bytes) .now))) ∷ []), (((vint w64 (p1 .at)) ∷ []), (((vint w64 p2) ∷ []), tt)))), tt))) (qed W ((‵ (flft κ q) ⊛ ‵ ftrue) ∷ ‵ (owns ((ShrSlice (named 0) κ u8) ∷ usize ∷ usize ∷ []) ((p1 .bytes), ((p1 .at), (p2, tt))) (((sliceVal ((p1 .bytes) .ptr) (length ((p1 .bytes) .now))) ∷ []), (((vint w64 (p1 .at)) ∷ []), (((vint w64 p2) ∷ []), tt)))) ∷ []) ∵ says ! (pre) $ frame ! $ done !) $
         calls-at ! fm (number-at·spec 𝓤 H A mem run) known-number-at (((κ, tt), (q, tt), tt, ((p1 .bytes), ((p1 .at), (p2, tt))), (((sliceVal ((p1 .bytes) .ptr) (length ((p1 .bytes) .now))) ∷ []), (((vint w64 (p1 .at)) ∷ []), (((vint w64 p2) ∷ []), tt)))), tt) (and-then ! (load ! (from ! (stop !)) (look ! 5 refl)) (and-then ! (load ! (from ! (stop !)) (look ! 3 refl)) (and-then ! (load ! (from ! (stop !)) (look ! 7 refl)) (no-more !)))) (λ u1.
         use1 W (later (some (λ (r1 : ℕ). ((‵ (flft κ q) ⊛ ‵ ftrue) ⊛ ‵ (u64 .own r1 (u1 ∷ []))) ⊛ raw (ensured 𝓤 H A number-at.ended (number-at.clauses 𝓤 H A mem run) (κ, tt) ((p1 .bytes), ((p1 .at), (p2, tt))) tt r1)))) (id⊢ 𝓤 _) $ await ! tt $ pick ! (λ r1.
-        split ! $ move ! (1 ∷ []) $ use1 W (raw (fact 𝓤 ((r1 ≡ field ((p1 .bytes) .now) (p1 .at) p2) × (r1 < 256 ^ p2)))) (exE 𝓤 _ (λ ws. snd∗ 𝓤 (sem 𝓤 H A (lasts number-at.ended (κ, tt) ((p1 .bytes), ((p1 .at), (p2, tt))) ws)) (fact 𝓤 ((r1 ≡ field ((p1 .bytes) .now) (p1 .at) p2) × (r1 < 256 ^ p2))))) $ heard ! ((r1 ≡ field ((p1 .bytes) .now) (p1 .at) p2) × (r1 < 256 ^ p2)) (λ e1. split ! $ move ! (1 ∷ []) $ peeks ! u64 (Is u64) (shows 𝓤 H A u64) r1 (u1 ∷ []) (λ j1.
+        split ! $ move ! (1 ∷ []) $ use1 W (raw (fact 𝓤 ((r1 ≡ numberAt ((p1 .bytes) .now) (p1 .at) p2) × (r1 < 256 ^ p2)))) (exE 𝓤 _ (λ ws. snd∗ 𝓤 (sem 𝓤 H A (lasts number-at.ended (κ, tt) ((p1 .bytes), ((p1 .at), (p2, tt))) ws)) (fact 𝓤 ((r1 ≡ numberAt ((p1 .bytes) .now) (p1 .at) p2) × (r1 < 256 ^ p2))))) $ heard ! ((r1 ≡ numberAt ((p1 .bytes) .now) (p1 .at) p2) × (r1 < 256 ^ p2)) (λ e1. split ! $ move ! (1 ∷ []) $ peeks ! u64 (Is u64) (shows 𝓤 H A u64) r1 (u1 ∷ []) (λ j1.
         land ! (from ! (stop !)) (init ! 12 refl (uint-lawful 𝓤 H A W w64 .typed r1 _ j1 .0)) $ rewrite ! 12 (λ (y : Val). ‵ (fat fullShare ((tyInt w64)) l0 0 y)) (ap only (j1 .0)) refl $ drop ! $
         returns ! (look ! 11 refl) $ forget ! 3 refl $ forget ! 5 refl $ forget ! 7 refl $ forget ! 9 refl $ forget ! 11 refl $
         move ! (11 ∷ 12 ∷ []) $ free1 ! $ move ! (9 ∷ 10 ∷ []) $ free1 ! $ move ! (7 ∷ 8 ∷ []) $ free1 ! $ move ! (5 ∷ 6 ∷ []) $ free1 ! $ move ! (3 ∷ 4 ∷ []) $ free1 ! $ free0 ! $

@@ -40,7 +40,7 @@ use denote.Exit.{yes}
 use denote.Triple.Clauses.{ensured, lasts}
 use lib.ListN.{drop as dropped}
 use Rattle.protocol.specs.Words.{blockOf}
-use Rattle.protocol.specs.Packet.{blockAt, widthOf}
+use Rattle.protocol.specs.Packet.{readBlock, widthOf}
 use Rattle.packets.specs.declared.Reader.{Reader}
 use Rattle.packets.proofs.Reader as T
 use Rattle.packets.proofs.Reader.Laws as T′
@@ -60,7 +60,7 @@ abbrev the : (X : Type 0) → X → X
 the X x = x
 
 -- what the function says, of what its calls say
-claims : (p1 : Reader) (p2 : ℕ) (r1 : Block) (e1 : blockOf r1 ≡ blockAt (widthOf p2) (dropped (p1 .at) ((p1 .bytes) .now))) → blockOf r1 ≡ blockAt (widthOf p2) (dropped (p1 .at) (p1 .bytes .now))
+claims : (p1 : Reader) (p2 : ℕ) (r1 : Block) (e1 : blockOf r1 ≡ readBlock (widthOf p2) (dropped (p1 .at) ((p1 .bytes) .now))) → blockOf r1 ≡ readBlock (widthOf p2) (dropped (p1 .at) (p1 .bytes .now))
 claims p1 p2 r1 e1 = e1
 
 abbrev stayed : Stays (take-block.ended .signature .params) (take-block.ended .kept)
@@ -99,7 +99,7 @@ module _ {M : Type 1} (𝓤 : URA M) (H : Heap 𝓤) (A : Atoms 𝓤) (W : Given
         nothing ! $ owned ! u64 (Is u64) (uint-makes 𝓤 H A W w64) p2 ((vint w64 p2) ∷ []) i2 $ fjoin ! $ owned ! usize (Is usize) (uint-makes 𝓤 H A W w64) (p1 .at) ((vint w64 (p1 .at)) ∷ []) (LL.owed (T.the-type α) (T′.the-laws α) p1 _ i1 .1 .0) $ fjoin ! $ move ! (2 ∷ []) $ use1 W (‵ ((T.the-row α) .own p1 ((LL.val (T.the-type α) (T′.the-laws α) p1) ∷ [])) ⊛ ‵ ((T.the-row α) .own p1 ((LL.val (T.the-type α) (T′.the-laws α) p1) ∷ []))) ((LL.copy (T.the-type α) (T′.the-copy α) 𝓤 H A W) .twice p1 ((LL.val (T.the-type α) (T′.the-laws α) p1) ∷ [])) $ split ! $ use1 W (given ((LL.val (T.the-type α) (T′.the-laws α) p1) ∷ [] ≡ (LL.val (T.the-type α) (T′.the-laws α) p1) ∷ []) (‵ (all-own (T.the-type α .parts) (T′.the-laws α) (p1 .bytes, (p1 .at, tt))))) (own-open 𝓤 H A W (T.the-type α) (T′.the-laws α) (p1 .bytes, (p1 .at, tt)) (LL.val (T.the-type α) (T′.the-laws α) p1)) $ learn ! (λ _. use1 W (‵ (ownAt (T.the-type α .parts) (T′.the-laws α) 0 (p1 .bytes)) ⊛ ‵ (rest (T.the-type α .parts) (T′.the-laws α) 0 (p1 .bytes, (p1 .at, tt)))) (own-out 𝓤 H A W (T.the-type α .parts) (T′.the-laws α) 0 (p1 .bytes, (p1 .at, tt))) $ split ! $ move ! (1 ∷ []) $ drop ! $ move ! (0 ∷ 2 ∷ []) $ fjoin ! $ move ! (13 ∷ 0 ∷ []) $ use2 W (raw (block-in·spec 𝓤 H A mem run .pre (((κ, tt), (q, tt), tt, ((p1 .bytes), ((p1 .at), (p2, tt))), (((sliceVal ((p1 .bytes) .ptr) (length ((p1 .bytes) .now))) ∷ []), (((vint w64 (p1 .at)) ∷ []), (((vint w64 p2) ∷ []), tt)))), tt))) (qed W ((‵ (flft κ q) ⊛ ‵ ftrue) ∷ ‵ (owns ((ShrSlice (named 0) κ u8) ∷ usize ∷ u64 ∷ []) ((p1 .bytes), ((p1 .at), (p2, tt))) (((sliceVal ((p1 .bytes) .ptr) (length ((p1 .bytes) .now))) ∷ []), (((vint w64 (p1 .at)) ∷ []), (((vint w64 p2) ∷ []), tt)))) ∷ []) ∵ join ! $ frame ! $ done !) $
         calls-at ! fm (block-in·spec 𝓤 H A mem run) known-block-in (((κ, tt), (q, tt), tt, ((p1 .bytes), ((p1 .at), (p2, tt))), (((sliceVal ((p1 .bytes) .ptr) (length ((p1 .bytes) .now))) ∷ []), (((vint w64 (p1 .at)) ∷ []), (((vint w64 p2) ∷ []), tt)))), tt) (and-then ! (load ! (from ! (stop !)) (look ! 5 refl)) (and-then ! (load ! (from ! (stop !)) (look ! 3 refl)) (and-then ! (load ! (from ! (stop !)) (look ! 7 refl)) (no-more !)))) (λ u1.
         use1 W (later (some (λ (r1 : Block). ((‵ (flft κ q) ⊛ ‵ ftrue) ⊛ ‵ (S·Block.the-row .own r1 (u1 ∷ []))) ⊛ raw (ensured 𝓤 H A block-in.ended (block-in.clauses 𝓤 H A mem run) (κ, tt) ((p1 .bytes), ((p1 .at), (p2, tt))) tt r1)))) (id⊢ 𝓤 _) $ await ! tt $ pick ! (λ r1.
-        split ! $ move ! (1 ∷ []) $ use1 W (raw (fact 𝓤 (blockOf r1 ≡ blockAt (widthOf p2) (dropped (p1 .at) ((p1 .bytes) .now))))) (exE 𝓤 _ (λ ws. snd∗ 𝓤 (sem 𝓤 H A (lasts block-in.ended (κ, tt) ((p1 .bytes), ((p1 .at), (p2, tt))) ws)) (fact 𝓤 (blockOf r1 ≡ blockAt (widthOf p2) (dropped (p1 .at) ((p1 .bytes) .now)))))) $ heard ! (blockOf r1 ≡ blockAt (widthOf p2) (dropped (p1 .at) ((p1 .bytes) .now))) (λ e1. split ! $ move ! (1 ∷ []) $ peeks ! S·Block.the-row (Is S·Block.the-row) (shows 𝓤 H A S·Block.the-row) r1 (u1 ∷ []) (λ j1.
+        split ! $ move ! (1 ∷ []) $ use1 W (raw (fact 𝓤 (blockOf r1 ≡ readBlock (widthOf p2) (dropped (p1 .at) ((p1 .bytes) .now))))) (exE 𝓤 _ (λ ws. snd∗ 𝓤 (sem 𝓤 H A (lasts block-in.ended (κ, tt) ((p1 .bytes), ((p1 .at), (p2, tt))) ws)) (fact 𝓤 (blockOf r1 ≡ readBlock (widthOf p2) (dropped (p1 .at) ((p1 .bytes) .now)))))) $ heard ! (blockOf r1 ≡ readBlock (widthOf p2) (dropped (p1 .at) ((p1 .bytes) .now))) (λ e1. split ! $ move ! (1 ∷ []) $ peeks ! S·Block.the-row (Is S·Block.the-row) (shows 𝓤 H A S·Block.the-row) r1 (u1 ∷ []) (λ j1.
         land ! (from ! (stop !)) (init ! 12 refl (LL.lawful S·Block.the-type S·Block′.the-laws 𝓤 H A W .typed r1 _ j1 .0)) $ rewrite ! 12 (λ (y : Val). ‵ (fat fullShare (S·Block′.mir) l0 0 y)) (ap only (LL.tells S·Block.the-type S·Block′.the-laws r1 (u1 ∷ []) j1)) refl $ drop ! $
         returns ! (look ! 11 refl) $ forget ! 3 refl $ forget ! 5 refl $ forget ! 7 refl $ forget ! 9 refl $ forget ! 11 refl $
         move ! (11 ∷ 12 ∷ []) $ free1 ! $ move ! (9 ∷ 10 ∷ []) $ free1 ! $ move ! (7 ∷ 8 ∷ []) $ free1 ! $ move ! (5 ∷ 6 ∷ []) $ free1 ! $ move ! (3 ∷ 4 ∷ []) $ free1 ! $ free0 ! $

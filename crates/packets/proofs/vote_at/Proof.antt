@@ -4,7 +4,7 @@ use mathlib.Core.Path.{_≡_, ap, _∙_}
 use native.Mathlib.Nat.{mul-le-mul}
 use native.Mathlib.Omega.{arith}
 use borrow.Author.Needs.{needs}
-use Rattle.protocol.specs.Packet.{field, voteWidth, afterBlocks, blocksIn, widthOf, widthIn}
+use Rattle.protocol.specs.Packet.{numberAt, voteWidth, afterBlocks, countOfBlocks, widthOf, widthIn}
 use Rattle.protocol.proofs.Packet.Numbers.{bytes-by-index}
 use Rattle.protocol.proofs.Packet.Bytes.{read-fits}
 use Rattle.packets.specs.Header.{noVote}
@@ -43,8 +43,8 @@ returns c =
     let kind : widthOf (k .number-at .result) ≡ widthIn bs = ap widthOf (k .number-at .ensures .0) in
     let wide : 8 + u .upper-bytes .result ≡ widthIn bs = u .upper-bytes .ensures .0 ∙ kind in
     let h : 13 + u .upper-bytes .result ≡ 5 + widthIn bs = omega (arith, wide) in
-    let count : n .number-at2 .result ≡ blocksIn (widthIn bs) bs = n .number-at2 .ensures .0 ∙ ap (λ (j : ℕ). field bs j 2) h in
-    let behind : p .behind-blocks .result ≡ afterBlocks (widthIn bs) (blocksIn (widthIn bs) bs) = p .behind-blocks .ensures .0 ∙ (λ i. afterBlocks (wide i) (count i)) in
+    let count : n .number-at2 .result ≡ countOfBlocks (widthIn bs) bs = n .number-at2 .ensures .0 ∙ ap (λ (j : ℕ). numberAt bs j 2) h in
+    let behind : p .behind-blocks .result ≡ afterBlocks (widthIn bs) (countOfBlocks (widthIn bs) bs) = p .behind-blocks .ensures .0 ∙ (λ i. afterBlocks (wide i) (count i)) in
     let bytes : v .vote-bytes .result ≡ voteWidth (widthIn bs) = v .vote-bytes .ensures .0 ∙ ap voteWidth wide in
     rw kind at (c .vote-from .ensures) ∙ vote-there bs (s .args .i) _ noVote (λ i. behind i + 2 + bytes i * s .args .i) (s .pre)
 

@@ -12,12 +12,12 @@ use borrow.Author.Tests.{lt-ltb, le-leb, le-ltb}
 use Rattle.protocol.specs.Entry.{Block, Vote}
 use Rattle.protocol.specs.declared.Settings.{Settings}
 use Rattle.protocol.specs.Limits.{maxSlot, limitsOf}
-use Rattle.protocol.specs.Chain.{genesis, Found, found, missing, find, foundWith}
+use Rattle.protocol.specs.Chain.{genesis, Lookup, found, missing, find, foundWith}
 use Rattle.protocol.specs.Store.{entries, keptFrom, Places, Node}
 use Rattle.protocol.specs.Sound.{between, sound}
 use Rattle.protocol.specs.Packet.{Packet, packetOf, wellFormed}
 use Rattle.protocol.specs.Refusal.{by, first, done, pass, refuse, unless}
-use Rattle.protocol.specs.Calls.Receive.{knownAs, addBlock, addBlocks, blockAllowed, firstBadBlock, blocksAfter, votesAfter, headerAllowed, brings, receivedOf, receiveInto, receiveTests, receive}
+use Rattle.protocol.specs.Calls.Receive.{knownAs, addBlock, addBlocks, blockAllowed, firstBadBlock, blocksAfter, votesAfter, headerAllowed, viewedAtOnce, receiveAnswer, receiveInto, receiveTests, receive}
 use Rattle.protocol.specs.Calls.Write.{afterGenesis}
 use Rattle.protocol.proofs.Basics.Tests.{both, and-left, and-right}
 use Rattle.protocol.proofs.Chain.Find.{find-in}
@@ -43,7 +43,7 @@ module _ (F : Block → Type 0) (one : (c d : Block) → F c → F d → c .numb
       both (both (le-leb 1 (b .slot) (omega (arith, p .3))) (le-leb (b .slot) later (omega (arith, w .early))))
       (both k (same (find known (b .number)) refl))
     where
-      same : (o : Found) → find known (b .number) ≡ o → knownAs b o ≡ true
+      same : (o : Lookup) → find known (b .number) ≡ o → knownAs b o ≡ true
       same missing q = refl
       same (found c) q = let i = find-in known (b .number) c q in same-block c b (one c b (g c (i .0)) h (i .1))
 
@@ -52,7 +52,7 @@ module _ (F : Block → Type 0) (one : (c d : Block) → F c → F d → c .numb
   unfolding addBlock foundWith
   add-has known b g h = go (find known (b .number)) refl
     where
-      go : (o : Found) → find known (b .number) ≡ o → In b (cond (foundWith (λ c. true) o) known (known ++ (b ∷ [])))
+      go : (o : Lookup) → find known (b .number) ≡ o → In b (cond (foundWith (λ c. true) o) known (known ++ (b ∷ [])))
       go missing q = Memᴰ·append-right known (List·Memᴰ·head refl)
       go (found c) q = let i = find-in known (b .number) c q in rw (sym (one c b (g c (i .0)) h (i .1))) (i .0)
 
@@ -119,8 +119,8 @@ module _ (s : Settings) (pl : Places) (y : Node) (beat : ℕ) (bytes : List ℕ)
 
   pub accepted : limitsOf (s .profile) .tooLong (length bytes) ≡ false → length (blocksAfter y p) ≤ pl .blocks → length (votesAfter (keptFrom s (y .clock .merged)) y p) ≤ pl .votes
       → receive s pl y beat bytes ≡ record {
-        reply = done (receivedOf (keptFrom s (y .clock .merged)) y beat p);
-        node = receiveInto (keptFrom s (y .clock .merged)) (brings y beat p) beat y p;
+        answer = done (receiveAnswer (keptFrom s (y .clock .merged)) y beat p);
+        node = receiveInto (keptFrom s (y .clock .merged)) (viewedAtOnce y beat p) beat y p;
       }
   unfolding receive unless
   accepted short b v = rw (verdict, short, le-ltb (pl .blocks) (length (blocksAfter y p)) b, le-ltb (pl .votes) (length (votesAfter (keptFrom s (y .clock .merged)) y p)) v, e)

@@ -15,7 +15,7 @@ use Rattle.protocol.specs.Limits.{maxSlot, limitsOf}
 use Rattle.protocol.specs.Store.{entries, keptFrom, Places, Node}
 use Rattle.protocol.specs.Packet.{Packet, packetOf, wellFormed}
 use Rattle.protocol.specs.Refusal.{Refusal, by, pass, refuse, refused, done, first}
-use Rattle.protocol.specs.Calls.Receive.{blocksAfter, votesAfter, brings, receivedOf, receiveInto, receiveTests, receive}
+use Rattle.protocol.specs.Calls.Receive.{blocksAfter, votesAfter, viewedAtOnce, receiveAnswer, receiveInto, receiveTests, receive}
 use Rattle.protocol.specs.Calls.Write.{gossipOf, proposalOf, sentOf, proposedNow, packetOut, write}
 use Rattle.protocol.specs.RoundTrip.{NumbersBelow}
 use Rattle.protocol.proofs.Basics.Tests.{either}
@@ -38,7 +38,7 @@ pub record Meet (s : Settings) (x : Node) (s' : Settings) (pl' : Places) (y : No
   pub within : beat / 3 ≤ maxSlot
   pub agree : Agree (entries (y .blocks)) (entries (x .blocks))
 
-module _ (s : Settings) (pl : Places) (x : Node) (proposal : Bool) (width : Width) (buffer : List ℕ) (n : ℕ) (d : write s pl x proposal width buffer .reply ≡ done n)
+module _ (s : Settings) (pl : Places) (x : Node) (proposal : Bool) (width : Width) (buffer : List ℕ) (n : ℕ) (d : write s pl x proposal width buffer .answer ≡ done n)
     (s' : Settings) (pl' : Places) (y : Node) (beat : ℕ) (M : Meet s x s' pl' y beat) where
   -- the bytes that were written, and the packet that they are
   abbrev bytes : List ℕ
@@ -84,8 +84,8 @@ module _ (s : Settings) (pl : Places) (x : Node) (proposal : Bool) (width : Widt
 
   pub sent-accepted : long ≡ false → length (blocksAfter y sent) ≤ pl' .blocks → length (votesAfter (keptFrom s' (y .clock .merged)) y sent) ≤ pl' .votes
       → receive s' pl' y beat bytes ≡ record {
-        reply = done (receivedOf (keptFrom s' (y .clock .merged)) y beat sent);
-        node = receiveInto (keptFrom s' (y .clock .merged)) (brings y beat sent) beat y sent;
+        answer = done (receiveAnswer (keptFrom s' (y .clock .merged)) y beat sent);
+        node = receiveInto (keptFrom s' (y .clock .merged)) (viewedAtOnce y beat sent) beat y sent;
       }
   sent-accepted short =
       accepted s' pl' y beat bytes sent (ap packetOf (W .bytes) ∙ read) (sound-holds (M .good)) (M .receiver) (M .within)
@@ -95,7 +95,7 @@ module _ (s : Settings) (pl : Places) (x : Node) (proposal : Bool) (width : Widt
   abbrev Short : Type 0
   Short = (pl' .blocks < length (blocksAfter y sent)) ⊎ (pl' .votes < length (votesAfter (keptFrom s' (y .clock .merged)) y sent))
 
-  pub sent-refused : (k : Refusal) → receive s' pl' y beat bytes .reply ≡ refused k → ((k ≡ by 24) × (long ≡ true)) ⊎ ((k ≡ by 10) × Short)
+  pub sent-refused : (k : Refusal) → receive s' pl' y beat bytes .answer ≡ refused k → ((k ≡ by 24) × (long ≡ true)) ⊎ ((k ≡ by 10) × Short)
   unfolding receive
   sent-refused k e = go long (lacking s' pl' y sent) refl refl (sym sent-verdict ∙ unless-refused (first (receiveTests s' pl' y beat bytes)) y _ _ k e .0)
     where

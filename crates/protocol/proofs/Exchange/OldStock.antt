@@ -12,7 +12,7 @@ use Rattle.protocol.specs.declared.Settings.{Settings}
 use Rattle.protocol.specs.declared.Width.the-variants.{Narrow, Wide}
 use Rattle.protocol.specs.Entry.{Block, Vote}
 use Rattle.protocol.specs.Words.{upperOf, isWide}
-use Rattle.protocol.specs.Lists.{any}
+use Rattle.protocol.specs.Lists.{anyPass}
 use Rattle.protocol.specs.Store.{entries, Places, Node}
 use Rattle.protocol.specs.Sound.{sound}
 use Rattle.protocol.specs.Packet.{Packet}
@@ -38,7 +38,7 @@ is-narrow : (n : ℕ) → n < 2 ^ 64 → isWide n ≡ false
 unfolding isWide upperOf
 is-narrow n h = ap not (eq-eqb (n / 2 ^ 64) 0 (omega arith))
 
-no-other : {A : Type 0} (p : A → Bool) (xs : List A) → ((a : A) → List·Memᴰ a xs → p a ≡ false) → any p xs ≡ false
+no-other : {A : Type 0} (p : A → Bool) (xs : List A) → ((a : A) → List·Memᴰ a xs → p a ≡ false) → anyPass p xs ≡ false
 no-other p xs h = not-passes (λ e. let r = any-true p xs e in clashing (r .2) (h (r .0) (r .1)))
 
 none-wide : (p : Packet) → FieldsFit 8 p → hasWide p ≡ false
@@ -59,7 +59,7 @@ same-gossip x y b v = λ i. record { kind = 0; slot = 0; number = 0; blocks = af
 
 module _ (s : Settings) (p : Places) (x : Node) (S : sound s p x ≡ true) (buffer : List ℕ) where
   pub narrow-written : tooWide Narrow (sentOf false Narrow x) ≡ false → length (packetOut false Narrow x) ≤ length buffer
-      → write s p x false Narrow buffer ≡ record { reply = done (length (packetOut false Narrow x)); buffer = over (packetOut false Narrow x) buffer }
+      → write s p x false Narrow buffer ≡ record { answer = done (length (packetOut false Narrow x)); buffer = over (packetOut false Narrow x) buffer }
   unfolding write writeUnless
   narrow-written n room =
       let v : first (writeTests s p x false Narrow buffer) ≡ pass

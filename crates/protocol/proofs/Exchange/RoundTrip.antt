@@ -12,11 +12,11 @@ use Rattle.protocol.specs.Entry.{Block, Vote}
 use Rattle.protocol.specs.declared.Settings.{Settings}
 use Rattle.protocol.specs.declared.Width.{Width}
 use Rattle.protocol.specs.declared.Width.the-variants.{Narrow, Wide}
-use Rattle.protocol.specs.Lists.{any}
+use Rattle.protocol.specs.Lists.{anyPass}
 use Rattle.protocol.specs.Chain.{genesis, find, foundWith}
-use Rattle.protocol.specs.Store.{entries, allWaiting, visible, sameVote, keptFrom, Places, Node, fresh}
+use Rattle.protocol.specs.Store.{entries, allWaiting, inView, sameVote, keptFrom, Places, Node, fresh}
 use Rattle.protocol.specs.Refusal.{done}
-use Rattle.protocol.specs.Calls.Receive.{blocksAfter, votesAfter, brings, receivedOf, receiveInto, receive}
+use Rattle.protocol.specs.Calls.Receive.{blocksAfter, votesAfter, viewedAtOnce, receiveAnswer, receiveInto, receive}
 use Rattle.protocol.specs.Calls.Write.{afterGenesis, gossipOf, sentOf, write}
 use Rattle.protocol.specs.RoundTrip.{copyOf, RoundTrip}
 use Rattle.protocol.proofs.Basics.Tests.{facts, and-left, and-right, clashing, not-passes}
@@ -28,7 +28,7 @@ use Rattle.protocol.proofs.Store.Since.{since-zero}
 use Rattle.protocol.proofs.Store.Sound.{IsSound, fresh-sound, store-sound}
 use Rattle.protocol.proofs.Store.Follow.{blockFollows, allFollow}
 use Rattle.protocol.proofs.Basics.Members.{any-true, any-holds}
-use Rattle.protocol.proofs.Store.Views.{vote-same, same-vote, show-none, length-entries, entries-waiting}
+use Rattle.protocol.proofs.Store.Views.{vote-same, same-vote, viewing-none, length-entries, entries-waiting}
 use Rattle.protocol.proofs.Calls.Open.{opened, open-settings, open-places}
 use Rattle.protocol.proofs.Calls.Received.{blocks-after, votes-after}
 use Rattle.protocol.proofs.Calls.Write.{wrote}
@@ -47,19 +47,19 @@ follow-new slot old (b ∷ bs) h =
     new : blockFollows slot old b ≡ true → foundWith (λ c. true) (find old (b .number)) ≡ false
     new e = not-true (foundWith (λ c. true) (find old (b .number))) (unfold blockFollows in (search facts))
 
-distinct-new : (old vs : List Vote) → ((a : Vote) → Cast a vs → any (sameVote a) old ≡ false) → distinct vs ≡ true → newVotesOf old vs ≡ vs
+distinct-new : (old vs : List Vote) → ((a : Vote) → Cast a vs → anyPass (sameVote a) old ≡ false) → distinct vs ≡ true → newVotesOf old vs ≡ vs
 unfolding newOf apart
 distinct-new old [] h d = refl
 distinct-new old (a ∷ vs) h d =
     rw (h a (List·Memᴰ·head refl))
     (ap (λ l. a ∷ l) (distinct-new (old ++ (a ∷ [])) vs (λ c m. not-passes (λ e. let r = any-true (sameVote c) (old ++ (a ∷ [])) e in apart c m (r .0) (List·Memᴰ·append-cases old (r .1)) (r .2)))
-    (and-right (not (any (sameVote a) vs)) _ d)))
+    (and-right (not (anyPass (sameVote a) vs)) _ d)))
   where
     apart : (c : Vote) → Cast c vs → (b : Vote) → Cast b old ⊎ Cast b (a ∷ []) → sameVote c b ≡ true → ⊥
     apart c m b (inl k) e = clashing (any-holds (sameVote c) b k e) (h c (List·Memᴰ·tail m))
     apart c m b (inr k) e =
         clashing (any-holds (sameVote a) c m (same-vote a c (sym (vote-same c b e ∙ List·Memᴰ·eq-of-singleton k))))
-        (not-true (any (sameVote a) vs) (and-left (not (any (sameVote a) vs)) _ d))
+        (not-true (anyPass (sameVote a) vs) (and-left (not (anyPass (sameVote a) vs)) _ d))
 
 -- a fresh node knows block 0 only
 fresh-agrees : (bs : List Block) → Sound bs → Agree (entries (fresh .blocks)) bs
@@ -70,10 +70,10 @@ fresh-agrees bs S c d m k q =
 
 -- ---- the gossip of a sound node, at any beat from the one seen on
 
-brings-none : (beat : ℕ) (width : Width) (x : Node) → brings fresh beat (gossipOf width x) ≡ false
-unfolding brings gossipOf
-brings-none beat Narrow x = refl
-brings-none beat Wide x = refl
+viewed-at-once-none : (beat : ℕ) (width : Width) (x : Node) → viewedAtOnce fresh beat (gossipOf width x) ≡ false
+unfolding viewedAtOnce gossipOf
+viewed-at-once-none beat Narrow x = refl
+viewed-at-once-none beat Wide x = refl
 
 -- a fresh node has merged nothing, so to it no vote is old
 module _ {s : Settings} {pl : Places} {x : Node} (G : IsSound s pl x) (width : Width) (from : ℕ) (z : from ≡ 0) where
@@ -84,7 +84,7 @@ module _ {s : Settings} {pl : Places} {x : Node} (G : IsSound s pl x) (width : W
       blocks-after fresh (gossipOf width x) ∙ ap (λ l. genesis ∷ l) (follow-new (x .clock .seen / 3) (genesis ∷ []) (afterGenesis (entries (x .blocks))) (D .follow)) ∙ sym (D .root)
 
   all-votes : votesAfter from fresh (gossipOf width x) ≡ entries (x .votes)
-  unfolding gossipOf entries any
+  unfolding gossipOf entries anyPass
   all-votes =
       votes-after fresh (gossipOf width x) from ∙ ap (newVotesOf []) (since-zero from z (entries (x .votes)))
       ∙ distinct-new [] (entries (x .votes)) (λ a m. refl) (G .apart)
@@ -92,18 +92,18 @@ module _ {s : Settings} {pl : Places} {x : Node} (G : IsSound s pl x) (width : W
   into : receiveInto from false (x .clock .seen) fresh (gossipOf width x) ≡ copyOf x
   unfolding receiveInto gossipOf
   into =
-      let b = show-none (λ a. false) (λ a. refl) (visible genesis ∷ allWaiting (drop 1 (blocksAfter fresh (gossipOf width x)))) in
-      let c = ap (λ bs. visible genesis ∷ allWaiting (drop 1 bs)) (all-blocks ∙ store-sendable G .root) in
-      let v = show-none (λ a. false) (λ a. refl) (allWaiting (votesAfter from fresh (gossipOf width x))) in
+      let b = viewing-none (λ a. false) (λ a. refl) (inView genesis ∷ allWaiting (drop 1 (blocksAfter fresh (gossipOf width x)))) in
+      let c = ap (λ bs. inView genesis ∷ allWaiting (drop 1 bs)) (all-blocks ∙ store-sendable G .root) in
+      let v = viewing-none (λ a. false) (λ a. refl) (allWaiting (votesAfter from fresh (gossipOf width x))) in
       let w = ap allWaiting all-votes in
       λ i. record { blocks = (b ∙ c) i; votes = (v ∙ w) i; clock = copyOf x .clock }
 
-  gossip-into : receiveInto from (brings fresh (x .clock .seen) (gossipOf width x)) (x .clock .seen) fresh (gossipOf width x) ≡ copyOf x
-  gossip-into = ap (λ b. receiveInto from b (x .clock .seen) fresh (gossipOf width x)) (brings-none (x .clock .seen) width x) ∙ into
+  gossip-into : receiveInto from (viewedAtOnce fresh (x .clock .seen) (gossipOf width x)) (x .clock .seen) fresh (gossipOf width x) ≡ copyOf x
+  gossip-into = ap (λ b. receiveInto from b (x .clock .seen) fresh (gossipOf width x)) (viewed-at-once-none (x .clock .seen) width x) ∙ into
 
 -- the receiver may have another index, another period and depth, and other places
 pub gossip-carries-the-store : RoundTrip
-unfolding RoundTrip entries receivedOf sentOf
+unfolding RoundTrip entries receiveAnswer sentOf
 gossip-carries-the-store s p x N width buffer n e s' p' old o same rb rv short =
     let G = wrote s p x false width buffer n e .good in
     let beat = x .clock .seen in
@@ -124,7 +124,7 @@ gossip-carries-the-store s p x N width buffer n e s' p' old o same rb rv short =
       (λ i. receive s' p' (opened s' p' old o i) beat (take n (write s p x false width buffer .buffer)))
           ∙ sent-accepted s p x false width buffer n e s' p' fresh beat M short (omega (arith, a, rb)) (omega (arith, c, rv))
           ∙ λ i. record {
-            reply = done (record { newBlocks = a i - 1; newVotes = d i; brought = brings-none beat width x i });
+            answer = done (record { newBlocks = a i - 1; newVotes = d i; viewed = viewed-at-once-none beat width x i });
             node = gossip-into G width from z i;
           },
       ap {B = List Block} (λ l. genesis ∷ l) (entries-waiting (afterGenesis (entries (x .blocks)))) ∙ sym (store-sendable G .root),

@@ -12,11 +12,11 @@ use Rattle.protocol.specs.Entry.{Block}
 use Rattle.protocol.specs.declared.Settings.{Settings}
 use Rattle.protocol.specs.declared.Width.{Width}
 use Rattle.protocol.specs.declared.Width.the-variants.{Narrow, Wide}
-use Rattle.protocol.specs.Lists.{any}
+use Rattle.protocol.specs.Lists.{anyPass}
 use Rattle.protocol.specs.Words.{upperOf, isWide}
 use Rattle.protocol.specs.Limits.{maxSlot}
 use Rattle.protocol.specs.Chain.{genesis}
-use Rattle.protocol.specs.Store.{entries, inView, Places, Node}
+use Rattle.protocol.specs.Store.{entries, viewOf, Places, Node}
 use Rattle.protocol.specs.Packet.{Packet, headerFormed}
 use Rattle.protocol.specs.Calls.Receive.{headerAllowed}
 use Rattle.protocol.specs.Calls.Write.{afterGenesis, lastBlock, bytesIn, kindOf, gossipOf, proposalOf, sentOf, hasWide, tooWide, proposedNow}
@@ -37,13 +37,13 @@ not-wide : (n : ℕ) → isWide n ≡ false → n < 2 ^ 64
 unfolding isWide upperOf
 not-wide n e = let z : n / 2 ^ 64 ≡ 0 = eqb-true (n / 2 ^ 64) 0 (not-false _ e) in omega arith
 
-none-passes : {A : Type 0} (p : A → Bool) {xs : List A} → any p xs ≡ false → (a : A) → List·Memᴰ a xs → p a ≡ false
+none-passes : {A : Type 0} (p : A → Bool) {xs : List A} → anyPass p xs ≡ false → (a : A) → List·Memᴰ a xs → p a ≡ false
 none-passes p h a m = not-passes (λ e. clashing (any-holds p a m e) h)
 
 narrow-below : (p : Packet) → hasWide p ≡ false → (b : Block) → In b (p .blocks) → b .number < 2 ^ 64
 unfolding hasWide
 narrow-below p h b m =
-    let t = neither (any (λ c. isWide (c .number) || isWide (c .parent)) (p .blocks)) _ (neither (isWide (p .number)) _ h .1) in
+    let t = neither (anyPass (λ c. isWide (c .number) || isWide (c .parent)) (p .blocks)) _ (neither (isWide (p .number)) _ h .1) in
     not-wide (b .number) (neither (isWide (b .number)) _ (none-passes (λ c. isWide (c .number) || isWide (c .parent)) (t .0) b m) .0)
 
 -- ---- what fits
@@ -76,18 +76,18 @@ module _ {s : Settings} {pl : Places} {x : Node} (G : IsSound s pl x) where
   -- ---- the proposal
 
   abbrev tip : Block
-  tip = lastBlock (inView (x .blocks))
+  tip = lastBlock (viewOf (x .blocks))
 
-  tip-fits : (w : ℕ) → Below (256 ^ w) (inView (x .blocks)) → (tip .slot < 2 ^ 32) × (tip .number < 256 ^ w)
+  tip-fits : (w : ℕ) → Below (256 ^ w) (viewOf (x .blocks)) → (tip .slot < 2 ^ 32) × (tip .number < 256 ^ w)
   tip-fits w N =
-      let root : In genesis (inView (x .blocks)) = rw (view-sendable G .root) (List·Memᴰ·head refl) in
+      let root : In genesis (viewOf (x .blocks)) = rw (view-sendable G .root) (List·Memᴰ·head refl) in
       ⊎-elim (λ e. rw e (slotted genesis (store-sound G .start), N genesis root)) (λ m. (slotted tip (view-stored (x .blocks) tip m), N tip m))
-      (last-in (inView (x .blocks)))
+      (last-in (viewOf (x .blocks)))
     where
       slotted : (b : Block) → In b (entries (x .blocks)) → b .slot < 2 ^ 32
       slotted b m = omega (arith, slot-seen G b m, G .time .limited)
 
-  proposal-fits : (w : ℕ) (width : Width) → Below (256 ^ w) (inView (x .blocks)) → FieldsFit w (proposalOf width x)
+  proposal-fits : (w : ℕ) (width : Width) → Below (256 ^ w) (viewOf (x .blocks)) → FieldsFit w (proposalOf width x)
   unfolding proposalOf
   proposal-fits w width N =
       let r = places-few (s .profile) pl (G .places) in
@@ -95,7 +95,7 @@ module _ {s : Settings} {pl : Places} {x : Node} (G : IsSound s pl x) where
       sendable-fits (view-sendable G) w (ranges s (G .settings) .few) (G .time .limited) N (kindOf true width) (tip .slot) (tip .number) (kind-byte true width) (f .0) (f .1)
       (omega (arith, view-length (x .blocks), G .fit-blocks)) (omega (arith, view-length (x .votes), G .fit-votes))
 
-  pub proposal-in-range : (width : Width) → Below (256 ^ bytesIn width) (inView (x .blocks)) → InRange (proposalOf width x)
+  pub proposal-in-range : (width : Width) → Below (256 ^ bytesIn width) (viewOf (x .blocks)) → InRange (proposalOf width x)
   unfolding proposalOf headerFormed
   proposal-in-range Narrow N = record { fits = proposal-fits 8 Narrow N; headerFormed = refl }
   proposal-in-range Wide N = record { fits = proposal-fits 16 Wide N; headerFormed = refl }
@@ -107,7 +107,7 @@ module _ {s : Settings} {pl : Places} {x : Node} (G : IsSound s pl x) where
   store-below Wide N h = N
   store-below Narrow N h = λ b m. ⊎-elim (λ e. rw e (omega arith)) (λ n. narrow-below (gossipOf Narrow x) h b n) (sent-cases (store-sendable G) b m)
 
-  view-below : (width : Width) → NumbersBelow (2 ^ 128) x → tooWide width (proposalOf width x) ≡ false → Below (256 ^ bytesIn width) (inView (x .blocks))
+  view-below : (width : Width) → NumbersBelow (2 ^ 128) x → tooWide width (proposalOf width x) ≡ false → Below (256 ^ bytesIn width) (viewOf (x .blocks))
   unfolding NumbersBelow tooWide proposalOf
   view-below Wide N h = λ b m. N b (view-stored (x .blocks) b m)
   view-below Narrow N h = λ b m. ⊎-elim (λ e. rw e (omega arith)) (λ n. narrow-below (proposalOf Narrow x) h b n) (sent-cases (view-sendable G) b m)
@@ -119,8 +119,8 @@ module _ {s : Settings} {pl : Places} {x : Node} (G : IsSound s pl x) where
   sent-in-range true width N h = proposal-in-range width (view-below width N h)
 
   module _ (now : proposedNow s x ≡ true) where
-    tip-in : In tip (afterGenesis (inView (x .blocks)))
-    tip-in = ⊎-elim (λ e. absurd (late e)) (λ m. ⊎-elim (λ e. absurd (late e)) (λ n. n) (sent-cases (view-sendable G) tip m)) (last-in (inView (x .blocks)))
+    tip-in : In tip (afterGenesis (viewOf (x .blocks)))
+    tip-in = ⊎-elim (λ e. absurd (late e)) (λ m. ⊎-elim (λ e. absurd (late e)) (λ n. n) (sent-cases (view-sendable G) tip m)) (last-in (viewOf (x .blocks)))
       where
         r : IsProposer s x
         r = proposer-true s x now
@@ -128,7 +128,7 @@ module _ {s : Settings} {pl : Places} {x : Node} (G : IsSound s pl x) where
         late : tip ≡ genesis → ⊥
         late e = omega (arith, ap (λ o. o .slot) e, r .last, r .now, r .phase, G .time .merged-done)
 
-    in-header : any (λ b. eqb (b .number) (tip .number) && eqb (b .slot) (tip .slot)) (afterGenesis (inView (x .blocks))) ≡ true
+    in-header : anyPass (λ b. eqb (b .number) (tip .number) && eqb (b .slot) (tip .slot)) (afterGenesis (viewOf (x .blocks))) ≡ true
     in-header =
         any-holds (λ b. eqb (b .number) (tip .number) && eqb (b .slot) (tip .slot)) tip tip-in
         (both (eq-eqb (tip .number) (tip .number) refl) (eq-eqb (tip .slot) (tip .slot) refl))
@@ -149,8 +149,8 @@ module _ {s : Settings} {pl : Places} {x : Node} (G : IsSound s pl x) {s' : Sett
   gossip-welcome Wide = welcome (store-sendable G) (beat / 3) (omega arith) y (store-sound R) A 2 0 0 refl
 
   module _ (now : proposedNow s x ≡ true) where
-    pub proposal-welcome : (width : Width) → Welcome (s .nodes) (beat / 3) y (inView (x .blocks)) (proposalOf width x)
+    pub proposal-welcome : (width : Width) → Welcome (s .nodes) (beat / 3) y (viewOf (x .blocks)) (proposalOf width x)
     unfolding proposalOf
     proposal-welcome width =
         welcome (view-sendable G) (beat / 3) (omega arith) y (store-sound R) (λ c d m n. A c d m (view-stored (x .blocks) d n))
-        (kindOf true width) (lastBlock (inView (x .blocks)) .slot) (lastBlock (inView (x .blocks)) .number) (proposal-header G now width)
+        (kindOf true width) (lastBlock (viewOf (x .blocks)) .slot) (lastBlock (viewOf (x .blocks)) .number) (proposal-header G now width)

@@ -12,7 +12,7 @@ use Rattle.protocol.specs.Limits.{limitsOf}
 use Rattle.protocol.specs.Store.{entries, keptFrom, Places, Node}
 use Rattle.protocol.specs.Packet.{Packet, packetBytes, packetOf, headerFormed, wellFormed}
 use Rattle.protocol.specs.Refusal.{Test, test, testSection, first, Outcome, unless, unsound, wrongBeat}
-use Rattle.protocol.specs.Calls.Receive.{headerAllowed, blocksAfter, votesAfter, firstBadBlock, firstBadVote, brings, stoodOn, Received, receivedOf, receiveInto, receiveTests, receive}
+use Rattle.protocol.specs.Calls.Receive.{headerAllowed, blocksAfter, votesAfter, firstBadBlock, firstBadVote, viewedAtOnce, stoodOn, Received, receiveAnswer, receiveInto, receiveTests, receive}
 use Rattle.protocol.specs.RoundTrip.{WidthUnseen}
 use Rattle.protocol.proofs.Packet.Ranges.{BlockFits, VoteFits, FieldsFit, InRange}
 use Rattle.protocol.proofs.Packet.Numbers.{bytes-by-index, each-holds, each-true}
@@ -59,7 +59,7 @@ module _ (s : Settings) (pl : Places) (x : Node) (beat : ℕ) where
       ∷ []
 
   taken : Packet → Outcome Received
-  taken p = unless (first (tests p)) x (receivedOf (keptFrom s (x .clock .merged)) x beat p) (receiveInto (keptFrom s (x .clock .merged)) (brings x beat p) beat x p)
+  taken p = unless (first (tests p)) x (receiveAnswer (keptFrom s (x .clock .merged)) x beat p) (receiveInto (keptFrom s (x .clock .merged)) (viewedAtOnce x beat p) beat x p)
 
   read-as : (bytes : List ℕ) (p : Packet) → packetOf bytes ≡ p → Short bytes → wellFormed bytes ≡ true → receive s pl x beat bytes ≡ taken p
   unfolding receive receiveTests taken tests
@@ -67,11 +67,11 @@ module _ (s : Settings) (pl : Places) (x : Node) (beat : ℕ) where
 
   -- gossip is gossip, and a proposal a proposal
   gossip-alike : (q : Packet) → taken (ofKind 0 q) ≡ taken (ofKind 2 q)
-  unfolding taken tests headerAllowed blocksAfter votesAfter brings stoodOn receivedOf receiveInto
+  unfolding taken tests headerAllowed blocksAfter votesAfter viewedAtOnce stoodOn receiveAnswer receiveInto
   gossip-alike q = refl
 
   proposal-alike : (q : Packet) → taken (ofKind 1 q) ≡ taken (ofKind 3 q)
-  unfolding taken tests headerAllowed blocksAfter votesAfter brings stoodOn receivedOf receiveInto
+  unfolding taken tests headerAllowed blocksAfter votesAfter viewedAtOnce stoodOn receiveAnswer receiveInto
   proposal-alike q = refl
 
   -- written in either width, it is read back

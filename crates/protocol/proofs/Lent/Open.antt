@@ -9,13 +9,13 @@ use Rattle.protocol.specs.declared.Settings.{Settings}
 use Rattle.protocol.specs.Limits.{limitsOf}
 use Rattle.protocol.specs.Store.{fresh}
 use Rattle.protocol.specs.Sound.{between, placesSound}
-use Rattle.protocol.specs.Refusal.{Refusal, first, Verdict, pass, refuse, refused, done, unless, answer}
+use Rattle.protocol.specs.Refusal.{Refusal, first, Verdict, pass, refuse, refused, done, unless, answerUnless}
 use Rattle.protocol.specs.Calls.Open.{openTests, openNode}
 use Rattle.protocol.specs.Lent.{Lent, rowsOf, wordsOf, blockRow, placesIn, placesOf, nodeOf, marksSound, lentSound, cleared, openVerdict, openLent, blockWords, voteWords}
 use Rattle.protocol.proofs.Basics.Tests.{facts}
 use Rattle.protocol.proofs.Store.Sound.{fresh-sound, sound-holds}
 use Rattle.protocol.proofs.Calls.Passed.{Opens, opens}
-use Rattle.protocol.proofs.Calls.Refusal.{answer-done, answer-refused, unless-reply}
+use Rattle.protocol.proofs.Calls.Refusal.{answer-done, answer-refused, unless-answer}
 use Rattle.protocol.proofs.Lent.Rows.{block-codec, rows-words, marks-words, blocks-fit, places-same}
 use Rattle.protocol.proofs.Lent.Memory.{lent-holds}
 
@@ -77,26 +77,26 @@ module _ (s : Settings) (m : Lent) where
 
 -- ---- the call
 
-open-reply : (v : Verdict) (m : Lent) → openVerdict v m .reply ≡ answer v tt
-unfolding openVerdict answer
-open-reply pass m = refl
-open-reply (refuse k) m = refl
+open-answer : (v : Verdict) (m : Lent) → openVerdict v m .answer ≡ answerUnless v tt
+unfolding openVerdict answerUnless
+open-answer pass m = refl
+open-answer (refuse k) m = refl
 
 module _ (s : Settings) (m : Lent) where
-  pub open-lent : openLent s m .reply ≡ done tt → OpenedLent s m (openLent s m .lent)
+  pub open-lent : openLent s m .answer ≡ done tt → OpenedLent s m (openLent s m .lent)
   unfolding openLent openVerdict
   open-lent d =
-      let p = answer-done (first (openTests s (placesOf m))) tt tt (sym (open-reply (first (openTests s (placesOf m))) m) ∙ d) in
+      let p = answer-done (first (openTests s (placesOf m))) tt tt (sym (open-answer (first (openTests s (placesOf m))) m) ∙ d) in
       rw (p .0) (opened-lent s m (opens s (placesOf m) (p .0)))
 
-  pub open-lent-refused : (k : Refusal) → openLent s m .reply ≡ refused k → openLent s m .lent ≡ m
+  pub open-lent-refused : (k : Refusal) → openLent s m .answer ≡ refused k → openLent s m .lent ≡ m
   unfolding openLent openVerdict
-  open-lent-refused k d = rw (answer-refused (first (openTests s (placesOf m))) tt k (sym (open-reply (first (openTests s (placesOf m))) m) ∙ d))
+  open-lent-refused k d = rw (answer-refused (first (openTests s (placesOf m))) tt k (sym (open-answer (first (openTests s (placesOf m))) m) ∙ d))
 
   -- as Open on the node that it holds
-  pub open-lent-reply : openLent s m .reply ≡ openNode s (placesOf m) (nodeOf m) .reply
+  pub open-lent-answer : openLent s m .answer ≡ openNode s (placesOf m) (nodeOf m) .answer
   unfolding openLent openNode
-  open-lent-reply = open-reply (first (openTests s (placesOf m))) m ∙ sym (unless-reply (first (openTests s (placesOf m))) (nodeOf m) tt fresh)
+  open-lent-answer = open-answer (first (openTests s (placesOf m))) m ∙ sym (unless-answer (first (openTests s (placesOf m))) (nodeOf m) tt fresh)
 
   pub open-lent-node : nodeOf (openLent s m .lent) ≡ openNode s (placesOf m) (nodeOf m) .node
   unfolding openLent openNode

@@ -5,7 +5,7 @@ use mathlib.Core.Path.{_≡_, ap, _∙_}
 use mathlib.Core.List.{List, _∷_, _++_}
 use native.Mathlib.Nat.{pow-succ', mul-assoc}
 use native.Mathlib.Omega.{arith}
-use Rattle.protocol.specs.Words.{join}
+use Rattle.protocol.specs.Words.{fromHalves}
 use Rattle.protocol.specs.Packet.{bytesOf}
 
 bytes-part : (k h a b : ℕ) → a < 256 ^ k → bytesOf (k + h) (a + 256 ^ k * b) ≡ bytesOf k a ++ bytesOf h b
@@ -22,6 +22,6 @@ bytes-part (suc k) h a b l =
     let m : a / 256 < 256 ^ k = omega (arith, pow-succ' 256 k) in
     rw (e, low, high) (ap (λ (t : List ℕ). a % 256 ∷ t) (bytes-part k h (a / 256) b m))
 
-pub bytes-halves : (h a b : ℕ) → a < 2 ^ 64 → bytesOf (8 + h) (join a b) ≡ bytesOf 8 a ++ bytesOf h b
-unfolding join
+pub bytes-halves : (h a b : ℕ) → a < 2 ^ 64 → bytesOf (8 + h) (fromHalves a b) ≡ bytesOf 8 a ++ bytesOf h b
+unfolding fromHalves
 bytes-halves h a b l = bytes-part 8 h a b l

@@ -21,7 +21,7 @@ use Rattle.protocol.specs.Calls.Vote.{headOf, voteTests, vote}
 use Rattle.protocol.specs.Calls.Merge.{mergeTests, merge}
 use Rattle.protocol.specs.Calls.Query.{queryTests, deepOf, fastOf, headQuery, deepQuery, fastQuery}
 use Rattle.protocol.specs.Calls.Write.{proposedNow, writeTests, write}
-use Rattle.protocol.specs.CallList.{Call, Receive, Propose, Vote, Merge, made, said, received, named, merged, refusedBy, meets, after, meetsNone}
+use Rattle.protocol.specs.CallList.{Call, Receive, Propose, Vote, Merge, afterCall, callAnswer, received, named, merged, refusedBy, meets, afterCalls, meetsNone}
 use Rattle.protocol.specs.Rack.{asLoom, byRoom, RackAsLoom}
 use Rattle.protocol.proofs.Basics.Tests.{and-left, and-right, neither}
 use Rattle.protocol.proofs.Store.Sound.{sound-true, sound-holds}
@@ -32,7 +32,7 @@ use Rattle.protocol.proofs.Rack.Milder.{Milder, end, same, less, milder
 -- a loom that was opened, and a node that is sound with other limits and no more places
 pub record Roomier (s : Settings) (pl pl' : Places) : Type 0 where
   pub old : Node
-  pub opened : openNode (asLoom s) pl' old .reply ≡ done tt
+  pub opened : openNode (asLoom s) pl' old .answer ≡ done tt
   pub blocks : pl .blocks ≤ pl' .blocks
   pub votes : pl .votes ≤ pl' .votes
 
@@ -91,35 +91,35 @@ module _ {s : Settings} {pl pl' : Places} (R : Roomier s pl pl') (x : Node) (S :
 
   -- ---- each call on both
 
-  pub receive-same : (beat : ℕ) (bytes : List ℕ) → refusedBy byRoom (receive s pl x beat bytes .reply) ≡ false → receive s pl x beat bytes ≡ receive (asLoom s) pl' x beat bytes
+  pub receive-same : (beat : ℕ) (bytes : List ℕ) → refusedBy byRoom (receive s pl x beat bytes .answer) ≡ false → receive s pl x beat bytes ≡ receive (asLoom s) pl' x beat bytes
   unfolding receive
   receive-same beat bytes w = rw (milder byRoom (receive-less beat bytes) (not-by byRoom _ x _ _ w))
 
-  pub propose-same : (beat number : ℕ) → refusedBy byRoom (propose s pl x beat number .reply) ≡ false → propose s pl x beat number ≡ propose (asLoom s) pl' x beat number
+  pub propose-same : (beat number : ℕ) → refusedBy byRoom (propose s pl x beat number .answer) ≡ false → propose s pl x beat number ≡ propose (asLoom s) pl' x beat number
   unfolding propose baseOf
   propose-same beat number w = rw (milder byRoom (propose-less beat number) (not-by byRoom _ x _ _ w))
 
-  pub vote-same : (beat : ℕ) → refusedBy byRoom (vote s pl x beat .reply) ≡ false → vote s pl x beat ≡ vote (asLoom s) pl' x beat
+  pub vote-same : (beat : ℕ) → refusedBy byRoom (vote s pl x beat .answer) ≡ false → vote s pl x beat ≡ vote (asLoom s) pl' x beat
   unfolding vote headOf
   vote-same beat w = rw (milder byRoom (vote-less beat) (not-by byRoom _ x _ _ w))
 
-  pub merge-same : (beat : ℕ) → refusedBy byRoom (merge s pl x beat .reply) ≡ false → merge s pl x beat ≡ merge (asLoom s) pl' x beat
+  pub merge-same : (beat : ℕ) → refusedBy byRoom (merge s pl x beat .answer) ≡ false → merge s pl x beat ≡ merge (asLoom s) pl' x beat
   unfolding merge
   merge-same beat w = rw (milder byRoom (merge-less beat) (not-by byRoom _ x _ _ w))
 
-  pub made-same : (c : Call) → meets byRoom s pl x c ≡ false → made s pl x c ≡ made (asLoom s) pl' x c
-  unfolding made meets
+  pub made-same : (c : Call) → meets byRoom s pl x c ≡ false → afterCall s pl x c ≡ afterCall (asLoom s) pl' x c
+  unfolding afterCall meets
   made-same (Receive beat bytes) w = ap (λ o. o .node) (receive-same beat bytes w)
   made-same (Propose beat number) w = ap (λ o. o .node) (propose-same beat number w)
   made-same (Vote beat) w = ap (λ o. o .node) (vote-same beat w)
   made-same (Merge beat) w = ap (λ o. o .node) (merge-same beat w)
 
-  pub said-same : (c : Call) → meets byRoom s pl x c ≡ false → said s pl x c ≡ said (asLoom s) pl' x c
-  unfolding said meets
-  said-same (Receive beat bytes) w = ap (λ o. received (o .reply)) (receive-same beat bytes w)
-  said-same (Propose beat number) w = ap (λ o. named (o .reply)) (propose-same beat number w)
-  said-same (Vote beat) w = ap (λ o. named (o .reply)) (vote-same beat w)
-  said-same (Merge beat) w = ap (λ o. merged (o .reply)) (merge-same beat w)
+  pub call-answer-same : (c : Call) → meets byRoom s pl x c ≡ false → callAnswer s pl x c ≡ callAnswer (asLoom s) pl' x c
+  unfolding callAnswer meets
+  call-answer-same (Receive beat bytes) w = ap (λ o. received (o .answer)) (receive-same beat bytes w)
+  call-answer-same (Propose beat number) w = ap (λ o. named (o .answer)) (propose-same beat number w)
+  call-answer-same (Vote beat) w = ap (λ o. named (o .answer)) (vote-same beat w)
+  call-answer-same (Merge beat) w = ap (λ o. merged (o .answer)) (merge-same beat w)
 
   -- ---- questions and Write, which never want for room
 
@@ -146,13 +146,13 @@ module _ {s : Settings} {pl pl' : Places} (R : Roomier s pl pl') (x : Node) (S :
 -- ---- over every list of calls
 
 after-same : {s : Settings} {pl pl' : Places} (R : Roomier s pl pl') (x : Node) → sound s pl x ≡ true → (cs : List Call) → meetsNone byRoom s pl x cs ≡ true
-    → (after s pl x cs ≡ after (asLoom s) pl' x cs) × (sound s pl (after s pl x cs) ≡ true)
-unfolding after meetsNone
+    → (afterCalls s pl x cs ≡ afterCalls (asLoom s) pl' x cs) × (sound s pl (afterCalls s pl x cs) ≡ true)
+unfolding afterCalls meetsNone
 after-same R x S [] n = (refl, S)
 after-same {s} {pl} {pl'} R x S (c ∷ cs) n =
     let w = not-true (meets byRoom s pl x c) (and-left (not (meets byRoom s pl x c)) _ n) in
-    let r = after-same R (made s pl x c) (made-sound s pl x S c) cs (and-right (not (meets byRoom s pl x c)) _ n) in
-    (r .0 ∙ ap (λ (z : Node). after (asLoom s) pl' z cs) (made-same R x S c w), r .1)
+    let r = after-same R (afterCall s pl x c) (made-sound s pl x S c) cs (and-right (not (meets byRoom s pl x c)) _ n) in
+    (r .0 ∙ ap (λ (z : Node). afterCalls (asLoom s) pl' z cs) (made-same R x S c w), r .1)
 
 pub rack-as-loom : RackAsLoom
 unfolding RackAsLoom
@@ -161,5 +161,5 @@ rack-as-loom s pl pl' old old' d d' hb hv cs n =
     let e' = opened (asLoom s) pl' old' d' in
     let R : Roomier s pl pl' = record { old = old'; opened = d'; blocks = hb; votes = hv } in
     let r = after-same R fresh (rw e at (open-sound s pl old d)) cs (rw e at n) in
-    let x = after s pl fresh cs in
-    rw (e, e', ← r .0) (refl, said-same R x (r .1), head-same R x (r .1), deep-same R x (r .1), fast-same R x (r .1), write-same R x (r .1))
+    let x = afterCalls s pl fresh cs in
+    rw (e, e', ← r .0) (refl, call-answer-same R x (r .1), head-same R x (r .1), deep-same R x (r .1), fast-same R x (r .1), write-same R x (r .1))

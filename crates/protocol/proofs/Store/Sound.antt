@@ -14,9 +14,9 @@ use Rattle.protocol.specs.declared.Clock.{Clock}
 use Rattle.protocol.specs.declared.Profile.{Profile}
 use Rattle.protocol.specs.declared.Settings.{Settings}
 use Rattle.protocol.specs.Limits.{maxSlot, loom, limitsOf}
-use Rattle.protocol.specs.Lists.{any}
+use Rattle.protocol.specs.Lists.{anyPass}
 use Rattle.protocol.specs.Chain.{genesis, find, foundWith}
-use Rattle.protocol.specs.Store.{Marked, entries, inView, sameVote, Places, Node, fresh}
+use Rattle.protocol.specs.Store.{Marked, entries, viewOf, sameVote, Places, Node, fresh}
 use Rattle.protocol.specs.Sound.{between, blocksSound, voteSound, votesSound, settingsSound, placesSound, clockSound, sound}
 use Rattle.protocol.specs.Calls.Receive.{voteAllowed}
 use Rattle.protocol.proofs.Limits.{within-loom}
@@ -95,8 +95,8 @@ pub record IsSound (s : Settings) (pl : Places) (x : Node) : Type 0 where
   pub blocks : Table (x .clock .seen / 3) (x .blocks)
   pub votes : (a : Vote) → Cast a (entries (x .votes)) → VoteSound (s .nodes) (x .clock .seen / 3) (entries (x .blocks)) a
   pub apart : distinct (entries (x .votes)) ≡ true
-  pub closed-blocks : (c : Block) → In c (inView (x .blocks)) → Known (inView (x .blocks)) (c .parent)
-  pub closed-votes : (a : Vote) → Cast a (inView (x .votes)) → Known (inView (x .blocks)) (a .number)
+  pub closed-blocks : (c : Block) → In c (viewOf (x .blocks)) → Known (viewOf (x .blocks)) (c .parent)
+  pub closed-votes : (a : Vote) → Cast a (viewOf (x .votes)) → Known (viewOf (x .blocks)) (a .number)
 
 time-true : (c : Clock) → clockSound c ≡ true → ClockSound c
 unfolding clockSound
@@ -112,16 +112,16 @@ time-holds c t =
 pub record VotesSound (n slot : ℕ) (bs : List (Marked Block)) (ms : List (Marked Vote)) : Type 0 where
   pub each : (a : Vote) → Cast a (entries ms) → VoteSound n slot (entries bs) a
   pub apart : distinct (entries ms) ≡ true
-  pub closed : (a : Vote) → Cast a (inView ms) → Known (inView bs) (a .number)
+  pub closed : (a : Vote) → Cast a (viewOf ms) → Known (viewOf bs) (a .number)
 
 votes-true : (n slot : ℕ) (bs : List (Marked Block)) (ms : List (Marked Vote)) → votesSound n slot bs ms ≡ true → VotesSound n slot bs ms
 unfolding votesSound entries apart
-votes-true n slot bs [] e = unfold inView in (record { each = λ a m. absurd (List·Memᴰ·not-nil m); apart = refl; closed = λ a m. absurd (List·Memᴰ·not-nil m) })
+votes-true n slot bs [] e = unfold viewOf in (record { each = λ a m. absurd (List·Memᴰ·not-nil m); apart = refl; closed = λ a m. absurd (List·Memᴰ·not-nil m) })
 votes-true n slot bs (m ∷ ms) e =
-    let V0 = votes-true n slot bs ms (and-right (not (any (sameVote (m .entry)) (entries ms))) _ (and-right (voteSound n slot bs m) _ e)) in
+    let V0 = votes-true n slot bs ms (and-right (not (anyPass (sameVote (m .entry)) (entries ms))) _ (and-right (voteSound n slot bs m) _ e)) in
     record {
       each = λ a k. each V0 a (List·Memᴰ·cases-cons k);
-      apart = both (and-left (not (any (sameVote (m .entry)) (entries ms))) _ (and-right (voteSound n slot bs m) _ e)) (V0 .apart);
+      apart = both (and-left (not (anyPass (sameVote (m .entry)) (entries ms))) _ (and-right (voteSound n slot bs m) _ e)) (V0 .apart);
       closed = λ a k. closed V0 a (view-cases m ms a k);
     }
   where
@@ -136,13 +136,13 @@ votes-true n slot bs (m ∷ ms) e =
             both x (both y z))
     each o a (inr k) = o .each a k
 
-    seen : m .shown ≡ true → Known (inView bs) (m .entry .number)
+    seen : m .viewed ≡ true → Known (viewOf bs) (m .entry .number)
     seen s = unfold voteSound in (
         let h : voteSound n slot bs m ≡ true = and-left (voteSound n slot bs m) _ e in
-        let q : (not (m .shown) || foundWith (λ b. true) (find (inView bs) (m .entry .number))) ≡ true = search facts in
-        known-found (inView bs) (m .entry .number) (rw s at q))
+        let q : (not (m .viewed) || foundWith (λ b. true) (find (viewOf bs) (m .entry .number))) ≡ true = search facts in
+        known-found (viewOf bs) (m .entry .number) (rw s at q))
 
-    closed : VotesSound n slot bs ms → (a : Vote) → ((a ≡ m .entry) × (m .shown ≡ true)) ⊎ Cast a (inView ms) → Known (inView bs) (a .number)
+    closed : VotesSound n slot bs ms → (a : Vote) → ((a ≡ m .entry) × (m .viewed ≡ true)) ⊎ Cast a (viewOf ms) → Known (viewOf bs) (a .number)
     closed o a (inl q) = rw (q .0) (seen (q .1))
     closed o a (inr k) = o .closed a k
 
@@ -150,12 +150,12 @@ pub votes-holds : (n slot : ℕ) (bs : List (Marked Block)) → Sound (entries b
 unfolding votesSound entries apart
 votes-holds n slot bs S [] o = refl
 votes-holds n slot bs S (m ∷ ms) o =
-    both one (both (and-left (not (any (sameVote (m .entry)) (entries ms))) _ (o .apart))
-    (votes-holds n slot bs S ms (record { each = λ a k. o .each a (List·Memᴰ·tail k); apart = and-right (not (any (sameVote (m .entry)) (entries ms))) _ (o .apart); closed = λ a k. o .closed a (view-there m ms a k) })))
+    both one (both (and-left (not (anyPass (sameVote (m .entry)) (entries ms))) _ (o .apart))
+    (votes-holds n slot bs S ms (record { each = λ a k. o .each a (List·Memᴰ·tail k); apart = and-right (not (anyPass (sameVote (m .entry)) (entries ms))) _ (o .apart); closed = λ a k. o .closed a (view-there m ms a k) })))
   where
-    mark : (t : Bool) → m .shown ≡ t → (not t || foundWith (λ b. true) (find (inView bs) (m .entry .number))) ≡ true
+    mark : (t : Bool) → m .viewed ≡ t → (not t || foundWith (λ b. true) (find (viewOf bs) (m .entry .number))) ≡ true
     mark false s = refl
-    mark true s = found-known (inView bs) (m .entry .number) (o .closed (m .entry) (view-here m ms (m .entry) refl s))
+    mark true s = found-known (viewOf bs) (m .entry .number) (o .closed (m .entry) (view-here m ms (m .entry) refl s))
 
     one : voteSound n slot bs m ≡ true
     one = unfold voteSound voteAllowed in (
@@ -163,7 +163,7 @@ votes-holds n slot bs S (m ∷ ms) o =
         let x : ltb (m .entry .voter) n ≡ true = search facts in
         let y : between 1 slot (m .entry .slot) ≡ true = search facts in
         let z : foundWith (λ b. leb (b .slot) (m .entry .slot)) (find (entries bs) (m .entry .number)) ≡ true = search facts in
-        both x (both y (both z (mark (m .shown) refl))))
+        both x (both y (both z (mark (m .viewed) refl))))
 
 module _ (s : Settings) (pl : Places) (x : Node) where
   pub sound-true : sound s pl x ≡ true → IsSound s pl x
@@ -191,10 +191,10 @@ module _ {s : Settings} {pl : Places} {x : Node} (G : IsSound s pl x) where
   pub store-sound : Sound (entries (x .blocks))
   store-sound = table-sound (G .blocks)
 
-  pub start-shown : In genesis (inView (x .blocks))
-  start-shown = G .blocks .shown
+  pub start-viewed : In genesis (viewOf (x .blocks))
+  start-viewed = G .blocks .viewed
 
-  pub view-sound : Sound (inView (x .blocks))
+  pub view-sound : Sound (viewOf (x .blocks))
   view-sound = closed-sound (G .blocks) (G .closed-blocks)
 
   pub sound-votes : VotesSound (s .nodes) (x .clock .seen / 3) (x .blocks) (x .votes)
@@ -212,7 +212,7 @@ module _ {s : Settings} {pl : Places} {x : Node} (G : IsSound s pl x) where
 
 -- a fresh node is sound
 pub fresh-sound : (s : Settings) (pl : Places) → settingsSound s ≡ true → placesSound (limitsOf (s .profile)) pl ≡ true → IsSound s pl fresh
-unfolding placesSound between entries inView allFollow apart
+unfolding placesSound between entries viewOf allFollow apart
 fresh-sound s pl a b =
     let x : 1 ≤ pl .blocks = search facts in
     record {
@@ -221,7 +221,7 @@ fresh-sound s pl a b =
       fit-blocks = omega arith;
       fit-votes = omega arith;
       time = record { limited = omega arith; done-seen = omega arith; merged-done = omega arith; proposed-seen = omega arith };
-      blocks = record { rest = []; is = refl; follow = refl; shown = List·Memᴰ·head refl };
+      blocks = record { rest = []; is = refl; follow = refl; viewed = List·Memᴰ·head refl };
       votes = λ v m. absurd (List·Memᴰ·not-nil m);
       apart = refl;
       closed-blocks = λ c m. (genesis, List·Memᴰ·head refl, ap (λ o. o .parent) (sym (List·Memᴰ·eq-of-singleton m)));

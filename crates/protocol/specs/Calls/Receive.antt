@@ -7,9 +7,9 @@ use lib.Dec.{eqb, leb, ltb}
 use Rattle.protocol.specs.declared.Settings.{Settings}
 use Rattle.protocol.specs.Entry.{Block, Vote}
 use Rattle.protocol.specs.Limits.{limitsOf}
-use Rattle.protocol.specs.Lists.{any, filter}
-use Rattle.protocol.specs.Chain.{Found, found, missing, find, foundWith, known, above}
-use Rattle.protocol.specs.Store.{entries, allWaiting, show, sameBlock, sameVote, keptFrom, since, Places, Node}
+use Rattle.protocol.specs.Lists.{anyPass, passing}
+use Rattle.protocol.specs.Chain.{Lookup, found, missing, find, foundWith, known, above}
+use Rattle.protocol.specs.Store.{entries, allWaiting, view, sameBlock, sameVote, keptFrom, since, Places, Node}
 use Rattle.protocol.specs.Sound.{between}
 use Rattle.protocol.specs.Packet.{Packet, isProposal, packetOf, wellFormed}
 use Rattle.protocol.specs.Refusal.{Test, test, testSection, first, Outcome, unless, unsound, wrongBeat}
@@ -24,7 +24,7 @@ addBlocks bs [] = bs
 addBlocks bs (c ∷ cs) = addBlocks (addBlock bs c) cs
 
 unfoldable pub addVote : List Vote → Vote → List Vote
-addVote vs a = cond (any (sameVote a) vs) vs (vs ++ (a ∷ []))
+addVote vs a = cond (anyPass (sameVote a) vs) vs (vs ++ (a ∷ []))
 
 unfoldable pub addVotes : List Vote → List Vote → List Vote
 addVotes vs [] = vs
@@ -32,7 +32,7 @@ addVotes vs (a ∷ rest) = addVotes (addVote vs a) rest
 
 -- an old vote, of a slot below `from`, is left out
 abbrev pub addSince : ℕ → List Vote → List Vote → List Vote
-addSince from vs new = addVotes vs (filter (since from) new)
+addSince from vs new = addVotes vs (passing (since from) new)
 
 unfoldable pub blocksAfter : Node → Packet → List Block
 blocksAfter x p = addBlocks (entries (x .blocks)) (p .blocks)
@@ -42,7 +42,7 @@ votesAfter from x p = addSince from (entries (x .votes)) (p .votes)
 
 -- ---- the rules of a packet's entries, at a beat of this slot
 
-unfoldable pub knownAs : Block → Found → Bool
+unfoldable pub knownAs : Block → Lookup → Bool
 knownAs b missing = true
 knownAs b (found c) = sameBlock c b
 
@@ -57,7 +57,7 @@ voteAllowed n slot bs a =
 
 -- a proposal's block is among the packet's, with the header's slot
 unfoldable pub headerAllowed : Packet → Bool
-headerAllowed p = not (isProposal (p .kind)) || any (λ b. eqb (b .number) (p .number) && eqb (b .slot) (p .slot)) (p .blocks)
+headerAllowed p = not (isProposal (p .kind)) || anyPass (λ b. eqb (b .number) (p .number) && eqb (b .slot) (p .slot)) (p .blocks)
 
 -- ---- the least index of an entry that breaks a rule, or how many entries there are
 
@@ -74,13 +74,13 @@ firstBadVote n slot bs (a ∷ rest) = cond (voteAllowed n slot bs a) (suc (first
 -- ---- what comes into view
 
 -- a proposal of the beat's slot, in phase 0, as the first of that slot
-unfoldable pub brings : Node → ℕ → Packet → Bool
-brings x beat p = isProposal (p .kind) && (eqb (p .slot * 3) beat && not (eqb (x .clock .proposed) (p .slot)))
+unfoldable pub viewedAtOnce : Node → ℕ → Packet → Bool
+viewedAtOnce x beat p = isProposal (p .kind) && (eqb (p .slot * 3) beat && not (eqb (x .clock .proposed) (p .slot)))
 
 -- a block that the packet's entries stand on: one of its blocks, one that its votes are for, old ones too, or an ancestor of these
 unfoldable pub stoodOn : List Block → Packet → Block → Bool
 stoodOn bs p b =
-    any (λ c. above bs (c .number) (b .number)) (p .blocks) || any (λ a. above bs (a .number) (b .number)) (p .votes)
+    anyPass (λ c. above bs (c .number) (b .number)) (p .blocks) || anyPass (λ a. above bs (a .number) (b .number)) (p .votes)
 
 -- ---- the call
 
@@ -102,31 +102,31 @@ receiveTests s pl x beat bytes =
 pub record Received : Type 0 where
   pub newBlocks : ℕ
   pub newVotes : ℕ
-  pub brought : Bool
+  pub viewed : Bool
 
-unfoldable pub receivedOf : ℕ → Node → ℕ → Packet → Received
-receivedOf from x beat p =
+unfoldable pub receiveAnswer : ℕ → Node → ℕ → Packet → Received
+receiveAnswer from x beat p =
     record {
       newBlocks = length (blocksAfter x p) - length (x .blocks);
       newVotes = length (votesAfter from x p) - length (x .votes);
-      brought = brings x beat p;
+      viewed = viewedAtOnce x beat p;
     }
 
 unfoldable pub receiveInto : ℕ → Bool → ℕ → Node → Packet → Node
-receiveInto from brought beat x p =
+receiveInto from viewed beat x p =
     record {
       blocks =
-          show (λ b. brought && stoodOn (blocksAfter x p) p b)
+          view (λ b. viewed && stoodOn (blocksAfter x p) p b)
           (x .blocks ++ allWaiting (drop (length (x .blocks)) (blocksAfter x p)));
       votes =
-          show (λ a. brought && any (sameVote a) (p .votes))
+          view (λ a. viewed && anyPass (sameVote a) (p .votes))
           (x .votes ++ allWaiting (drop (length (x .votes)) (votesAfter from x p)));
       clock =
           record {
             seen = beat;
             done = x .clock .done;
             merged = x .clock .merged;
-            proposed = cond brought (p .slot) (x .clock .proposed);
+            proposed = cond viewed (p .slot) (x .clock .proposed);
           };
     }
 
@@ -134,4 +134,4 @@ unfoldable pub receive : Settings → Places → Node → ℕ → List ℕ → O
 receive s pl x beat bytes =
     let p = packetOf bytes in
     let from = keptFrom s (x .clock .merged) in
-    unless (first (receiveTests s pl x beat bytes)) x (receivedOf from x beat p) (receiveInto from (brings x beat p) beat x p)
+    unless (first (receiveTests s pl x beat bytes)) x (receiveAnswer from x beat p) (receiveInto from (viewedAtOnce x beat p) beat x p)

@@ -5,7 +5,7 @@ use borrow.Author.Tests.{le-leb, lt-leb, not-true, not-false}
 use Prim.Native.Nat.{_-_}
 use mathlib.Core.Bool.{_&&_}
 use mathlib.Core.Path.{_≡_, sym, _∙_}
-use Rattle.protocol.specs.Lists.{all}
+use Rattle.protocol.specs.Lists.{allPass}
 use Rattle.protocol.specs.Lent.{rowsOf, makeBlock, marksSound}
 use Rattle.ranges.specs.Rows.{blockInRange}
 use Rattle.ranges.proofs.Rows.{rangesFrom, ranges-begin, ranges-end, mark-fails, row-fails, row-passes}
@@ -14,7 +14,7 @@ use Rattle.ranges.proofs.blocks_in_range.Tie as tie
 
 abbrev Inv-loop : tie.InvT-loop
 Inv-loop blocks used slot i₀ i =
-    (marksSound makeBlock blocks used && all (blockInRange slot) (rowsOf makeBlock blocks used)) ≡ rangesFrom makeBlock (blockInRange slot) blocks used i
+    (marksSound makeBlock blocks used && allPass (blockInRange slot) (rowsOf makeBlock blocks used)) ≡ rangesFrom makeBlock (blockInRange slot) blocks used i
 
 abbrev μ-loop : tie.MeasureT-loop
 μ-loop blocks used slot i₀ i = used - i

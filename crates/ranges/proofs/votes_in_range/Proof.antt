@@ -5,7 +5,7 @@ use borrow.Author.Tests.{lt-ltb, le-ltb, not-true, not-false}
 use Prim.Native.Nat.{_-_}
 use mathlib.Core.Bool.{_&&_}
 use mathlib.Core.Path.{_≡_, sym, _∙_}
-use Rattle.protocol.specs.Lists.{all}
+use Rattle.protocol.specs.Lists.{allPass}
 use Rattle.protocol.specs.Lent.{rowsOf, makeVote, marksSound}
 use Rattle.ranges.specs.Rows.{voteInRange}
 use Rattle.ranges.proofs.Rows.{rangesFrom, ranges-begin, ranges-end, mark-fails, row-fails, row-passes}
@@ -14,7 +14,7 @@ use Rattle.ranges.proofs.votes_in_range.Tie as tie
 
 abbrev Inv-loop : tie.InvT-loop
 Inv-loop votes used nodes slot i₀ i =
-    (marksSound makeVote votes used && all (voteInRange nodes slot) (rowsOf makeVote votes used)) ≡ rangesFrom makeVote (voteInRange nodes slot) votes used i
+    (marksSound makeVote votes used && allPass (voteInRange nodes slot) (rowsOf makeVote votes used)) ≡ rangesFrom makeVote (voteInRange nodes slot) votes used i
 
 abbrev μ-loop : tie.MeasureT-loop
 μ-loop votes used nodes slot i₀ i = used - i

@@ -9,7 +9,7 @@ use Rattle.protocol.proofs.Lent.Rows.{block-codec}
 use Rattle.protocol.proofs.Store.New.{knowsBlock, adding-blocks}
 use Rattle.receiving.proofs.Held.{rows-held, marks-held, used-added, used-grows}
 use Rattle.receiving.proofs.Naming.{blocks-agree}
-use Rattle.receiving.proofs.Receiving.{accepted-carried, blocks-kept, blocks-shown}
+use Rattle.receiving.proofs.Receiving.{accepted-carried, blocks-kept, blocks-stood-on}
 use Rattle.receiving.proofs.receive_blocks.Statement.{statement}
 use Rattle.receiving.proofs.receive_blocks.Tie as tie
 
@@ -19,8 +19,8 @@ start a = a .before .before .before .before .before .before .before
 add-blocks-requires : tie.Need-add-blocks-requires
 add-blocks-requires c κs = let s = c .before .before .before .before .before .before in (s .pre .0, s .pre .1, s .pre .3, s .pre .4)
 
-show-stood-on-requires : tie.Need-show-stood-on-requires
-show-stood-on-requires c κs =
+view-stood-on-requires : tie.Need-view-stood-on-requires
+view-stood-on-requires c κs =
     let a = c .before .before .before .before in
     let s = start a in
     let H = a .add-blocks .ensures in
@@ -42,7 +42,7 @@ returns c =
     let a = t .before .before .before in
     let s = start a in
     rw (t .if1 .taken)
-    (blocks-shown (rowsOf makeBlock (now (s .args .blocks)) (now (s .args .used))) _ _ (a .add-blocks .ensures) (w .show-stood-on .ensures))
+    (blocks-stood-on (rowsOf makeBlock (now (s .args .blocks)) (now (s .args .used))) _ _ (a .add-blocks .ensures) (w .view-stood-on .ensures))
 
 returns-2 : tie.Need-returns-2
 returns-2 c =
@@ -52,4 +52,4 @@ returns-2 c =
 
 pub receive-blocks-spec : {M : Type 1} → statement M
 receive-blocks-spec =
-    tie.close (tie.spec add-blocks-requires show-stood-on-requires (λ c. search needs) returns (λ c. search needs) returns-2)
+    tie.close (tie.spec add-blocks-requires view-stood-on-requires (λ c. search needs) returns (λ c. search needs) returns-2)

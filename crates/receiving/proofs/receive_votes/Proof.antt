@@ -2,23 +2,23 @@
 use borrow.Author.Needs.{needs}
 use native.Mathlib.Omega.{arith}
 use denote.Ref.{now}
-use Rattle.protocol.specs.Lists.{any}
+use Rattle.protocol.specs.Lists.{anyPass}
 use Rattle.protocol.specs.Store.{sameVote}
 use Rattle.protocol.specs.Packet.{packetOf}
 use Rattle.protocol.specs.Lent.{rowsOf, makeVote}
 use Rattle.protocol.proofs.Lent.Rows.{vote-codec}
 use Rattle.protocol.proofs.Store.Since.{adding-since}
-use Rattle.receiving.proofs.Held.{marks-held, shown-held, used-added, used-grows}
+use Rattle.receiving.proofs.Held.{marks-held, viewed-held, used-added, used-grows}
 use Rattle.receiving.proofs.Naming.{votes-agree}
-use Rattle.receiving.proofs.Receiving.{votes-kept, votes-brought}
+use Rattle.receiving.proofs.Receiving.{votes-kept, votes-viewed}
 use Rattle.receiving.proofs.receive_votes.Statement.{statement}
 use Rattle.receiving.proofs.receive_votes.Tie as tie
 
 abbrev start : tie.After-add-votes → tie.Start
 start a = a .before .before .before .before .before .before .before
 
-show-named-votes-requires : tie.Need-show-named-votes-requires
-show-named-votes-requires c κs =
+view-named-votes-requires : tie.Need-view-named-votes-requires
+view-named-votes-requires c κs =
     let a = c .before .before .before .before in
     let s = start a in
     let H = a .add-votes .ensures in
@@ -37,9 +37,9 @@ returns c =
     let a = t .before .before .before in
     let s = start a in
     let vs = packetOf (now (s .args .bytes)) .votes in
-    rw (t .if1 .taken, votes-brought (s .args .from) (rowsOf makeVote (now (s .args .votes)) (now (s .args .used))) (packetOf (now (s .args .bytes))))
-    (shown-held vote-codec _ _ (a .add-votes .ensures) (λ v. any (sameVote v) vs)
-    (w .show-named-votes .ensures (λ v. any (sameVote v) vs) (votes-agree _ _ _ _ (s .args .from) (a .add-votes .ensures) (s .pre .4))))
+    rw (t .if1 .taken, votes-viewed (s .args .from) (rowsOf makeVote (now (s .args .votes)) (now (s .args .used))) (packetOf (now (s .args .bytes))))
+    (viewed-held vote-codec _ _ (a .add-votes .ensures) (λ v. anyPass (sameVote v) vs)
+    (w .view-named-votes .ensures (λ v. anyPass (sameVote v) vs) (votes-agree _ _ _ _ (s .args .from) (a .add-votes .ensures) (s .pre .4))))
 
 returns-2 : tie.Need-returns-2
 returns-2 c =
@@ -49,4 +49,4 @@ returns-2 c =
 
 pub receive-votes-spec : {M : Type 1} → statement M
 receive-votes-spec =
-    tie.close (tie.spec (λ c κs. search needs) show-named-votes-requires (λ c. search needs) returns (λ c. search needs) returns-2)
+    tie.close (tie.spec (λ c κs. search needs) view-named-votes-requires (λ c. search needs) returns (λ c. search needs) returns-2)

@@ -8,7 +8,7 @@ use native.Mathlib.Omega.{arith}
 use lib.Dec.{eqb}
 use borrow.Author.Tests.{eqb-true, eqb-false}
 use Rattle.protocol.specs.Entry.{Vote}
-use Rattle.protocol.specs.Store.{entries, inView, keptFrom}
+use Rattle.protocol.specs.Store.{entries, viewOf, keptFrom}
 use Rattle.protocol.proofs.Filters.Relations.{Cast}
 use Rattle.protocol.proofs.Store.Since.{since-has}
 use Rattle.protocol.proofs.Calls.Merge.{merge-view}
@@ -26,7 +26,7 @@ use Rattle.resilience.proofs.Delivery.Arrival.{woken, gossip-arrives}
 module _ {N : Network} (X : Execution N) where
   -- what was stored at the Merge is in view afterwards, until it is old
   pub merged-vote : (k i q : ℕ) → k ≤ X .end → (M : Merged X i q) → M .when < k → (v : Vote) → Cast v (entries (world X (M .when) .node i .votes))
-      → storedFrom X k i ≤ v .slot → Cast v (inView (world X k .node i .votes))
+      → storedFrom X k i ≤ v .slot → Cast v (viewOf (world X k .node i .votes))
   merged-vote k i q l M b v m r =
       let g = grows X i (suc (M .when)) k b l in
       g .view-votes v (rw (M .after) (rw (merge-view (settings N i) (N .places i) (world X (M .when) .node i) (world X (M .when) .beat) (M .tests))
@@ -62,7 +62,7 @@ module _ {N : Network} (X : Execution N) where
             (le-refl (b / 3))
 
     pub ballot-in-view : isHonest N i ≡ true → b / 3 ≤ world X k .node i .clock .merged → world X k .node i .clock .merged ≤ b / 3 + N .expiry
-        → Cast cast (inView (world X k .node i .votes))
+        → Cast cast (viewOf (world X k .node i .votes))
     ballot-in-view h since recent =
         let r = merged-when X k i (world X k .node i .clock .merged) h (omega (arith, A .by .tests .joined, A .by .beat)) refl in
         merged-vote k i (world X k .node i .clock .merged) l (r .0) (r .1) cast (ballot-stored (world X k .node i .clock .merged) since recent (r .0) (r .1)) (omega arith)

@@ -8,7 +8,7 @@ use native.Mathlib.Omega.{arith}
 use lib.Dec.{ltb, lit≤, lit<}
 use Rattle.protocol.specs.Entry.{Block}
 use Rattle.protocol.specs.Store.{entries}
-use Rattle.protocol.specs.Packet.{field, widthOf, widthIn}
+use Rattle.protocol.specs.Packet.{numberAt, widthOf, widthIn}
 use Rattle.protocol.specs.RoundTrip.{NumbersBelow}
 use Rattle.protocol.proofs.Chain.Relations.{In}
 use Rattle.protocol.proofs.Packet.Bytes.{read-fits}
@@ -37,7 +37,7 @@ module _ {N : Network} (X : Execution N) (i : ℕ) (h : isHonest N i ≡ true) w
       go : BlockFrom N (world X k) (X .steps k) i c → ((d : Block) → In d (entries (world X k .node i .blocks)) → d .number < 2 ^ 128) → c .number < 2 ^ 128
       go (old n) rec = rec c n
       go (packet bytes q lg n) rec =
-          wide-below (field bytes 0 1)
+          wide-below (numberAt bytes 0 1)
           (each-true (BlockFits (widthIn bytes)) (read-fits bytes (receive-bytes N (world X k) i bytes (rw q at (X .allowed k l))) .blocks) c n .number)
       go (own x q e lg) rec = rw (ap (λ o. o .number) e) (due-honest N (world X k) i x (rw q at (X .allowed k l)) .3)
 

@@ -10,7 +10,7 @@ use lib.Dec.{ltb}
 use borrow.Author.Tests.{lt-ltb, ltb-true, ltb-false, not-true, not-false}
 use Rattle.protocol.specs.Entry.{Vote}
 use Rattle.protocol.specs.Filters.{chosen, nothing}
-use Rattle.protocol.specs.Walk.{count}
+use Rattle.protocol.specs.Walk.{countBelow}
 use Rattle.protocol.specs.Store.{entries}
 use Rattle.protocol.proofs.Basics.Counting.{count-mono}
 use Rattle.protocol.proofs.Basics.Tests.{and-left, and-right, or-left, or-right, both, either, neither, clashing, not-passes}
@@ -65,7 +65,7 @@ module _ {N : Network} (X : Execution N) where
     pub on : (v : ℕ) → v < N .nodes → for v ≡ true → (N .honest v ≡ true) × (x : ℕ) × (ballotIn (log X) v s ≡ chosen x) × AtOrAbove (log X) B x
     pub neutral : (v : ℕ) → v < N .nodes → for v ≡ false → against v ≡ false
         → (N .honest v ≡ true) × ((q x : ℕ) → InWindow (N .expiry) (suc s) q → ballotIn (log X) v q ≡ chosen x → Harmless B s v q x)
-    pub more : count against (N .nodes) < count for (N .nodes)
+    pub more : countBelow against (N .nodes) < countBelow for (N .nodes)
 
   -- the voters of slot s, if all stand on B
   stands : (B s : ℕ) → AllOn B s → (v : ℕ) → voters N (log X) s v ≡ true

@@ -10,8 +10,8 @@ use native.Mathlib.Omega.{arith}
 use Rattle.protocol.specs.Entry.{Block, Vote}
 use Rattle.protocol.specs.Chain.{above}
 use Rattle.protocol.specs.Filters.{chosen, kept}
-use Rattle.protocol.specs.Walk.{weight, weightAt, walk, head, base}
-use Rattle.protocol.specs.Store.{entries, inView}
+use Rattle.protocol.specs.Walk.{weight, weightAt, walk, headBlock, baseBlock}
+use Rattle.protocol.specs.Store.{entries, viewOf}
 use Rattle.protocol.specs.Calls.Propose.{baseOf}
 use Rattle.protocol.specs.Calls.Vote.{headOf}
 use Rattle.protocol.proofs.Basics.Counting.{count-witness}
@@ -41,7 +41,7 @@ module _ {N : Network} (X : Execution N) where
 
     module _ (k : ℕ) (l : k ≤ X .end) (i : ℕ) (h : isHonest N i ≡ true) (since : g ≤ world X k .node i .clock .merged) (until : world X k .node i .clock .merged ≤ s)
         (bs : List Block) (vs : List Vote) (S : Sound bs) (of : (c : Block) → In c bs → OfRun X c) (known : (a : Vote) → Cast a vs → Known bs (a .number))
-        (stored : (a : Vote) → Cast a vs → Cast a (entries (world X k .node i .votes))) (seen : (a : Vote) → Cast a (inView (world X k .node i .votes)) → Cast a vs) where
+        (stored : (a : Vote) → Cast a vs → Cast a (entries (world X k .node i .votes))) (seen : (a : Vote) → Cast a (viewOf (world X k .node i .votes)) → Cast a vs) where
       -- the honest votes of a slot up to g that counts for s are among them, if they arrive
       arrived : (r : ℕ) → r ≤ g → s ≤ r + N .expiry → DeliveredAt (3 * r + 1) (log X) → (v x : ℕ) → ballotIn (log X) v r ≡ chosen x
           → Cast (record { voter = v; slot = r; number = x }) vs
@@ -106,17 +106,17 @@ module _ {N : Network} (X : Execution N) where
 
     pub head-on : (k : ℕ) → k ≤ X .end → (i : ℕ) → isHonest N i ≡ true → g ≤ world X k .node i .clock .merged → world X k .node i .clock .merged ≤ s
         → AtOrAbove (log X) (B .number) (headOf (settings N i) (world X k .node i) s)
-    unfolding headOf head weightAt
+    unfolding headOf headBlock weightAt
     head-on k l i h since until =
         let G = sound-tables X k i h in
-        walk-on k l i h since until (inView (world X k .node i .blocks)) (inView (world X k .node i .votes)) (view-sound G)
+        walk-on k l i h since until (viewOf (world X k .node i .blocks)) (viewOf (world X k .node i .votes)) (view-sound G)
         (λ c n. stored-of-run X k l i h c (view-stored (world X k .node i .blocks) c n)) (G .closed-votes)
         (λ a n. view-stored (world X k .node i .votes) a n) (λ a n. n)
         (suc s) (omega arith)
 
     pub base-on : (k : ℕ) → k ≤ X .end → (i : ℕ) → isHonest N i ≡ true → g ≤ world X k .node i .clock .merged → world X k .node i .clock .merged ≤ s
         → AtOrAbove (log X) (B .number) (baseOf (settings N i) (world X k .node i) s)
-    unfolding baseOf base weightAt
+    unfolding baseOf baseBlock weightAt
     base-on k l i h since until =
         let G = sound-tables X k i h in
         walk-on k l i h since until (entries (world X k .node i .blocks)) (entries (world X k .node i .votes)) (store-sound G)

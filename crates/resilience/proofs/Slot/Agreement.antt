@@ -10,9 +10,9 @@ use borrow.Author.Tests.{eqb-true, eqb-false}
 use Rattle.protocol.specs.Entry.{Block, Vote}
 use Rattle.protocol.specs.declared.Width.the-variants.{Wide}
 use Rattle.protocol.specs.Lists.{Same}
-use Rattle.protocol.specs.Store.{inView}
+use Rattle.protocol.specs.Store.{viewOf}
 use Rattle.protocol.specs.Packet.{Packet, packetOf, packetBytes, isProposal}
-use Rattle.protocol.specs.Calls.Receive.{receiveInto, brings}
+use Rattle.protocol.specs.Calls.Receive.{receiveInto, viewedAtOnce}
 use Rattle.protocol.specs.Calls.Vote.{headOf}
 use Rattle.protocol.specs.Calls.Write.{proposalOf, sentOf, packetOut}
 use Rattle.protocol.proofs.Basics.Members.{same-refl}
@@ -20,7 +20,7 @@ use Rattle.protocol.proofs.Basics.Tests.{split}
 use Rattle.protocol.proofs.Filters.Relations.{Cast}
 use Rattle.protocol.proofs.Store.Sound.{view-sound}
 use Rattle.protocol.proofs.Packet.Bytes.{round-trip}
-use Rattle.protocol.proofs.Calls.Brings.{brought-before}
+use Rattle.protocol.proofs.Calls.ViewedAtOnce.{viewed-before}
 use Rattle.resilience.specs.Run.{Network, settings}
 use Rattle.resilience.specs.Resilience.{DeliveredAt}
 use Rattle.resilience.proofs.Runs.Execution.{Execution, world, log, storedFrom}
@@ -31,27 +31,27 @@ use Rattle.resilience.proofs.Invariants.Votes.{stored-recent, Ballot}
 use Rattle.resilience.proofs.Invariants.Proposals.{Built}
 use Rattle.resilience.proofs.Delivery.Acceptance.{Acceptable, outgoing-acceptable}
 use Rattle.resilience.proofs.Delivery.Arrival.{Arrival, arrives, arrival-node, woken}
-use Rattle.resilience.proofs.Slot.ProposerView.{viewOf, votesOf, ViewIs, own-view}
+use Rattle.resilience.proofs.Slot.ProposerView.{proposerView, votesOf, ViewIs, own-view}
 use Rattle.resilience.proofs.Slot.ProposalSent.{SentProposal, sends-proposal}
 use Rattle.resilience.proofs.Slot.Head.{head-is}
-use Rattle.resilience.proofs.Slot.ProposalReceived.{BroughtBefore, brought, has-blocks, has-votes}
+use Rattle.resilience.proofs.Slot.ProposalReceived.{ViewedBefore, viewed, has-blocks, has-votes}
 use Rattle.resilience.proofs.Slot.VoterView.{Inside, inside-lasts, inside-fresh, inside-merged}
 
 module _ {N : Network} {X : Execution N} {b p n y : ℕ} (Q : Built X b p n y) where
   -- who votes in the slot from this view votes for the block
-  votes-block : (c v x : ℕ) (A : Ballot X c v x) → c / 3 ≡ b / 3 → Same Block (inView (world X (A .when) .node v .blocks)) (viewOf Q)
-      → Same Vote (inView (world X (A .when) .node v .votes)) (votesOf Q) → x ≡ n
+  votes-block : (c v x : ℕ) (A : Ballot X c v x) → c / 3 ≡ b / 3 → Same Block (viewOf (world X (A .when) .node v .blocks)) (proposerView Q)
+      → Same Vote (viewOf (world X (A .when) .node v .votes)) (votesOf Q) → x ≡ n
   unfolding headOf
   votes-block c v x A now s z =
       A .by .value ∙ ap (headOf (settings N v) (world X (A .when) .node v)) (ap (λ o. o / 3) (sym (A .by .beat)) ∙ now)
-      ∙ head-is Q (inView (world X (A .when) .node v .blocks)) (inView (world X (A .when) .node v .votes))
+      ∙ head-is Q (viewOf (world X (A .when) .node v .blocks)) (viewOf (world X (A .when) .node v .votes))
       (view-sound (sound-tables X (A .when) v (A .honest))) s z
 
   -- ---- the proposer itself
 
   own-agrees : (c x : ℕ) (A : Ballot X c p x) → c / 3 ≡ b / 3 → x ≡ n
   own-agrees c x A now =
-      votes-block c p x A now (subst (λ (l : List Block). Same Block l (viewOf Q)) (sym (view .blocks)) (same-refl Block (viewOf Q)))
+      votes-block c p x A now (subst (λ (l : List Block). Same Block l (proposerView Q)) (sym (view .blocks)) (same-refl Block (proposerView Q)))
       (subst (λ (l : List Vote). Same Vote l (votesOf Q)) (sym (view .votes)) (same-refl Vote (votesOf Q)))
     where
       view : ViewIs Q (world X (A .when) .node p)
@@ -109,7 +109,7 @@ module _ {N : Network} {X : Execution N} {b p n y : ℕ} (Q : Built X b p n y) w
     proposed-is =
         ap (λ x. x .clock .proposed) (arrival-node X (proposal .when) (A .when) v (world X (proposal .when) .node p .clock .seen / 3) packet acceptable
         (A .before) arrival early (A .by .tests .base .within))
-        ∙ go (split (brings (world X (arrival .when) .node v) (world X (arrival .when) .beat) (packetOf (packetBytes packet))))
+        ∙ go (split (viewedAtOnce (world X (arrival .when) .node v) (world X (arrival .when) .beat) (packetOf (packetBytes packet))))
       where
         read : packetOf (packetBytes packet) ≡ packet
         read = round-trip packet (acceptable .fits)
@@ -117,19 +117,19 @@ module _ {N : Network} {X : Execution N} {b p n y : ℕ} (Q : Built X b p n y) w
         slot-is : packetOf (packetBytes packet) .slot ≡ b / 3
         slot-is = ap (λ o. o .slot) read ∙ proposal .slot
 
-        go : (brings (world X (arrival .when) .node v) (world X (arrival .when) .beat) (packetOf (packetBytes packet)) ≡ true)
-            ⊎ (brings (world X (arrival .when) .node v) (world X (arrival .when) .beat) (packetOf (packetBytes packet)) ≡ false)
-            → cond (brings (world X (arrival .when) .node v) (world X (arrival .when) .beat) (packetOf (packetBytes packet))) (packetOf (packetBytes packet) .slot) (world X (arrival .when) .node v .clock .proposed)
+        go : (viewedAtOnce (world X (arrival .when) .node v) (world X (arrival .when) .beat) (packetOf (packetBytes packet)) ≡ true)
+            ⊎ (viewedAtOnce (world X (arrival .when) .node v) (world X (arrival .when) .beat) (packetOf (packetBytes packet)) ≡ false)
+            → cond (viewedAtOnce (world X (arrival .when) .node v) (world X (arrival .when) .beat) (packetOf (packetBytes packet))) (packetOf (packetBytes packet) .slot) (world X (arrival .when) .node v .clock .proposed)
             ≡ b / 3
         go (inl h) = ap (λ z. cond z (packetOf (packetBytes packet) .slot) (world X (arrival .when) .node v .clock .proposed)) h ∙ slot-is
         go (inr h) =
             ap (λ z. cond z (packetOf (packetBytes packet) .slot) (world X (arrival .when) .node v .clock .proposed)) h
-            ∙ brought-before (world X (arrival .when) .node v) (world X (arrival .when) .beat) (packetOf (packetBytes packet)) h (ap (λ o. isProposal (o .kind)) read)
+            ∙ viewed-before (world X (arrival .when) .node v) (world X (arrival .when) .beat) (packetOf (packetBytes packet)) h (ap (λ o. isProposal (o .kind)) read)
             (omega (arith, slot-is, arrival-beat, Q .beat))
             ∙ slot-is
 
-    seen-it : BroughtBefore Q (suc (arrival .when)) v
-    seen-it = brought Q (suc (arrival .when)) v (A .honest) ne proposed-is
+    seen-it : ViewedBefore Q (suc (arrival .when)) v
+    seen-it = viewed Q (suc (arrival .when)) v (A .honest) ne proposed-is
 
     seen-now : world X (A .when) .node v .clock .seen ≤ b + 1
     seen-now = omega (arith, seen-beat X (A .when) v (A .honest), beat-now)

@@ -10,7 +10,7 @@ use borrow.Author.Tests.{ltb-true, ltb-false}
 use Rattle.protocol.specs.Entry.{Block, Vote}
 use Rattle.protocol.specs.Lists.{Same}
 use Rattle.protocol.specs.Chain.{genesis}
-use Rattle.protocol.specs.Walk.{head, base}
+use Rattle.protocol.specs.Walk.{headBlock, baseBlock}
 use Rattle.protocol.specs.Store.{entries}
 use Rattle.protocol.specs.Calls.Propose.{baseOf}
 use Rattle.protocol.proofs.Basics.Tests.{split}
@@ -29,7 +29,7 @@ use Rattle.resilience.proofs.Runs.Premises.{genuine}
 use Rattle.resilience.proofs.Invariants.Soundness.{sound-tables}
 use Rattle.resilience.proofs.Invariants.Blocks.{stored-given, OfRun, stored-of-run}
 use Rattle.resilience.proofs.Invariants.Proposals.{Built, built-once}
-use Rattle.resilience.proofs.Slot.ProposerView.{blockOf, proposer, viewOf, votesOf, new-is, stored-after}
+use Rattle.resilience.proofs.Slot.ProposerView.{blockOf, proposer, proposerView, votesOf, new-is, stored-after}
 
 module _ {N : Network} {X : Execution N} {b p n y : ℕ} (Q : Built X b p n y) where
   -- p is the proposer of the slot
@@ -38,16 +38,16 @@ module _ {N : Network} {X : Execution N} {b p n y : ℕ} (Q : Built X b p n y) w
 
   -- ---- the view after Propose
 
-  pub proposer-view-sound : Sound (viewOf Q)
+  pub proposer-view-sound : Sound (proposerView Q)
   proposer-view-sound = subst (λ (l : List Block). Sound l) (stored-after Q) (store-sound (sound-tables X (suc (Q .when)) p (Q .honest)))
 
-  pub proposer-view-of-run : (c : Block) → In c (viewOf Q) → OfRun X c
+  pub proposer-view-of-run : (c : Block) → In c (proposerView Q) → OfRun X c
   proposer-view-of-run c m = stored-of-run X (suc (Q .when)) (Q .before) p (Q .honest) c (subst (λ (l : List Block). In c l) (sym (stored-after Q)) m)
 
   vote-known : (a : Vote) → Cast a (votesOf Q) → Known (entries (proposer Q .blocks)) (a .number)
   vote-known a m = let o = sound-tables X (Q .when) p (Q .honest) .votes a m .on in (o .0, o .1, o .2)
 
-  pub proposer-vote-known : (a : Vote) → Cast a (votesOf Q) → Known (viewOf Q) (a .number)
+  pub proposer-vote-known : (a : Vote) → Cast a (votesOf Q) → Known (proposerView Q) (a .number)
   proposer-vote-known a m = let k = vote-known a m in (k .0, Memᴰ·append-left (blockOf Q ∷ []) (k .1), k .2)
 
   -- ---- no other block that p has is of the slot
@@ -82,17 +82,17 @@ module _ {N : Network} {X : Execution N} {b p n y : ℕ} (Q : Built X b p n y) w
 
   -- ---- the head
 
-  extends : Extends (entries (proposer Q .blocks)) (viewOf Q) (blockOf Q)
+  extends : Extends (entries (proposer Q .blocks)) (proposerView Q) (blockOf Q)
   extends =
       subst (λ (c : Block). Extends (entries (proposer Q .blocks)) (entries (proposer Q .blocks) ++ (c ∷ [])) c) (new-is Q)
       (propose-extends (settings N p) (N .places p) (proposer Q) (world X (Q .when) .beat) n (Q .by .tests))
 
-  parent-is : y ≡ base (entries (proposer Q .blocks)) (votesOf Q) (N .nodes) (N .expiry) (b / 3)
+  parent-is : y ≡ baseBlock (entries (proposer Q .blocks)) (votesOf Q) (N .nodes) (N .expiry) (b / 3)
   unfolding baseOf
   parent-is = Q .by .value ∙ ap (λ z. baseOf (settings N p) (proposer Q) (z / 3)) (sym (Q .by .beat))
 
-  pub head-is : (ys : List Block) (ws : List Vote) → Sound ys → Same Block ys (viewOf Q) → Same Vote ws (votesOf Q)
-      → head ys ws (N .nodes) (N .expiry) (b / 3) ≡ n
+  pub head-is : (ys : List Block) (ws : List Vote) → Sound ys → Same Block ys (proposerView Q) → Same Vote ws (votesOf Q)
+      → headBlock ys ws (N .nodes) (N .expiry) (b / 3) ≡ n
   head-is ys ws S s z =
       proposal-seen (store-sound (sound-tables X (Q .when) p (Q .honest))) extends (votesOf Q) ws (N .nodes) (N .expiry)
       (b / 3) vote-known older parent-is refl S s z

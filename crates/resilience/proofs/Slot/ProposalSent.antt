@@ -8,7 +8,7 @@ use native.Mathlib.Omega.{arith}
 use lib.Dec.{leb}
 use borrow.Author.Tests.{leb-true, leb-false}
 use Rattle.protocol.specs.declared.Width.the-variants.{Wide}
-use Rattle.protocol.specs.Store.{entries, inView}
+use Rattle.protocol.specs.Store.{entries, viewOf}
 use Rattle.protocol.specs.Packet.{packetOf, isProposal}
 use Rattle.protocol.specs.Calls.Write.{gossipOf, proposalOf, sentOf, proposedNow, packetOut, lastBlock, afterGenesis}
 use Rattle.protocol.proofs.Calls.Write.{IsProposer, proposer-true, proposer-holds, last-end}
@@ -26,7 +26,7 @@ use Rattle.resilience.proofs.Invariants.Proposals.{Built}
 use Rattle.resilience.proofs.Delivery.Owed.{Sending, sends-before}
 use Rattle.resilience.proofs.Delivery.Written.{written}
 use Rattle.resilience.proofs.Delivery.Acceptance.{sent-reads}
-use Rattle.resilience.proofs.Slot.ProposerView.{blockOf, proposer, viewOf, votesOf, node-is, own-view}
+use Rattle.resilience.proofs.Slot.ProposerView.{blockOf, proposer, proposerView, votesOf, node-is, own-view}
 
 module _ {N : Network} {X : Execution N} {b p n y : ℕ} (Q : Built X b p n y) where
   -- ---- every proposal of the slot that p sends
@@ -40,14 +40,14 @@ module _ {N : Network} {X : Execution N} {b p n y : ℕ} (Q : Built X b p n y) w
 
   pub sent-view : (k c : ℕ) (bytes : List ℕ) → k < X .end → SentBy N (world X k) (X .steps k) c p bytes → isProposal (packetOf bytes .kind) ≡ true
       → packetOf bytes .slot ≡ b / 3
-      → (packetOf bytes .blocks ≡ afterGenesis (viewOf Q)) × (packetOf bytes .votes ≡ votesOf Q)
+      → (packetOf bytes .blocks ≡ afterGenesis (proposerView Q)) × (packetOf bytes .votes ≡ votesOf Q)
   unfolding gossipOf proposalOf sentOf
   sent-view k c bytes l S kind slot = go (S .proposal) refl
     where
       reads : (o : Bool) → S .proposal ≡ o → packetOf bytes ≡ sentOf o Wide (world X k .node p)
       reads o e = sent-reads X k l c p bytes S ∙ ap (λ z. sentOf z Wide (world X k .node p)) e
 
-      go : (o : Bool) → S .proposal ≡ o → (packetOf bytes .blocks ≡ afterGenesis (viewOf Q)) × (packetOf bytes .votes ≡ votesOf Q)
+      go : (o : Bool) → S .proposal ≡ o → (packetOf bytes .blocks ≡ afterGenesis (proposerView Q)) × (packetOf bytes .votes ≡ votesOf Q)
       go false e = absurd (true≢false (sym kind ∙ ap (λ r. isProposal (r .kind)) (reads false e)))
       go true e =
           let f = reads true e in
@@ -92,7 +92,7 @@ module _ {N : Network} {X : Execution N} {b p n y : ℕ} (Q : Built X b p n y) w
         let c = sound-tables X (s .when) p (Q .honest) .time .done-seen in
         omega (arith, seen-is, ap (λ x. x .clock .done) (node-is Q), Q .by .beat, since .done)
 
-    last-is : lastBlock (inView (world X (s .when) .node p .blocks)) ≡ blockOf Q
+    last-is : lastBlock (viewOf (world X (s .when) .node p .blocks)) ≡ blockOf Q
     last-is = ap lastBlock (own-view Q (s .when) (s .after) inside (omega (arith, seen-is)) .blocks) ∙ last-end (entries (proposer Q .blocks)) (blockOf Q)
 
     slot-is : world X (s .when) .node p .clock .seen / 3 ≡ b / 3

@@ -5,13 +5,13 @@ use mathlib.Core.Bool.{cond}
 use mathlib.Core.List.{List, [], _∷_, _++_}
 use native.Mathlib.Omega.{arith}
 use Rattle.protocol.specs.Entry.{Block, Vote}
-use Rattle.protocol.specs.Store.{entries, inView, Node}
+use Rattle.protocol.specs.Store.{entries, viewOf, Node}
 use Rattle.protocol.specs.Packet.{packetOf}
 use Rattle.protocol.specs.Calls.Receive.{receiveInto}
 use Rattle.protocol.specs.Calls.Propose.{proposeInto}
 use Rattle.protocol.proofs.Store.Views.{view-all}
 use Rattle.protocol.proofs.Calls.Receive.{view-stays, view-votes-stay}
-use Rattle.protocol.proofs.Calls.Brings.{brings-once}
+use Rattle.protocol.proofs.Calls.ViewedAtOnce.{viewed-at-once-once}
 use Rattle.protocol.proofs.Calls.Propose.{newBlock, propose-stored, propose-view}
 use Rattle.protocol.proofs.Calls.Vote.{vote-view}
 use Rattle.resilience.specs.Run.{Network, settings, step}
@@ -31,8 +31,8 @@ module _ {N : Network} {X : Execution N} {b p n y : ℕ} (Q : Built X b p n y) w
   proposer = world X (Q .when) .node p
 
   -- its view afterwards: all that it had, and the new block
-  abbrev pub viewOf : List Block
-  viewOf = entries (proposer .blocks) ++ (blockOf ∷ [])
+  abbrev pub proposerView : List Block
+  proposerView = entries (proposer .blocks) ++ (blockOf ∷ [])
 
   abbrev pub votesOf : List Vote
   votesOf = entries (proposer .votes)
@@ -44,24 +44,24 @@ module _ {N : Network} {X : Execution N} {b p n y : ℕ} (Q : Built X b p n y) w
   unfolding at
   node-is = node-after N (world X (Q .when)) (X .steps (Q .when)) p _ (ap (λ o. o .node) (Q .by .result))
 
-  pub view-after : inView (world X (suc (Q .when)) .node p .blocks) ≡ viewOf
+  pub view-after : viewOf (world X (suc (Q .when)) .node p .blocks) ≡ proposerView
   view-after =
-      ap (λ x. inView (x .blocks)) node-is ∙ propose-view (settings N p) (N .places p) proposer (world X (Q .when) .beat) n (Q .by .tests)
+      ap (λ x. viewOf (x .blocks)) node-is ∙ propose-view (settings N p) (N .places p) proposer (world X (Q .when) .beat) n (Q .by .tests)
       ∙ ap (λ c. entries (proposer .blocks) ++ (c ∷ [])) new-is
 
-  pub stored-after : entries (world X (suc (Q .when)) .node p .blocks) ≡ viewOf
+  pub stored-after : entries (world X (suc (Q .when)) .node p .blocks) ≡ proposerView
   stored-after =
       ap (λ x. entries (x .blocks)) node-is ∙ propose-stored (settings N p) (N .places p) proposer (world X (Q .when) .beat) n (Q .by .tests)
       ∙ ap (λ c. entries (proposer .blocks) ++ (c ∷ [])) new-is
 
-  pub votes-after : inView (world X (suc (Q .when)) .node p .votes) ≡ votesOf
-  votes-after = ap (λ x. inView (x .votes)) node-is ∙ view-all (proposer .votes)
+  pub votes-after : viewOf (world X (suc (Q .when)) .node p .votes) ≡ votesOf
+  votes-after = ap (λ x. viewOf (x .votes)) node-is ∙ view-all (proposer .votes)
 
   -- ---- as long as the clock of p is before the merge beat of the slot
 
   pub record ViewIs (x : Node) : Type 0 where
-    pub blocks : inView (x .blocks) ≡ viewOf
-    pub votes : inView (x .votes) ≡ votesOf
+    pub blocks : viewOf (x .blocks) ≡ proposerView
+    pub votes : viewOf (x .votes) ≡ votesOf
     pub proposed : x .clock .proposed ≡ b / 3
 
   abbrev Holds : Node → Type 0
@@ -83,7 +83,7 @@ module _ {N : Network} {X : Execution N} {b p n y : ℕ} (Q : Built X b p n y) w
         h .0,
         λ s.
             let v = h .1 (omega (arith, R .base .after)) in
-            let z = brings-once (world X k .node p) (world X k .beat) (packetOf bytes) (b / 3) (v .proposed)
+            let z = viewed-at-once-once (world X k .node p) (world X k .beat) (packetOf bytes) (b / 3) (v .proposed)
             (omega (arith, R .base .after, R .base .good .time .done-seen, h .0)) (omega (arith, Q .beat)) in
             record {
               blocks = view-stays (settings N p) (N .places p) (world X k .node p) (world X k .beat) bytes R z ∙ v .blocks;

@@ -6,16 +6,16 @@ use mathlib.Core.Bool.{true}
 use mathlib.Core.List.{List, [], _∷_, List·Memᴰ·eq-of-singleton, List·Memᴰ·not-nil, Memᴰ·append-left}
 use native.Mathlib.Omega.{arith}
 use Rattle.protocol.specs.Entry.{Block, Vote}
-use Rattle.protocol.specs.Store.{entries, inView, Node}
+use Rattle.protocol.specs.Store.{entries, viewOf, Node}
 use Rattle.protocol.specs.Packet.{packetOf}
-use Rattle.protocol.specs.Calls.Receive.{receiveInto, brings}
+use Rattle.protocol.specs.Calls.Receive.{receiveInto, viewedAtOnce}
 use Rattle.protocol.proofs.Chain.Above.{known-down}
 use Rattle.protocol.proofs.Chain.Relations.{In, Known, Above}
 use Rattle.protocol.proofs.Filters.Relations.{Cast}
 use Rattle.protocol.proofs.Store.Views.{view-stored}
 use Rattle.protocol.proofs.Calls.Passed.{Receives}
 use Rattle.protocol.proofs.Calls.Receive.{view-from, view-votes-from, Under, by-block, by-vote}
-use Rattle.protocol.proofs.Calls.Brings.{brings-true}
+use Rattle.protocol.proofs.Calls.ViewedAtOnce.{viewed-at-once-true}
 use Rattle.protocol.proofs.Calls.Vote.{vote-view}
 use Rattle.protocol.proofs.Calls.Write.{others-in}
 use Rattle.resilience.specs.Run.{Network, settings, isHonest, given, step}
@@ -32,25 +32,25 @@ use Rattle.resilience.proofs.Invariants.Chains.{above-in-log, above-in-
 use Rattle.resilience.proofs.Invariants.Votes.{stored-recent}
 use Rattle.resilience.proofs.Invariants.Proposals.{Built}
 use Rattle.resilience.proofs.Delivery.Arrival.{StoreWithin, gossip-arrives, woken}
-use Rattle.resilience.proofs.Slot.ProposerView.{blockOf, viewOf, votesOf, proposer}
+use Rattle.resilience.proofs.Slot.ProposerView.{blockOf, proposerView, votesOf, proposer}
 use Rattle.resilience.proofs.Slot.Head.{turn-of, proposer-view-sound, proposer-view-of-run, proposer-vote-known}
 use Rattle.resilience.proofs.Slot.ProposalReceived.{SameEntries, same-entries}
 
 module _ {N : Network} {X : Execution N} {b p n y : ℕ} (Q : Built X b p n y) where
   pub record ViewWithin (x : Node) : Type 0 where
-    pub blocks : (c : Block) → In c (inView (x .blocks)) → In c (viewOf Q)
-    pub votes : (a : Vote) → Cast a (inView (x .votes)) → Cast a (votesOf Q)
+    pub blocks : (c : Block) → In c (viewOf (x .blocks)) → In c (proposerView Q)
+    pub votes : (a : Vote) → Cast a (viewOf (x .votes)) → Cast a (votesOf Q)
 
   -- as long as the clock is before the merge beat of the slot
   abbrev pub Inside : Node → Type 0
   Inside x = (b ≤ x .clock .done + 1) × (x .clock .seen ≤ b + 1 → ViewWithin x)
 
   -- what a block of p's view stands on is in p's view
-  descend : (xs : List Block) → ((c : Block) → In c xs → OfRun X c) → (c : Block) → In c xs → (d : ℕ) → Known (viewOf Q) d → Above xs (c .number) d
-      → In c (viewOf Q)
+  descend : (xs : List Block) → ((c : Block) → In c xs → OfRun X c) → (c : Block) → In c xs → (d : ℕ) → Known (proposerView Q) d → Above xs (c .number) d
+      → In c (proposerView Q)
   descend xs of c m d k r =
-      let g = known-down (proposer-view-sound Q) k (above-in-list X (viewOf Q) (proposer-view-of-run Q) (proposer-view-sound Q) k (above-in-log X xs of r)) in
-      subst (λ (z : Block). In z (viewOf Q)) (one-block X (g .0) c (proposer-view-of-run Q (g .0) (g .1)) (of c m) (g .2)) (g .1)
+      let g = known-down (proposer-view-sound Q) k (above-in-list X (proposerView Q) (proposer-view-of-run Q) (proposer-view-sound Q) k (above-in-log X xs of r)) in
+      subst (λ (z : Block). In z (proposerView Q)) (one-block X (g .0) c (proposer-view-of-run Q (g .0) (g .1)) (of c m) (g .2)) (g .1)
 
   module _ (v : ℕ) (hv : isHonest N v ≡ true) (ne : v ≡ p → ⊥) where
     -- ---- what a packet brings into view is p's proposal
@@ -64,32 +64,32 @@ module _ {N : Network} {X : Execution N} {b p n y : ℕ} (Q : Built X b p n y) w
       before : ViewWithin (world X k .node v)
       before = h .1 (omega (arith, R .base .after))
 
-      entries-same : brings (world X k .node v) (world X k .beat) (packetOf bytes) ≡ true → SameEntries Q bytes
+      entries-same : viewedAtOnce (world X k .node v) (world X k .beat) (packetOf bytes) ≡ true → SameEntries Q bytes
       entries-same g =
-          let r = brings-true (world X k .node v) (world X k .beat) (packetOf bytes) g in
+          let r = viewed-at-once-true (world X k .node v) (world X k .beat) (packetOf bytes) g in
           same-entries Q k v bytes l lg (r .kind) (omega (arith, r .slot, R .base .after, R .base .good .time .done-seen, h .0, Q .beat))
 
       of : (c : Block) → In c (entries (x1 .blocks)) → OfRun X c
       unfolding at
       of c m = stored-of-run X (suc k) l v hv c (subst (λ (x : Node). In c (entries (x .blocks))) (sym f) m)
 
-      brought-block : (c : Block) → In c (inView (x1 .blocks)) → In c (viewOf Q)
-      brought-block c m = go (view-from (settings N v) (N .places v) (world X k .node v) (world X k .beat) bytes R c m)
+      viewed-block : (c : Block) → In c (viewOf (x1 .blocks)) → In c (proposerView Q)
+      viewed-block c m = go (view-from (settings N v) (N .places v) (world X k .node v) (world X k .beat) bytes R c m)
         where
           stood : SameEntries Q bytes → In c (entries (x1 .blocks)) → Under (settings N v) (N .places v) (world X k .node v) (world X k .beat) bytes R c
-              → In c (viewOf Q)
-          stood e i (by-block d j r) = descend (entries (x1 .blocks)) of c i (d .number) (d, others-in (viewOf Q) d (e .0 .from d j), refl) r
+              → In c (proposerView Q)
+          stood e i (by-block d j r) = descend (entries (x1 .blocks)) of c i (d .number) (d, others-in (proposerView Q) d (e .0 .from d j), refl) r
           stood e i (by-vote a j r) = descend (entries (x1 .blocks)) of c i (a .number) (proposer-vote-known Q a (e .1 .from a j)) r
 
-          go : In c (inView (world X k .node v .blocks)) ⊎ ((brings (world X k .node v) (world X k .beat) (packetOf bytes) ≡ true) × In c (entries (x1 .blocks))
-              × Under (settings N v) (N .places v) (world X k .node v) (world X k .beat) bytes R c) → In c (viewOf Q)
+          go : In c (viewOf (world X k .node v .blocks)) ⊎ ((viewedAtOnce (world X k .node v) (world X k .beat) (packetOf bytes) ≡ true) × In c (entries (x1 .blocks))
+              × Under (settings N v) (N .places v) (world X k .node v) (world X k .beat) bytes R c) → In c (proposerView Q)
           go (inl i) = before .blocks c i
           go (inr i) = stood (entries-same (i .0)) (i .1) (i .2)
 
-      brought-vote : (a : Vote) → Cast a (inView (x1 .votes)) → Cast a (votesOf Q)
-      brought-vote a m = go (view-votes-from (settings N v) (N .places v) (world X k .node v) (world X k .beat) bytes R a m)
+      viewed-vote : (a : Vote) → Cast a (viewOf (x1 .votes)) → Cast a (votesOf Q)
+      viewed-vote a m = go (view-votes-from (settings N v) (N .places v) (world X k .node v) (world X k .beat) bytes R a m)
         where
-          go : Cast a (inView (world X k .node v .votes)) ⊎ ((brings (world X k .node v) (world X k .beat) (packetOf bytes) ≡ true) × Cast a (entries (x1 .votes))
+          go : Cast a (viewOf (world X k .node v .votes)) ⊎ ((viewedAtOnce (world X k .node v) (world X k .beat) (packetOf bytes) ≡ true) × Cast a (entries (x1 .votes))
               × Cast a (packetOf bytes .votes)) → Cast a (votesOf Q)
           go (inl i) = before .votes a i
           go (inr i) = entries-same (i .0) .1 .from a (i .2)
@@ -100,7 +100,7 @@ module _ {N : Network} {X : Execution N} {b p n y : ℕ} (Q : Built X b p n y) w
       where
         go : Change N (world X k) (X .steps k) v → Inside (step N (world X k) (X .steps k) .node v)
         go (same f) = rw f h
-        go (receives bytes q R f lg) = rw f (h .0, λ s. record { blocks = brought-block k l bytes R f lg h s; votes = brought-vote k l bytes R f lg h s })
+        go (receives bytes q R f lg) = rw f (h .0, λ s. record { blocks = viewed-block k l bytes R f lg h s; votes = viewed-vote k l bytes R f lg h s })
         go (proposes m q R f lg) = rw f (
           omega (arith, R .undone, h .0),
           λ s.
@@ -126,7 +126,7 @@ module _ {N : Network} {X : Execution N} {b p n y : ℕ} (Q : Built X b p n y) w
 
     -- for slot 1, at the start of the run
     pub inside-fresh : b / 3 ≡ 1 → Inside (world X 0 .node v)
-    unfolding inView
+    unfolding viewOf
     inside-fresh e =
         rw (starts-fresh X v hv) (
           omega (arith, Q .beat),

@@ -5,7 +5,7 @@ use mathlib.Core.Bool.{Bool, true, _&&_}
 use mathlib.Core.List.{List}
 use lib.Dec.{ltb}
 use borrow.Author.Tests.{ltb-true}
-use Rattle.protocol.specs.Walk.{count}
+use Rattle.protocol.specs.Walk.{countBelow}
 use Rattle.protocol.proofs.Basics.Tests.{and-left, and-right}
 use Rattle.resilience.specs.Run.{Network, World, Run, start}
 use Rattle.resilience.specs.Resilience.{Opened, Unforged, OneBlock, Enough, DeliveredAt}
@@ -64,7 +64,7 @@ good-true N w g h = let r = slot-true (3 * g + 1) w _ h in record { arrive = r .
 
 unfoldable pub goodSinceTest : Network → World → ℕ → ℕ → Bool
 unfolding deliveredAtTest
-goodSinceTest N w t g = deliveredAtTest (3 * g + 1) (w .log) && ltb (count (opposedSince N (w .log) t g) (N .nodes)) (countVoters N w g)
+goodSinceTest N w t g = deliveredAtTest (3 * g + 1) (w .log) && ltb (countBelow (opposedSince N (w .log) t g) (N .nodes)) (countVoters N w g)
 
 pub good-since-true : (N : Network) (w : World) (t g : ℕ) → goodSinceTest N w t g ≡ true → GoodSince N w t g
 unfolding goodSinceTest

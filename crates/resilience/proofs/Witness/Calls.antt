@@ -22,7 +22,7 @@ module _ {A : Type 0} (N : Network) (call : Settings → Places → Node → ℕ
   calledTest w (Due j number) =
       eqb j i
       && (eqb (w .beat) b
-      && (carried (call (settings N i) (N .places i) (w .node i) (w .beat) .reply)
+      && (carried (call (settings N i) (N .places i) (w .node i) (w .beat) .answer)
       && p (step N w (Due j number))))
   calledTest w (Gossip j buffer) = false
   calledTest w (Proposal j buffer) = false
@@ -49,7 +49,7 @@ module _ {A : Type 0} (N : Network) (call : Settings → Places → Node → ℕ
           let is = eqb-true j i (and-left (eqb j i) _ h) in
           let r1 = and-right (eqb j i) _ h in
           let r2 = and-right (eqb (u .beat) b) _ r1 in
-          let t = carried (call (settings N i) (N .places i) (u .node i) (u .beat) .reply) in
+          let t = carried (call (settings N i) (N .places i) (u .node i) (u .beat) .answer) in
           let c = carried-done _ (and-left t _ r2) in
           let by : M .by ≡ Due i number = e ∙ ap (λ o. Due o number) is in
           record {
@@ -61,7 +61,7 @@ module _ {A : Type 0} (N : Network) (call : Settings → Places → Node → ℕ
               due = subst (λ (s : Step). T (allowed N u s)) by (M .allowed);
               beat = eqb-true _ _ (and-left (eqb (u .beat) b) _ r1);
               value = c .0;
-              reply = c .1;
+              answer = c .1;
               left = ap (step N u) by;
             };
             passes = rw e (and-right t _ r2);

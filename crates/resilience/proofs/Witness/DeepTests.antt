@@ -5,9 +5,9 @@ use mathlib.Core.Bool.{Bool, true, false, _&&_, false≢true}
 use mathlib.Core.List.{List}
 use lib.Dec.{eqb}
 use borrow.Author.Tests.{eqb-true}
-use Rattle.protocol.specs.Lists.{any}
-use Rattle.protocol.specs.Confirm.{deepFrom, deep}
-use Rattle.protocol.specs.Refusal.{Reply, refused, done, answer}
+use Rattle.protocol.specs.Lists.{anyPass}
+use Rattle.protocol.specs.Confirm.{deepFrom, deepBlock}
+use Rattle.protocol.specs.Refusal.{Answer, refused, done, answerUnless}
 use Rattle.protocol.specs.Calls.Vote.{vote}
 use Rattle.protocol.specs.Calls.Query.{queryTests, deepOf, deepQuery}
 use Rattle.protocol.proofs.Basics.Tests.{facts, and-left}
@@ -23,11 +23,11 @@ use Rattle.resilience.proofs.Witness.Calls.{calledTest, called-true}
 
 -- ---- the deep block right after a vote
 
-abbrev answers : Reply ℕ → ℕ → Bool
+abbrev answers : Answer ℕ → ℕ → Bool
 answers (refused k) d = false
 answers (done x) d = eqb x d
 
-answers-true : (o : Reply ℕ) (d : ℕ) → answers o d ≡ true → o ≡ done d
+answers-true : (o : Answer ℕ) (d : ℕ) → answers o d ≡ true → o ≡ done d
 answers-true (refused k) d h = absurd (false≢true h)
 answers-true (done x) d h = ap done (eqb-true x d h)
 
@@ -36,7 +36,7 @@ abbrev hasDeep : Network → ℕ → ℕ → ℕ → World → Bool
 hasDeep N i a d u = answers (deepQuery (settings N i) (N .places i) (u .node i) a) d
 
 unfoldable pub deepTest : Network → List Act → ℕ → ℕ → ℕ → Bool
-unfolding runTest anyStep calledTest deepQuery queryTests deepOf deep deepFrom answer
+unfolding runTest anyStep calledTest deepQuery queryTests deepOf deepBlock deepFrom answerUnless
 deepTest N acts i a d = anyStep (calledTest N vote i (3 * a + 1) (hasDeep N i a d)) N (start N) (together acts)
 
 pub deep-true : (N : Network) (acts : List Act) → runTest N acts ≡ true → (i a d : ℕ) → deepTest N acts i a d ≡ true
@@ -53,14 +53,14 @@ abbrev builtIn : ℕ → Event → Bool
 builtIn q e = eqb (row e .kind) 2 && eqb (row e .beat / 3) q
 
 unfoldable pub everyTest : Network → ℕ → World → Bool
-unfolding any oneOfTest
-everyTest N s w = oneOfTest (λ q. any (builtIn q) (w .log)) (N .depth) s w
+unfolding anyPass oneOfTest
+everyTest N s w = oneOfTest (λ q. anyPass (builtIn q) (w .log)) (N .depth) s w
 
 pub every-true : (N : Network) (s : ℕ) (w : World) → 0 < N .depth → everyTest N s w ≡ true → BlockEvery N w (HonestBlock w) s
 unfolding everyTest
-every-true N s w z h = one-of-true (λ q. any (builtIn q) (w .log)) _ (λ q e. found q e) (N .depth) s w z h
+every-true N s w z h = one-of-true (λ q. anyPass (builtIn q) (w .log)) _ (λ q e. found q e) (N .depth) s w z h
   where
-    found : (q : ℕ) → any (builtIn q) (w .log) ≡ true → (beat B : ℕ) × (beat / 3 ≡ q) × HonestBlock w beat B
+    found : (q : ℕ) → anyPass (builtIn q) (w .log) ≡ true → (beat B : ℕ) × (beat / 3 ≡ q) × HonestBlock w beat B
     found q e =
         let g = any-true (builtIn q) (w .log) e in
         let o = g .0 in (

@@ -5,7 +5,7 @@ use mathlib.Core.Logic.{_⊎_}
 use mathlib.Core.Bool.{true}
 use mathlib.Core.List.{List, [], _∷_, _++_, append-assoc, List·Memᴰ}
 use native.Mathlib.Omega.{arith}
-use Rattle.protocol.specs.Lists.{all}
+use Rattle.protocol.specs.Lists.{allPass}
 use Rattle.protocol.specs.Filters.{chosen}
 use Rattle.protocol.specs.Packet.{Packet, packetBytes}
 use Rattle.protocol.specs.Refusal.{done}
@@ -75,7 +75,7 @@ pub record Happened : Type 0 where
       ∷ voted 7 4 21 ∷ voted 7 3 21 ∷ voted 7 2 21 ∷ voted 7 0 21
       ∷ voted 4 4 12 ∷ voted 4 3 11 ∷ voted 4 2 11 ∷ voted 4 0 11 ∷ []
   pub blocks : only 2 (end .log) ≡ built 9 3 31 21 ∷ built 6 2 21 11 ∷ []
-  pub lies : all (λ e. occurs e (end .log))
+  pub lies : allPass (λ e. occurs e (end .log))
       (given 3 0 (packetBytes proposal-11) true ∷ given 3 4 (packetBytes proposal-12) true
       ∷ given 4 0 (packetBytes vote-11) true ∷ given 4 4 (packetBytes vote-12) true
       ∷ given 7 3 (packetBytes again-12) true ∷ []) ≡ true

@@ -5,10 +5,10 @@ use mathlib.Core.Bool.{Bool, true, false, _&&_, false≢true}
 use mathlib.Core.List.{List, _++_, List·Memᴰ}
 use lib.Dec.{eqb, leb}
 use borrow.Author.Tests.{eqb-true, eq-eqb, leb-true}
-use Rattle.protocol.specs.Lists.{all}
+use Rattle.protocol.specs.Lists.{allPass}
 use Rattle.protocol.specs.Filters.{Choice, chosen, nothing}
-use Rattle.protocol.specs.Confirm.{voteIn, validVote, quorum, height, higher, highest, numberIn, fast}
-use Rattle.protocol.specs.Refusal.{Reply, refused, done, answer}
+use Rattle.protocol.specs.Confirm.{voteIn, validVote, quorum, height, higher, highest, numberFound, fastBlock}
+use Rattle.protocol.specs.Refusal.{Answer, refused, done, answerUnless}
 use Rattle.protocol.specs.Calls.Merge.{merge}
 use Rattle.protocol.specs.Calls.Query.{queryTests, fastOf, fastQuery}
 use Rattle.protocol.proofs.Basics.Tests.{and-left, and-right, both}
@@ -22,19 +22,19 @@ use Rattle.resilience.proofs.Witness.Tests.{implies, implied, openedTes
 use Rattle.resilience.proofs.Witness.Premises.{runTest}
 use Rattle.resilience.proofs.Witness.Calls.{calledTest, called-true}
 
-abbrev finds : Reply Choice → ℕ → Bool
+abbrev finds : Answer Choice → ℕ → Bool
 finds (refused k) F = false
 finds (done nothing) F = false
 finds (done (chosen x)) F = eqb x F
 
-finds-true : (o : Reply Choice) (F : ℕ) → finds o F ≡ true → o ≡ done (chosen F)
+finds-true : (o : Answer Choice) (F : ℕ) → finds o F ≡ true → o ≡ done (chosen F)
 finds-true (refused k) F h = absurd (false≢true h)
 finds-true (done nothing) F h = absurd (false≢true h)
 finds-true (done (chosen x)) F h = ap (λ o. done (chosen o)) (eqb-true x F h)
 
 -- node i was awake at no beat after b
 unfoldable asleepTest : ℕ → ℕ → List Event → Bool
-asleepTest i b log = all (λ e. implies (eqb (row e .kind) 0 && eqb (row e .node) i) (leb (row e .beat) b)) log
+asleepTest i b log = allPass (λ e. implies (eqb (row e .kind) 0 && eqb (row e .node) i) (leb (row e .beat) b)) log
 
 asleep-true : (i b : ℕ) (log : List Event) → asleepTest i b log ≡ true → (c : ℕ) → List·Memᴰ (woke c i) log → c ≤ b
 unfolding asleepTest
@@ -42,7 +42,7 @@ asleep-true i b log h c m = leb-true c b (implied (eqb i i) _ (all-true _ h (wok
 
 -- After these acts node i has merged slot t, was not awake since, and its Fast for t answers F.
 unfoldable pub foundTest : Network → List Act → ℕ → ℕ → ℕ → Bool
-unfolding runTest anyStep calledTest asleepTest fastQuery queryTests fastOf fast voteIn validVote quorum height higher highest numberIn answer
+unfolding runTest anyStep calledTest asleepTest fastQuery queryTests fastOf fastBlock voteIn validVote quorum height higher highest numberFound answerUnless
 foundTest N acts i t F =
     let w = runs N (start N) (together acts) in
     anyStep (calledTest N merge i (3 * t + 2) (λ u. true)) N (start N) (together acts)

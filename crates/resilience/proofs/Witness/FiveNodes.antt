@@ -7,9 +7,9 @@ use mathlib.Core.List.{List, [], _∷_, _++_, List·Memᴰ, List·Memᴰ·head}
 use native.Mathlib.Omega.{arith}
 use lib.Dec.{eqb}
 use Rattle.protocol.specs.Entry.{Vote}
-use Rattle.protocol.specs.Lists.{all, filter}
+use Rattle.protocol.specs.Lists.{allPass, passing}
 use Rattle.protocol.specs.Filters.{chosen, nothing, kept}
-use Rattle.protocol.specs.Store.{entries, inView}
+use Rattle.protocol.specs.Store.{entries, viewOf}
 use Rattle.protocol.specs.Packet.{Packet, packetBytes, packetOf}
 use Rattle.resilience.specs.Run.{Network, World, start, Event, voted, built, given}
 use Rattle.resilience.specs.Resilience.{AtOrAbove, Stays}
@@ -154,8 +154,8 @@ abbrev pub kinds : Packet → List ℕ
 kinds p = p .kind ∷ []
 
 pub ofSlot : ℕ → List Vote → List Vote
-unfolding filter
-ofSlot t vs = filter (λ a. eqb (a .slot) t) vs
+unfolding passing
+ofSlot t vs = passing (λ a. eqb (a .slot) t) vs
 
 -- In each list of events the latest comes first.
 pub record Happened : Type 0 where
@@ -167,13 +167,13 @@ pub record Happened : Type 0 where
       ∷ voted 7 4 twin ∷ voted 7 3 twin ∷ voted 7 2 twin
       ∷ voted 4 4 11 ∷ voted 4 3 11 ∷ voted 4 2 12 ∷ []
   pub blocks : only 2 (end .log) ≡ built 15 0 51 41 ∷ built 12 4 41 31 ∷ built 9 3 31 twin ∷ built 6 2 twin 11 ∷ []
-  pub lies : all (λ e. occurs e (end .log))
+  pub lies : allPass (λ e. occurs e (end .log))
       (given 2 0 (packetBytes empty) true
       ∷ given 3 2 (packetBytes proposal-12) true ∷ given 3 3 (packetBytes proposal-11) true
       ∷ given 7 2 (packetBytes vote-12) true ∷ given 7 3 (packetBytes vote-twin) true
       ∷ given 9 3 (packetBytes orphan) false ∷ given 13 4 (packetBytes again-12) true
       ∷ given 18 0 (packetBytes proposal-61) true ∷ []) ≡ true
-  pub counts-again : (kept (inView (before .node 3 .votes)) 2 4 1 ≡ nothing) × (kept (inView (before .node 3 .votes)) 2 5 1 ≡ chosen 12)
+  pub counts-again : (kept (viewOf (before .node 3 .votes)) 2 4 1 ≡ nothing) × (kept (viewOf (before .node 3 .votes)) 2 5 1 ≡ chosen 12)
   -- the votes of slot 2, in which block twin is proposed, leave the table of node 3 with its Merge of slot 5
   pub votes-removed : (before .node 3 .clock .merged ≡ 4) × (end .node 3 .clock .merged ≡ 5)
       × (ofSlot 2 (entries (before .node 3 .votes)) ≡ voteBy 2 2 twin ∷ voteBy 3 2 twin ∷ voteBy 1 2 twin ∷ voteBy 4 2 twin ∷ voteBy 1 2 12 ∷ [])

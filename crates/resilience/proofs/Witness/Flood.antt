@@ -21,7 +21,7 @@ use Rattle.resilience.proofs.Witness.Runs.{runs}
 use Rattle.resilience.proofs.Witness.Acts.{network, butOne, Act, together, begin, awake, proposes, gossip, proposal, exchange, packet, blockWith, gossipWith}
 use Rattle.resilience.proofs.Witness.Events.{only, only-in}
 use Rattle.resilience.proofs.Witness.Tests.{unforged, enoughForHonestTest, enough-for-honest-true}
-use Rattle.resilience.proofs.Witness.Premises.{Premise, delivery, unforged-blocks, unforged-votes, unforged-proposals, one-block, enough, majority, Holds, place, differ, by-weaker, besides-true, runTest, run-true, neededTest}
+use Rattle.resilience.proofs.Witness.Premises.{Premise, delivery, unforged-blocks, unforged-votes, unforged-proposals, one-block, enough, majority, Holds, rank, differ, by-weaker, besides-true, runTest, run-true, neededTest}
 use Rattle.resilience.proofs.Witness.DeepTests.{deepTest, deep-true, everyTest, every-true}
 use Rattle.resilience.proofs.Witness.FastTests.{foundTest, found-true}
 
@@ -83,8 +83,8 @@ pub record Happened : Type 0 where
       ≡ voted 10 4 31 ∷ voted 10 3 31 ∷ voted 10 2 31 ∷ voted 10 0 31 ∷ voted 7 4 21 ∷ voted 7 3 21 ∷ voted 7 2 21 ∷ voted 7 0 21 ∷ []
   pub blocks : only 2 (end .log) ≡ built 9 3 31 21 ∷ built 6 2 21 0 ∷ []
   pub turned-away : only 6 (end .log) ≡ turnedAway 6 0 (packetBytes crowd) ∷ turnedAway 6 3 long ∷ []
-  pub too-long : receive (settings five 3) (five .places 3) (moment .node 3) (moment .beat) long .reply ≡ refused (by 24)
-  pub no-places : receive (settings five 0) (five .places 0) (moment .node 0) (moment .beat) (packetBytes crowd) .reply ≡ refused (by 10)
+  pub too-long : receive (settings five 3) (five .places 3) (moment .node 3) (moment .beat) long .answer ≡ refused (by 24)
+  pub no-places : receive (settings five 0) (five .places 0) (moment .node 0) (moment .beat) (packetBytes crowd) .answer ≡ refused (by 10)
 
 pub happened : Happened
 unfolding neededTest acts
@@ -107,7 +107,7 @@ rest : (q : Premise) → (q ≡ enough → ⊥) → Holds q five 5 2 end
 unfolding neededTest acts
 rest = besides-true enough five 5 2 end refl
 
-holds : (q : Premise) → eqb (place q) (place enough) ≡ false → Holds q five 5 2 end
+holds : (q : Premise) → eqb (rank q) (rank enough) ≡ false → Holds q five 5 2 end
 holds q e = rest q (differ q enough e)
 
 genuine : Unforged five (end .log)

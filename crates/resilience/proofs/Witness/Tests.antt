@@ -9,11 +9,11 @@ use native.Mathlib.Omega.{arith}
 use lib.Dec.{eqb, leb, ltb, T}
 use borrow.Author.Tests.{eqb-true, eqb-false, ne-eqb, eq-eqb, not-true, lt-ltb, le-leb, ltb-true}
 use Rattle.protocol.specs.Entry.{Block, Vote}
-use Rattle.protocol.specs.Lists.{any, all, Same}
+use Rattle.protocol.specs.Lists.{anyPass, allPass, Same}
 use Rattle.protocol.specs.Store.{sameBlock, sameVote}
-use Rattle.protocol.specs.Walk.{count}
+use Rattle.protocol.specs.Walk.{countBelow}
 use Rattle.protocol.specs.Packet.{Packet, packetOf, isProposal}
-use Rattle.protocol.specs.Refusal.{Reply, refused, done}
+use Rattle.protocol.specs.Refusal.{Answer, refused, done}
 use Rattle.protocol.specs.Calls.Open.{openNode}
 use Rattle.protocol.proofs.Basics.Tests.{facts, both, and-left, and-right, clashing}
 use Rattle.protocol.proofs.Basics.Members.{any-true, any-holds, all-true}
@@ -47,9 +47,9 @@ below-true p (suc m) h i l = go (eqb i m) refl (λ k. below-true p m (and-right 
 -- ---- freshly opened nodes
 
 unfoldable pub openedTest : Network → Bool
-openedTest N = below (λ i. implies (isHonest N i) (carried (openNode (settings N i) (N .places i) (N .before i) .reply))) (N .nodes)
+openedTest N = below (λ i. implies (isHonest N i) (carried (openNode (settings N i) (N .places i) (N .before i) .answer))) (N .nodes)
 
-pub carried-done : {A : Type 0} (r : Reply A) → carried r ≡ true → (a : A) × (r ≡ done a)
+pub carried-done : {A : Type 0} (r : Answer A) → carried r ≡ true → (a : A) × (r ≡ done a)
 carried-done (refused k) h = absurd (false≢true h)
 carried-done (done a) h = (a, refl)
 
@@ -116,8 +116,8 @@ unfoldable pub blocksTest : Network → List Event → Packet → Bool
 unfolding only
 blocksTest N earlier p =
     let made = only 2 earlier in
-    all (λ b. implies (isHonest N (b .slot % N .nodes))
-    (any (λ e. eqb (row e .kind) 2 && (eqb (row e .beat / 3) (b .slot) && (eqb (row e .node) (b .slot % N .nodes)
+    allPass (λ b. implies (isHonest N (b .slot % N .nodes))
+    (anyPass (λ e. eqb (row e .kind) 2 && (eqb (row e .beat / 3) (b .slot) && (eqb (row e .node) (b .slot % N .nodes)
     && (eqb (row e .number) (b .number) && eqb (row e .parent) (b .parent))))) made)) (p .blocks)
 
 pub blocks-true : (N : Network) (earlier : List Event) (p : Packet) → blocksTest N earlier p ≡ true → GenuineBlocks N earlier p
@@ -138,8 +138,8 @@ unfoldable pub votesTest : Network → List Event → Packet → Bool
 unfolding only
 votesTest N earlier p =
     let made = only 1 earlier in
-    all (λ a. implies (isHonest N (a .voter))
-    (any (λ e. eqb (row e .kind) 1 && (eqb (row e .beat / 3) (a .slot) && (eqb (row e .node) (a .voter)
+    allPass (λ a. implies (isHonest N (a .voter))
+    (anyPass (λ e. eqb (row e .kind) 1 && (eqb (row e .beat / 3) (a .slot) && (eqb (row e .node) (a .voter)
     && eqb (row e .number) (a .number)))) made)) (p .votes)
 
 pub votes-true : (N : Network) (earlier : List Event) (p : Packet) → votesTest N earlier p ≡ true → GenuineVotes N earlier p
@@ -158,10 +158,10 @@ votes-true N earlier p h a m honest =
 -- lists with the same members
 module _ {A : Type 0} where
   unfoldable pub sameMembers : (A → A → Bool) → List A → List A → Bool
-  sameMembers same xs ys = all (λ a. any (same a) ys) xs && all (λ a. any (same a) xs) ys
+  sameMembers same xs ys = allPass (λ a. anyPass (same a) ys) xs && allPass (λ a. anyPass (same a) xs) ys
 
   within-true : (same : A → A → Bool) → ((a b : A) → same a b ≡ true → a ≡ b) →
-      (xs ys : List A) → all (λ a. any (same a) ys) xs ≡ true → (a : A) → List·Memᴰ a xs → List·Memᴰ a ys
+      (xs ys : List A) → allPass (λ a. anyPass (same a) ys) xs ≡ true → (a : A) → List·Memᴰ a xs → List·Memᴰ a ys
   within-true same f xs ys h a m =
       let r = any-true (same a) ys (all-true _ h a m) in
       rw (f a (r .0) (r .2)) (r .1)
@@ -170,7 +170,7 @@ module _ {A : Type 0} where
       (xs ys : List A) → sameMembers same xs ys ≡ true → Same A xs ys
   unfolding sameMembers
   members-true same f xs ys h =
-      let l = all (λ a. any (same a) ys) xs in
+      let l = allPass (λ a. anyPass (same a) ys) xs in
       record { to = within-true same f xs ys (and-left l _ h); from = within-true same f ys xs (and-right l _ h) }
 
 -- a proposal of the same slot, number and entries
@@ -182,7 +182,7 @@ sameProposal q p =
 unfoldable pub proposalTest : Network → List Event → Packet → Bool
 proposalTest N earlier p =
     implies (isProposal (p .kind) && isHonest N (p .slot % N .nodes))
-    (any (λ e. eqb (row e .kind) 3 && (eqb (row e .node) (p .slot % N .nodes) && sameProposal (packetOf (row e .bytes)) p)) earlier)
+    (anyPass (λ e. eqb (row e .kind) 3 && (eqb (row e .node) (p .slot % N .nodes) && sameProposal (packetOf (row e .bytes)) p)) earlier)
 
 pub proposal-true : (N : Network) (earlier : List Event) (p : Packet) → proposalTest N earlier p ≡ true → GenuineProposal N earlier p
 unfolding proposalTest sameProposal
@@ -210,7 +210,7 @@ proposal-true N earlier p h kind honest =
 
 -- no event of kind k
 unfoldable pub noneTest : ℕ → List Event → Bool
-noneTest k log = all (λ e. not (eqb (row e .kind) k)) log
+noneTest k log = allPass (λ e. not (eqb (row e .kind) k)) log
 
 pub none-true : (k : ℕ) (log : List Event) → noneTest k log ≡ true → (e : Event) → List·Memᴰ e log → eqb (row e .kind) k ≡ true → ⊥
 unfolding noneTest
@@ -234,12 +234,12 @@ sendsBytes bytes e = eqb (row e .kind) 3 && sameBytes (row e .bytes) bytes
 -- what is turned away was not sent before
 unfoldable packetsTest : List Event → Bool
 packetsTest [] = true
-packetsTest (e ∷ older) = implies (eqb (row e .kind) 6) (not (any (sendsBytes (row e .bytes)) older)) && packetsTest older
+packetsTest (e ∷ older) = implies (eqb (row e .kind) 6) (not (anyPass (sendsBytes (row e .bytes)) older)) && packetsTest older
 
 packets-at : (newer older : List Event) (beat j : ℕ) (bytes : List ℕ) → packetsTest (newer ++ (turnedAway beat j bytes ∷ older)) ≡ true
-    → any (sendsBytes bytes) older ≡ false
+    → anyPass (sendsBytes bytes) older ≡ false
 unfolding packetsTest
-packets-at [] older beat j bytes h = not-true (any (sendsBytes bytes) older) (and-left (not (any (sendsBytes bytes) older)) _ h)
+packets-at [] older beat j bytes h = not-true (anyPass (sendsBytes bytes) older) (and-left (not (anyPass (sendsBytes bytes) older)) _ h)
 packets-at (e ∷ newer) older beat j bytes h = packets-at newer older beat j bytes (and-right (implies (eqb (row e .kind) 6) _) _ h)
 
 unfoldable pub enoughForHonestTest : List Event → Bool
@@ -280,7 +280,7 @@ module _ (inTime : ℕ → ℕ → Bool) (asked : ℕ → Bool) where
   unfoldable reachedTest : ℕ → ℕ → List Event → List Event → Bool
   reachedTest beat j since [] = true
   reachedTest beat j since (e ∷ before) =
-      implies (owed beat j e) (any (reaches beat j (row e .bytes)) since) && reachedTest beat j (e ∷ since) before
+      implies (owed beat j e) (anyPass (reaches beat j (row e .bytes)) since) && reachedTest beat j (e ∷ since) before
 
   unfoldable pub arrivedTest : List Event → Bool
   unfolding reachedTest sameBytes
@@ -294,16 +294,16 @@ module _ (inTime : ℕ → ℕ → Bool) (asked : ℕ → Bool) where
   reached-at beat j acc [] before b i bytes h f l ne =
       let c = owed beat j (sent b i bytes) in
       let w : c ≡ true = both f (both (lt-ltb b beat l) (ap not (ne-eqb i j ne))) in
-      let r = any-true (reaches beat j bytes) acc (implied c _ (and-left (implies c (any (reaches beat j bytes) acc)) _ h) w) in
+      let r = any-true (reaches beat j bytes) acc (implied c _ (and-left (implies c (anyPass (reaches beat j bytes) acc)) _ h) w) in
       (r .0, inr (r .1), r .2)
   reached-at beat j acc (x ∷ since) before b i bytes h f l ne =
-      let c = implies (owed beat j x) (any (reaches beat j (row x .bytes)) acc) in
+      let c = implies (owed beat j x) (anyPass (reaches beat j (row x .bytes)) acc) in
       let r = reached-at beat j (x ∷ acc) since before b i bytes (and-right c _ h) f l ne in
-      (r .0, place (r .0) (r .1), r .2)
+      (r .0, since-or-before (r .0) (r .1), r .2)
     where
-      place : (e : Event) → List·Memᴰ e since ⊎ List·Memᴰ e (x ∷ acc) → List·Memᴰ e (x ∷ since) ⊎ List·Memᴰ e acc
-      place e (inl m) = inl (List·Memᴰ·tail m)
-      place e (inr m) = ⊎-elim (λ q. inl (List·Memᴰ·head q)) (λ n. inr n) (List·Memᴰ·cases-cons m)
+      since-or-before : (e : Event) → List·Memᴰ e since ⊎ List·Memᴰ e (x ∷ acc) → List·Memᴰ e (x ∷ since) ⊎ List·Memᴰ e acc
+      since-or-before e (inl m) = inl (List·Memᴰ·tail m)
+      since-or-before e (inr m) = ⊎-elim (λ q. inl (List·Memᴰ·head q)) (λ n. inr n) (List·Memᴰ·cases-cons m)
 
   arrived-at : (newer older : List Event) (j beat : ℕ) → arrivedTest (newer ++ (woke beat j ∷ older)) ≡ true → reachedTest beat j [] older ≡ true
   unfolding arrivedTest
@@ -357,7 +357,7 @@ blocksOf (turnedAway b i bytes) = []
 -- these blocks and those that are not among them yet
 unfoldable addNew : List Block → List Block → List Block
 addNew [] bs = bs
-addNew (c ∷ cs) bs = let rest = addNew cs bs in cond (any (sameBlock c) rest) rest (c ∷ rest)
+addNew (c ∷ cs) bs = let rest = addNew cs bs in cond (anyPass (sameBlock c) rest) rest (c ∷ rest)
 
 -- all blocks that the log gives, each once
 unfoldable pub blocksGiven : List Event → List Block
@@ -368,7 +368,7 @@ blocksGiven (e ∷ log) = addNew (blocksOf e) (blocksGiven log)
 added-old : (cs bs : List Block) (b : Block) → List·Memᴰ b bs → List·Memᴰ b (addNew cs bs)
 unfolding addNew
 added-old [] bs b m = m
-added-old (c ∷ cs) bs b m = go (any (sameBlock c) (addNew cs bs)) (added-old cs bs b m)
+added-old (c ∷ cs) bs b m = go (anyPass (sameBlock c) (addNew cs bs)) (added-old cs bs b m)
   where
     go : (t : Bool) → List·Memᴰ b (addNew cs bs) → List·Memᴰ b (cond t (addNew cs bs) (c ∷ addNew cs bs))
     go true n = n
@@ -376,12 +376,12 @@ added-old (c ∷ cs) bs b m = go (any (sameBlock c) (addNew cs bs)) (added-old c
 
 added-new : (cs bs : List Block) (b : Block) → List·Memᴰ b cs → List·Memᴰ b (addNew cs bs)
 unfolding addNew
-added-new cs bs b (List·Memᴰ·head {x = c} {xs = rest} e) = go (any (sameBlock c) (addNew rest bs)) refl
+added-new cs bs b (List·Memᴰ·head {x = c} {xs = rest} e) = go (anyPass (sameBlock c) (addNew rest bs)) refl
   where
-    go : (t : Bool) → any (sameBlock c) (addNew rest bs) ≡ t → List·Memᴰ b (cond t (addNew rest bs) (c ∷ addNew rest bs))
+    go : (t : Bool) → anyPass (sameBlock c) (addNew rest bs) ≡ t → List·Memᴰ b (cond t (addNew rest bs) (c ∷ addNew rest bs))
     go true h = let r = any-true (sameBlock c) (addNew rest bs) h in rw (e ∙ block-same c (r .0) (r .2)) (r .1)
     go false h = List·Memᴰ·head e
-added-new cs bs b (List·Memᴰ·tail {x = c} {xs = rest} m) = go (any (sameBlock c) (addNew rest bs)) (added-new rest bs b m)
+added-new cs bs b (List·Memᴰ·tail {x = c} {xs = rest} m) = go (anyPass (sameBlock c) (addNew rest bs)) (added-new rest bs b m)
   where
     go : (t : Bool) → List·Memᴰ b (addNew rest bs) → List·Memᴰ b (cond t (addNew rest bs) (c ∷ addNew rest bs))
     go true n = n
@@ -400,7 +400,7 @@ gives-in log b (by-proposer beat i m s) =
 unfoldable pub oneBlockTest : List Event → Bool
 oneBlockTest log =
     let bs = blocksGiven log in
-    all (λ b. all (λ c. implies (eqb (b .number) (c .number)) (sameBlock b c)) bs) bs
+    allPass (λ b. allPass (λ c. implies (eqb (b .number) (c .number)) (sameBlock b c)) bs) bs
 
 pub one-block-true : (log : List Event) → oneBlockTest log ≡ true → OneBlock log
 unfolding oneBlockTest OneBlock
@@ -411,11 +411,11 @@ one-block-true log h b c g d e =
 -- ---- not at or above B
 
 unfoldable pub among : ℕ → List ℕ → Bool
-among x xs = any (λ y. eqb y x) xs
+among x xs = anyPass (λ y. eqb y x) xs
 
 -- `chain` is closed under the parents that the log gives, and B is not in it
 unfoldable pub apartTest : List Event → ℕ → List ℕ → Bool
-apartTest log B chain = not (among B chain) && all (λ c. implies (among (c .number) chain) (among (c .parent) chain)) (blocksGiven log)
+apartTest log B chain = not (among B chain) && allPass (λ c. implies (among (c .number) chain) (among (c .parent) chain)) (blocksGiven log)
 
 pub apart-true : (log : List Event) (B : ℕ) (chain : List ℕ) → apartTest log B chain ≡ true →
     (x : ℕ) → among x chain ≡ true → AtOrAbove log B x → ⊥
@@ -428,10 +428,10 @@ apart-true log B chain h x m (up c g a) =
 -- ---- the counts of voters
 
 abbrev pub countOpposed : Network → World → ℕ → ℕ
-countOpposed N w r = count (opposed N (w .log) r) (N .nodes)
+countOpposed N w r = countBelow (opposed N (w .log) r) (N .nodes)
 
 abbrev pub countVoters : Network → World → ℕ → ℕ
-countVoters N w r = count (voters N (w .log) r) (N .nodes)
+countVoters N w r = countBelow (voters N (w .log) r) (N .nodes)
 
 -- each slot from t on whose vote beat is over passes
 unfoldable pub slotsTest : (ℕ → Bool) → ℕ → World → Bool

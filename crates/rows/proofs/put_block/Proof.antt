@@ -36,7 +36,7 @@ returns c =
     put-six (now (a .blocks)) (a .i) _ _ _ _ _ _ (omega (arith, c .before .pre))
     ∙ ap (λ (t : List ℕ). putRow 6 (now (a .blocks)) (a .i) t)
     (λ i. sym (lower-join (b .number .lower) (b .number .upper) n) i ∷ sym (upper-join (b .number .lower) (b .number .upper) n) i
-    ∷ sym (lower-join (b .parent .lower) (b .parent .upper) p) i ∷ sym (upper-join (b .parent .lower) (b .parent .upper) p) i ∷ b .slot ∷ mark-word (a .row .shown) i ∷ [])
+    ∷ sym (lower-join (b .parent .lower) (b .parent .upper) p) i ∷ sym (upper-join (b .parent .lower) (b .parent .upper) p) i ∷ b .slot ∷ mark-word (a .row .viewed) i ∷ [])
 
 pub put-block-spec : {M : Type 1} → statement M
 put-block-spec =

@@ -31,7 +31,7 @@ returns c =
     let n : b .number .lower < 2 ^ 64 = omega (arith, c .struct-known .given) in
     put-five (now (a .votes)) (a .i) _ _ _ _ _ (omega (arith, c .before .pre))
     ∙ ap (λ (t : List ℕ). putRow 5 (now (a .votes)) (a .i) t)
-    (λ i. b .voter ∷ b .slot ∷ sym (lower-join (b .number .lower) (b .number .upper) n) i ∷ sym (upper-join (b .number .lower) (b .number .upper) n) i ∷ mark-word (a .row .shown) i ∷ [])
+    (λ i. b .voter ∷ b .slot ∷ sym (lower-join (b .number .lower) (b .number .upper) n) i ∷ sym (upper-join (b .number .lower) (b .number .upper) n) i ∷ mark-word (a .row .viewed) i ∷ [])
 
 pub put-vote-spec : {M : Type 1} → statement M
 put-vote-spec =

@@ -5,7 +5,7 @@ use borrow.Author.Tests.{not-true, not-false}
 use Prim.Native.Nat.{_-_}
 use mathlib.Core.Path.{_≡_, refl, sym, _∙_}
 use lib.ListN.{drop}
-use Rattle.protocol.specs.Lists.{all}
+use Rattle.protocol.specs.Lists.{allPass}
 use Rattle.protocol.specs.Lent.{rowsOf, makeBlock, makeVote}
 use Rattle.rows.proofs.Rows.{all-pass, all-fail, all-end}
 use Rattle.soundness.specs.Parts.{votedSound}
@@ -14,8 +14,8 @@ use Rattle.soundness.proofs.all_voted_sound.Tie as tie
 
 abbrev Inv-loop : tie.InvT-loop
 Inv-loop blocks blocks-used links votes votes-used i₀ i =
-    all (votedSound (rowsOf makeBlock blocks blocks-used)) (rowsOf makeVote votes votes-used)
-    ≡ all (votedSound (rowsOf makeBlock blocks blocks-used)) (drop i (rowsOf makeVote votes votes-used))
+    allPass (votedSound (rowsOf makeBlock blocks blocks-used)) (rowsOf makeVote votes votes-used)
+    ≡ allPass (votedSound (rowsOf makeBlock blocks blocks-used)) (drop i (rowsOf makeVote votes votes-used))
 
 abbrev μ-loop : tie.MeasureT-loop
 μ-loop blocks blocks-used links votes votes-used i₀ i = votes-used - i

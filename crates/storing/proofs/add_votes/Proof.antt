@@ -51,7 +51,7 @@ start l = l .before .before .before .before .before .before
 below : (c : tie.In-loop Inv-loop μ-loop) → c .before .loop .i < length (packetOf (now (start (c .before) .args .bytes)) .votes)
 below c = omega (arith, c .before .loop .inv .1, c .loop-test .taken)
 
--- the place fits a word: the rows are in the table, and a packet has fewer than 65,536 votes
+-- the number of the row fits a word: the rows are in the table, and a packet has fewer than 65,536 votes
 add-has : tie.Need-add-has Inv-loop μ-loop
 add-has c =
     let o = c .before .before in

@@ -1,7 +1,7 @@
 -- `verdicts::number` meets its contract: document 01's number. Assumes nothing.
 use borrow.Author.Needs.{needs}
 use mathlib.Core.Path.{ap, sym}
-use Rattle.verdicts.specs.Verdict.{numberOf}
+use Rattle.verdicts.specs.Verdict.{refusalNumberOf}
 use Rattle.verdicts.proofs.number.Statement.{statement}
 use Rattle.verdicts.proofs.number.Tie as tie
 
@@ -13,26 +13,26 @@ number-spec {M} =
     let s₄ = s₃ (λ c. search needs) (λ c. search needs) (λ c. search needs) (λ c. search needs) (λ c. search needs) in
     tie.close
     (s₄
-    (λ c. sym (ap numberOf (c .enum-told .given .1)))
-    (λ c. sym (ap numberOf (c .enum-told2 .given .1)))
-    (λ c. sym (ap numberOf (c .enum-told3 .given .1)))
-    (λ c. sym (ap numberOf (c .enum-told4 .given .1)))
-    (λ c. sym (ap numberOf (c .enum-told5 .given .1)))
-    (λ c. sym (ap numberOf (c .enum-told6 .given .1)))
-    (λ c. sym (ap numberOf (c .enum-told7 .given .1)))
-    (λ c. sym (ap numberOf (c .enum-told8 .given .1)))
-    (λ c. sym (ap numberOf (c .enum-told9 .given .1)))
-    (λ c. sym (ap numberOf (c .enum-told10 .given .1)))
-    (λ c. sym (ap numberOf (c .enum-told11 .given .1)))
-    (λ c. sym (ap numberOf (c .enum-told12 .given .1)))
-    (λ c. sym (ap numberOf (c .enum-told13 .given .1)))
-    (λ c. sym (ap numberOf (c .enum-told14 .given .1)))
-    (λ c. sym (ap numberOf (c .enum-told15 .given .1)))
-    (λ c. sym (ap numberOf (c .enum-told16 .given .1)))
-    (λ c. sym (ap numberOf (c .enum-told17 .given .1)))
-    (λ c. sym (ap numberOf (c .enum-told18 .given .1)))
-    (λ c. sym (ap numberOf (c .enum-told19 .given .1)))
-    (λ c. sym (ap numberOf (c .enum-told20 .given .1)))
-    (λ c. sym (ap numberOf (c .enum-told21 .given .1)))
-    (λ c. sym (ap numberOf (c .enum-told22 .given .1)))
-    (λ c. sym (ap numberOf (c .enum-told23 .given .1))))
+    (λ c. sym (ap refusalNumberOf (c .enum-told .given .1)))
+    (λ c. sym (ap refusalNumberOf (c .enum-told2 .given .1)))
+    (λ c. sym (ap refusalNumberOf (c .enum-told3 .given .1)))
+    (λ c. sym (ap refusalNumberOf (c .enum-told4 .given .1)))
+    (λ c. sym (ap refusalNumberOf (c .enum-told5 .given .1)))
+    (λ c. sym (ap refusalNumberOf (c .enum-told6 .given .1)))
+    (λ c. sym (ap refusalNumberOf (c .enum-told7 .given .1)))
+    (λ c. sym (ap refusalNumberOf (c .enum-told8 .given .1)))
+    (λ c. sym (ap refusalNumberOf (c .enum-told9 .given .1)))
+    (λ c. sym (ap refusalNumberOf (c .enum-told10 .given .1)))
+    (λ c. sym (ap refusalNumberOf (c .enum-told11 .given .1)))
+    (λ c. sym (ap refusalNumberOf (c .enum-told12 .given .1)))
+    (λ c. sym (ap refusalNumberOf (c .enum-told13 .given .1)))
+    (λ c. sym (ap refusalNumberOf (c .enum-told14 .given .1)))
+    (λ c. sym (ap refusalNumberOf (c .enum-told15 .given .1)))
+    (λ c. sym (ap refusalNumberOf (c .enum-told16 .given .1)))
+    (λ c. sym (ap refusalNumberOf (c .enum-told17 .given .1)))
+    (λ c. sym (ap refusalNumberOf (c .enum-told18 .given .1)))
+    (λ c. sym (ap refusalNumberOf (c .enum-told19 .given .1)))
+    (λ c. sym (ap refusalNumberOf (c .enum-told20 .given .1)))
+    (λ c. sym (ap refusalNumberOf (c .enum-told21 .given .1)))
+    (λ c. sym (ap refusalNumberOf (c .enum-told22 .given .1)))
+    (λ c. sym (ap refusalNumberOf (c .enum-told23 .given .1))))

@@ -1,6 +1,6 @@
 -- `writer::put_five` meets its contract. Assumes nothing.
 use borrow.Author.Needs.{needs}
-use Rattle.writer.proofs.Places.{five-behind}
+use Rattle.writer.proofs.Positions.{five-behind}
 use Rattle.writer.proofs.put_five.Statement.{statement}
 use Rattle.writer.proofs.put_five.Tie as tie
 

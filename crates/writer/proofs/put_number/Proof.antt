@@ -6,7 +6,7 @@ use lib.ListN.{length, length-set}
 use lib.Seq.{sets}
 use borrow.Author.Needs.{needs}
 use Rattle.protocol.specs.Packet.{bytesOf}
-use Rattle.writer.proofs.Places.{number-turn, number-end}
+use Rattle.writer.proofs.Positions.{number-turn, number-end}
 use Rattle.writer.proofs.put_number.Statement.{statement}
 use Rattle.writer.proofs.put_number.Tie as tie
 
@@ -20,9 +20,9 @@ abbrev μ-loop : tie.MeasureT-loop
 loop-holds : tie.Need-loop-holds Inv-loop μ-loop
 loop-holds c =
     let a = c .args in
-    let place : a .at + 0 ≡ a .at = omega arith in
+    let position : a .at + 0 ≡ a .at = omega arith in
     let size : a .width - 0 ≡ a .width = omega arith in
-    (omega arith, refl, rw (place, size))
+    (omega arith, refl, rw (position, size))
 
 cast-buf : tie.Need-cast-buf Inv-loop μ-loop
 cast-buf c = search needs

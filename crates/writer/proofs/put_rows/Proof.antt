@@ -6,7 +6,7 @@ use lib.ListN.{length}
 use lib.Seq.{sets}
 use borrow.Author.Needs.{needs}
 use Rattle.writer.specs.Rows.{sentFrom, entriesBytes}
-use Rattle.writer.proofs.Places.{sets-over}
+use Rattle.writer.proofs.Positions.{sets-over}
 use Rattle.writer.proofs.Rows.{row-fits, bytes-turn, length-turn, bytes-end}
 use Rattle.writer.proofs.put_rows.Statement.{statement}
 use Rattle.writer.proofs.put_rows.Tie as tie

@@ -3,7 +3,7 @@ use mathlib.Core.Path.{_≡_, refl, sym, _∙_}
 use mathlib.Core.Bool.{_||_}
 use lib.ListN.{drop}
 use borrow.Author.Needs.{needs}
-use Rattle.protocol.specs.Lists.{any}
+use Rattle.protocol.specs.Lists.{anyPass}
 use Rattle.protocol.specs.Words.{value, isWide}
 use Rattle.protocol.specs.Calls.Write.{sentOf, tooWide}
 use Rattle.protocol.specs.Lent.{rowsOf, makeBlock, makeVote}
@@ -15,7 +15,7 @@ use Rattle.writer.proofs.too_wide.Tie as tie
 -- what narrow writing meets
 met : (c : tie.After-enum-told2) → let a = c .before .before .before .before .args in
     tooWide (a .width) (sentOf (a .proposal) (a .width) (nodeIn (a .blocks .now) (a .blocks-used) (a .votes .now) (a .votes-used)))
-    ≡ (isWide (value (a .number)) || (any (wideBlock (a .proposal)) (drop 1 (rowsOf makeBlock (a .blocks .now) (a .blocks-used))) || any (wideVote (a .proposal)) (rowsOf makeVote (a .votes .now) (a .votes-used))))
+    ≡ (isWide (value (a .number)) || (anyPass (wideBlock (a .proposal)) (drop 1 (rowsOf makeBlock (a .blocks .now) (a .blocks-used))) || anyPass (wideVote (a .proposal)) (rowsOf makeVote (a .votes .now) (a .votes-used))))
 met c =
     let s = c .before .before .before .before in
     let a = s .args in

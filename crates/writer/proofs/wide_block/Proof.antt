@@ -5,7 +5,7 @@ use mathlib.Core.Bool.{false}
 use mathlib.Core.Logic.{⊎-elim}
 use lib.ListN.{drop}
 use borrow.Author.Needs.{needs}
-use Rattle.protocol.specs.Lists.{any}
+use Rattle.protocol.specs.Lists.{anyPass}
 use Rattle.protocol.specs.Lent.{rowsOf, makeBlock}
 use Rattle.rows.specs.Rows.{markedBlock}
 use Rattle.rows.proofs.Rows.{any-hit, any-miss, any-end}
@@ -15,7 +15,7 @@ use Rattle.writer.proofs.wide_block.Tie as tie
 
 abbrev Inv-loop : tie.InvT-loop
 Inv-loop blocks used proposal i₀ i =
-    any (wideBlock proposal) (drop 1 (rowsOf makeBlock blocks used)) ≡ any (wideBlock proposal) (drop i (rowsOf makeBlock blocks used))
+    anyPass (wideBlock proposal) (drop 1 (rowsOf makeBlock blocks used)) ≡ anyPass (wideBlock proposal) (drop i (rowsOf makeBlock blocks used))
 
 abbrev μ-loop : tie.MeasureT-loop
 μ-loop blocks used proposal i₀ i = used - i

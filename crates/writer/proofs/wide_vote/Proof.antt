@@ -5,7 +5,7 @@ use mathlib.Core.Bool.{false}
 use mathlib.Core.Logic.{⊎-elim}
 use lib.ListN.{drop}
 use borrow.Author.Needs.{needs}
-use Rattle.protocol.specs.Lists.{any}
+use Rattle.protocol.specs.Lists.{anyPass}
 use Rattle.protocol.specs.Lent.{rowsOf, makeVote}
 use Rattle.rows.specs.Rows.{markedVote}
 use Rattle.rows.proofs.Rows.{any-hit, any-miss, any-end}
@@ -14,7 +14,7 @@ use Rattle.writer.proofs.wide_vote.Statement.{statement}
 use Rattle.writer.proofs.wide_vote.Tie as tie
 
 abbrev Inv-loop : tie.InvT-loop
-Inv-loop votes used proposal i₀ i = any (wideVote proposal) (rowsOf makeVote votes used) ≡ any (wideVote proposal) (drop i (rowsOf makeVote votes used))
+Inv-loop votes used proposal i₀ i = anyPass (wideVote proposal) (rowsOf makeVote votes used) ≡ anyPass (wideVote proposal) (drop i (rowsOf makeVote votes used))
 
 abbrev μ-loop : tie.MeasureT-loop
 μ-loop votes used proposal i₀ i = used - i

@@ -10,7 +10,7 @@ use Rattle.protocol.specs.Packet.{section}
 use Rattle.protocol.specs.Calls.Write.{over}
 use Rattle.protocol.specs.Lent.{blockWords, voteWords}
 use Rattle.writer.specs.Rows.{sentFrom, rowBytes}
-use Rattle.writer.proofs.Places.{sets-over, lent-rest, part-room}
+use Rattle.writer.proofs.Positions.{sets-over, lent-rest, part-room}
 use Rattle.writer.proofs.Rows.{row-length}
 use Rattle.writer.proofs.Sent.{blockWidths, voteWidths, front, sent-sections, sent-room}
 use Rattle.writer.proofs.write_packet.Statement.{statement}

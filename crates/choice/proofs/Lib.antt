@@ -1,7 +1,0 @@
--- The laws of places, weights, children and walks, and the proofs of the functions. Assumes nothing.
-pub mod Held
-pub mod Weights
-pub mod Children
-pub mod Best
-pub mod Scan
-pub mod Tables

@@ -1,5 +1,0 @@
--- What the functions ask of the tables, the voters and weights of blocks, children and best children by places. Assumes nothing.
-pub mod Tables
-pub mod Weights
-pub mod Children
-pub mod Walks

@@ -1,0 +1,11 @@
+-- `link` meets its contract. Assumes nothing.
+use borrow.Author.Needs.{needs}
+use Rattle.index.proofs.Tables.{number-linked}
+use Rattle.index.proofs.link.Statement.{statement}
+use Rattle.index.proofs.link.Tie as tie
+
+returns : tie.Need-returns
+returns c = number-linked _ _ _ (c .before .before .number-key .ensures) (c .find .ensures)
+
+pub link-spec : {M : Type 1} → statement M
+link-spec = tie.close (tie.spec (λ c κs. search needs) (λ c. search needs) (λ c κs. search needs) returns)

@@ -1,9 +1,0 @@
--- An array that is filled from its first place on. Assumes nothing.
-use Prim.Native.Nat.{ℕ, _<_}
-use mathlib.Core.List.{List}
-use mathlib.Core.Path.{_≡_}
-use lib.ListN.{getD}
-
--- the array has f j at each place j below n
-pub record Filled (f : ℕ → ℕ) (n : ℕ) (array : List ℕ) : Type 0 where
-  pub each : (j : ℕ) → j < n → getD array j 0 ≡ f j

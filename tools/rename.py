@@ -18,7 +18,7 @@ def listed():
     names, modules, crates = {}, {}, {}
     for line in open(path):
         cells = [cell.strip() for cell in line.strip().strip("|").split("|")]
-        if not line.startswith("| ") or len(cells) != 2:
+        if not line.startswith("| ") or len(cells) != 2 or cells[0] == "old":
             continue
         pairs = re.findall(r"`([^`]+)` → `([^`]+)`", cells[1])
         if re.fullmatch(r"[a-z_]+/specs/\S+", cells[0]) and pairs:

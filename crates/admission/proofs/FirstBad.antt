@@ -8,7 +8,7 @@ use lib.ListN.{length, getD, take, drop, drop-of-length-le}
 use lib.Dec.{leb, ltb}
 use Rattle.protocol.specs.Entry.{Block, Vote}
 use Rattle.protocol.specs.Chain.{Lookup, find, foundWith, genesis}
-use Rattle.protocol.specs.Sound.{between}
+use Rattle.protocol.specs.Sound.{inRange}
 use Rattle.protocol.proofs.Basics.Tests.{and-right}
 use Rattle.index.specs.Links.{lookupAt}
 use Rattle.protocol.specs.Calls.Receive.{addBlocks, blockAllowed, voteAllowed, firstBadBlock, firstBadVote}
@@ -33,7 +33,7 @@ module _ {r : Bool} where
 pub vote-found : (n slot : ℕ) (a : Vote) (bs : List Block) (link : ℕ) {f : Lookup} → f ≡ lookupAt bs link → votePasses n slot a f ≡ true → link ≡ 0 → ⊥
 unfolding votePasses foundWith lookupAt
 vote-found n slot a bs link e h z =
-    let q = and-right (between 1 slot (a .slot)) _ (and-right (ltb (a .voter) n) _ h) in
+    let q = and-right (inRange 1 slot (a .slot)) _ (and-right (ltb (a .voter) n) _ h) in
     false≢true (sym (ap (foundWith (λ b. leb (b .slot) (a .slot))) (e ∙ ap (lookupAt bs) z)) ∙ q)
 
 -- ---- one turn of a loop over the entries, i of them seen

@@ -5,7 +5,7 @@ use lib.Dec.{leb, ltb}
 use Rattle.protocol.specs.Words.{blockOf}
 use Rattle.protocol.specs.Entry.{Block, Vote}
 use Rattle.protocol.specs.Chain.{Lookup, found, missing, foundWith}
-use Rattle.protocol.specs.Sound.{between}
+use Rattle.protocol.specs.Sound.{inRange}
 use Rattle.protocol.specs.Calls.Receive.{knownAs}
 use Rattle.admission.specs.declared.Lookup.{Lookup as CodeLookup}
 use Rattle.admission.specs.declared.Lookup.the-variants.{Hit, Missing}
@@ -16,8 +16,8 @@ lookupOf Missing = missing
 
 -- `blockAllowed`, by what was found by the parent's number and by the block's own
 unfoldable pub blockPasses : ℕ → Block → Lookup → Lookup → Bool
-blockPasses slot b parent old = between 1 slot (b .slot) && (foundWith (λ p. ltb (p .slot) (b .slot)) parent && knownAs b old)
+blockPasses slot b parent old = inRange 1 slot (b .slot) && (foundWith (λ p. ltb (p .slot) (b .slot)) parent && knownAs b old)
 
 -- `voteAllowed`, by what was found by the vote's number
 unfoldable pub votePasses : ℕ → ℕ → Vote → Lookup → Bool
-votePasses n slot a block = ltb (a .voter) n && (between 1 slot (a .slot) && foundWith (λ b. leb (b .slot) (a .slot)) block)
+votePasses n slot a block = ltb (a .voter) n && (inRange 1 slot (a .slot) && foundWith (λ b. leb (b .slot) (a .slot)) block)

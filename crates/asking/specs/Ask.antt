@@ -26,18 +26,16 @@ module _ {A B : Type 0} where
   unfoldable pub andThen : (Places → Node → Outcome A) → (Places → Node → Answer B) → Places → Node → Answer B
   andThen call next p x = thenAnswer (call p x .answer) (next p (call p x .node))
 
--- ---- the three answers
+-- ---- the three answers: head, deep block and fast block
 
-pub record Findings : Type 0 where
-  pub head : ℕ
-  pub deep : ℕ
-  pub fast : Choice
+pub data Findings : Type 0 where
+  findings : ℕ → ℕ → Choice → Findings
 
 unfoldable pub gather : Answer ℕ → Answer ℕ → Answer Choice → Answer Findings
 gather (refused k) d f = refused k
 gather (done h) (refused k) f = refused k
 gather (done h) (done d) (refused k) = refused k
-gather (done h) (done d) (done f) = done (record { head = h; deep = d; fast = f })
+gather (done h) (done d) (done f) = done (findings h d f)
 
 unfoldable pub askAll : Settings → ℕ → Places → Node → Answer Findings
 askAll s slot p x = gather (headQuery s p x slot) (deepQuery s p x slot) (fastQuery s p x slot)

@@ -9,10 +9,10 @@ use Rattle.verdicts.specs.Verdict.{refusalOf}
 use Rattle.answers.specs.Answers.{mapAnswer}
 use Rattle.asking.specs.declared.ChainAnswer.{ChainAnswer}
 use Rattle.asking.specs.declared.ChainAnswer.the-variants.{Found, Refused}
-use Rattle.asking.specs.Ask.{Findings, gather}
+use Rattle.asking.specs.Ask.{Findings, findings, gather}
 
 abbrev pub chainAnswerOf : ChainAnswer → rules.Answer Findings
-chainAnswerOf (Found h d f) = rules.done (record { head = value h; deep = value d; fast = choiceIn f })
+chainAnswerOf (Found h d f) = rules.done (findings (value h) (value d) (choiceIn f))
 chainAnswerOf (Refused e) = rules.refused (refusalOf e)
 
 unfoldable pub verdictIn : {A : Type 0} → rules.Answer A → rules.Verdict

@@ -9,7 +9,7 @@ use native.Mathlib.Nat.{le-of-eq}
 use native.Mathlib.Omega.{arith}
 use lib.Dec.{leb}
 use Rattle.protocol.specs.Entry.{Block, Vote}
-use Rattle.protocol.specs.Filters.{Choice, chosen, nothing, kept}
+use Rattle.protocol.specs.Filters.{Choice, chosen, nothing, keptChoice}
 use Rattle.protocol.specs.Store.{Marked, viewOf}
 use Rattle.protocol.specs.Lent.{rowsOf, makeBlock, makeVote}
 use Rattle.protocol.specs.Walk.{supports, weight, weightAt}
@@ -106,7 +106,7 @@ module _ {bw : List ℕ} {bu : ℕ} {vw : List ℕ} {vu n : ℕ} (t : ℕ) {mask
   unfolding quorum weightAt weight
   passes-is j l =
       ap (λ (x : ℕ). leb (3 * n) (4 * x)) (W .each j l
-      ∙ count-ext (λ v. supports (blocksOf false bw bu) (kept (votesOf false vw vu) 1 (t + 1) v) (blockAt bw j .number))
+      ∙ count-ext (λ v. supports (blocksOf false bw bu) (keptChoice (votesOf false vw vu) 1 (t + 1) v) (blockAt bw j .number))
       (λ v. supports (blocksOf false bw bu) (validVote (votesOf false vw vu) t v) (blockAt bw j .number)) n
       (λ v h. ap (λ (o : Choice). supports (blocksOf false bw bu) o (blockAt bw j .number)) (sym (valid-kept (votesOf false vw vu) t v real))))
 

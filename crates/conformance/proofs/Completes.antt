@@ -17,7 +17,7 @@ use Rattle.resilience.specs.Run.{Step, Begin, Due, Gossip, Proposal, Receive, W
 use Rattle.resilience.specs.Resilience.{Opened}
 use Rattle.resilience.proofs.Steps.Allowed.{is-true}
 use Rattle.conformance.specs.State.{Deployment, State, network, decoded}
-use Rattle.conformance.specs.CodeRun.{CodeStep, begins, proposes, waits, votes, merges, gossips, sendsProposal, receives, CodeRun, opened, then}
+use Rattle.conformance.specs.CodeRun.{CodeStep, begins, proposes, waits, votes, merges, gossips, sendsProposal, receives, CodeRun, opened, thenStep}
 use Rattle.conformance.specs.Conformance.{Completeness}
 use Rattle.conformance.proofs.Promises.{receive-met, propose-met, vote-met, merge-met, write-met}
 use Rattle.conformance.proofs.Steps.{follows}
@@ -67,7 +67,7 @@ module _ (D : Deployment) (O : Opened (network D)) where
 
   completed : (v : World) → Run (network D) v → (w : State) × CodeRun D w × (decoded D w ≡ v)
   completed v model.opened = (_, opened memory opens, sym (start-world D memory opens))
-  completed v (model.then {w = o} R s a) = next (completed o R)
+  completed v (model.thenStep {w = o} R s a) = next (completed o R)
     where
       next : (w : State) × CodeRun D w × (decoded D w ≡ o) → (w : State) × CodeRun D w × (decoded D w ≡ step (network D) o s)
       next C =
@@ -75,7 +75,7 @@ module _ (D : Deployment) (O : Opened (network D)) where
           let b = subst (λ (x : World). T (allowed (network D) x s)) (sym e) a in
           let c = made D (C .0) s in
           let F = follows D (C .0) (conforming D (C .0) (C .1) .healthy) s (c .0) (is-true _ b) (c .1) in
-          (c .0, then (C .1) s b (c .1), sym (F .world) ∙ ap (λ (x : World). step (network D) x s) e)
+          (c .0, thenStep (C .1) s b (c .1), sym (F .world) ∙ ap (λ (x : World). step (network D) x s) e)
 
 pub completes : Completeness
 unfolding Completeness

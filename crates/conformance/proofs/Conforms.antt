@@ -17,7 +17,7 @@ use Rattle.resilience.proofs.Asynchrony.{asynchrony-resilient, asynchrony-resil
 use Rattle.resilience.proofs.Runs.Premises.{enough-for-honest}
 use Rattle.resilience.proofs.Resilient.{flood-resilient}
 use Rattle.conformance.specs.State.{Deployment, State, network, decoded}
-use Rattle.conformance.specs.CodeRun.{CodeRun, opened, then, CodeOnward, now, next}
+use Rattle.conformance.specs.CodeRun.{CodeRun, opened, thenStep, CodeOnward, noStep, next}
 use Rattle.conformance.specs.Conformance.{Conformance, CodeResilience}
 use Rattle.conformance.specs.CodeFlooding.{CodeFloodResilience}
 use Rattle.conformance.specs.CodeAsynchrony.{CodeAsynchronyResilience, CodeAsynchronyResilienceSince}
@@ -55,14 +55,14 @@ module _ (D : Deployment) (memory : ℕ → Lent)
 
 pub conforming : (D : Deployment) (w : State) → CodeRun D w → Conforming D w
 conforming D w (opened memory O) = starting D memory O
-conforming D w (then {w = v} R s a c) = next (conforming D v R)
+conforming D w (thenStep {w = v} R s a c) = next (conforming D v R)
   where
     next : Conforming D v → Conforming D w
     next C =
         let F = follows D v (C .healthy) s w (is-true _ a) c in
         record {
           opened = C .opened;
-          run = subst (λ (o : World). Run (network D) o) (F .world) (model.then (C .run) s a);
+          run = subst (λ (o : World). Run (network D) o) (F .world) (model.thenStep (C .run) s a);
           healthy = F .healthy;
         }
 
@@ -72,7 +72,7 @@ pub record Going (D : Deployment) (u w : State) : Type 0 where
   pub healthy : AllHealthy D w
 
 pub going : (D : Deployment) (u w : State) → AllHealthy D u → CodeOnward D u w → Going D u w
-going D u w H now = record { onward = model.now; healthy = H }
+going D u w H noStep = record { onward = model.noStep; healthy = H }
 going D u w H (next {w = v} O s a c) = more (going D u v H O)
   where
     more : Going D u v → Going D u w

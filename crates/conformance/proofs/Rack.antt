@@ -26,7 +26,7 @@ use Rattle.answers.specs.declared.Written as written
 use Rattle.answers.specs.Answers.{Value, nothingMore, received, block, answerOf, writtenOf, mapAnswer}
 use Rattle.answers.specs.Promises.{Leaves, Writes}
 use Rattle.conformance.specs.CodeCallList.{Promised}
-use Rattle.conformance.specs.CodeRack.{SameCalls, opened, then, CodeRackAsLoom}
+use Rattle.conformance.specs.CodeRack.{SameCalls, opened, thenCall, CodeRackAsLoom}
 use Rattle.conformance.proofs.Answers.{refused-mapped}
 use Rattle.conformance.proofs.Memory.{Healthy, opened-done, opened-node, opened-healthy, called, wrote}
 
@@ -123,7 +123,7 @@ module _ (s : Settings) where
             opened-node s old now O ∙ opened-fresh s (placesOf old) (nodeOf old) (opened-done s old now O)
             ∙ sym (opened-node (asLoom s) old' now' O' ∙ opened-fresh (asLoom s) (placesOf old') (nodeOf old') (opened-done (asLoom s) old' now' O'));
       }
-  along m m' (then {m = before} {m' = before'} R c next next' r r' P P' n) =
+  along m m' (thenCall {m = before} {m' = before'} R c next next' r r' P P' n) =
       next-alike before before' (along before before' R) c next next' r r' P P' n .beside
 
 pub code-rack-as-loom : CodeRackAsLoom

@@ -28,7 +28,7 @@ use Rattle.answers.specs.declared.Answer as answers
 use Rattle.answers.specs.Answers.{Value, nothingMore, received, block, answerOf}
 use Rattle.answers.specs.Promises.{Leaves}
 use Rattle.conformance.specs.CodeCallList.{Promised}
-use Rattle.conformance.specs.CodeRemoval.{CallsKeeping, opened, then, CodeRemovalUnseen}
+use Rattle.conformance.specs.CodeRemoval.{CallsKeeping, opened, thenCall, CodeRemovalUnseen}
 use Rattle.conformance.proofs.Answers.{done-mapped, refused-mapped}
 use Rattle.conformance.proofs.Memory.{opened-done, opened-node, opened-healthy, Called, called}
 
@@ -78,7 +78,7 @@ module _ (s : Settings) where
     sound = opened-healthy s old now O .sound;
     holds = sym (opened-node s old now O ∙ opened-fresh s (placesOf old) (nodeOf old) (opened-done s old now O));
   }
-  along m y (then {m = before} {y = x} R c next r P ten) = next-beside before x (along before x R) c next r P ten
+  along m y (thenCall {m = before} {y = x} R c next r P ten) = next-beside before x (along before x R) c next r P ten
 
   -- ---- an answer
 

@@ -21,7 +21,7 @@ use Rattle.conformance.specs.CodeCallList.{Promised}
 pub data SameCalls (s : Settings) : Lent → Lent → Type 0 where
   opened : (old m old' m' : Lent) → Opens s old m answer.Done → Opens (asLoom s) old' m' answer.Done →
       placesOf old .blocks ≤ placesOf old' .blocks → placesOf old .votes ≤ placesOf old' .votes → SameCalls s m m'
-  then : {m m' : Lent} → SameCalls s m m' → (c : Call) (next next' : Lent) (r r' : Answer) →
+  thenCall : {m m' : Lent} → SameCalls s m m' → (c : Call) (next next' : Lent) (r r' : Answer) →
       Promised s m c next r → Promised (asLoom s) m' c next' r' → refusedBy byRoom (answerOf r) ≡ false → SameCalls s next next'
 
 -- They hold the same used rows, marks and clock; the next call that the rack does not refuse so, every question and every Write is answered alike, a

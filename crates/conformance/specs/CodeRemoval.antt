@@ -23,7 +23,7 @@ use Rattle.conformance.specs.CodeCallList.{Promised}
 -- is ever removed.
 pub data CallsKeeping (s : Settings) : Lent → Node → Type 0 where
   opened : (old m : Lent) → Opens s old m answer.Done → CallsKeeping s m fresh
-  then : {m : Lent} {y : Node} → CallsKeeping s m y → (c : Call) (next : Lent) (r : Answer) → Promised s m c next r →
+  thenCall : {m : Lent} {y : Node} → CallsKeeping s m y → (c : Call) (next : Lent) (r : Answer) → Promised s m c next r →
       refusedBy byTen (answerOf r) ≡ false → CallsKeeping s next (afterCallKeeping s (placesOf m) y c)
 
 -- What Head, Deep and Fast answer of a slot, where they are not refused, that node finds.

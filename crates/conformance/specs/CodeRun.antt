@@ -92,9 +92,9 @@ pub data CodeRun (D : Deployment) : State → Type 0 where
   opened : (memory : ℕ → Lent) →
       ((i : ℕ) → T (isHonest (network D) i) → Opens (settings (network D) i) (D .lent i) (memory i) answer.Done) →
       CodeRun D (record { beat = 2; memory = memory; turn = λ i. ahead; log = [] })
-  then : {w v : State} → CodeRun D w → (s : Step) → T (allowed (network D) (decoded D w) s) → CodeStep D w s v → CodeRun D v
+  thenStep : {w v : State} → CodeRun D w → (s : Step) → T (allowed (network D) (decoded D w) s) → CodeStep D w s v → CodeRun D v
 
 -- a run that stands in u goes on, by such steps, and stands in w
 pub data CodeOnward (D : Deployment) (u : State) : State → Type 0 where
-  now : CodeOnward D u u
+  noStep : CodeOnward D u u
   next : {w v : State} → CodeOnward D u w → (s : Step) → T (allowed (network D) (decoded D w) s) → CodeStep D w s v → CodeOnward D u v

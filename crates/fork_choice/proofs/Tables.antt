@@ -12,7 +12,7 @@ use Rattle.protocol.specs.Entry.{Block, Vote}
 use Rattle.protocol.specs.Store.{entries, viewOf, Node}
 use Rattle.protocol.specs.Lent.{Lent, rowsOf, makeBlock, makeVote, placesOf, nodeOf, lentSound}
 use Rattle.protocol.specs.Chain.{genesis}
-use Rattle.protocol.specs.Filters.{chosen, kept}
+use Rattle.protocol.specs.Filters.{chosen, keptChoice}
 use Rattle.protocol.specs.Walk.{walk, weightAt, headBlock, baseBlock}
 use Rattle.protocol.proofs.Basics.Members.{same-refl}
 use Rattle.protocol.proofs.Chain.Relations.{Known, Sound}
@@ -85,7 +85,7 @@ module _ {s : Settings} {bw : List ℕ} {bu : ℕ} {vw : List ℕ} {vu : ℕ} (T
   pub voters-fit : VotersFit vw vu
   voters-fit i l = omega (arith, vote-sound true (rowAt makeVote vw i .entry) (entry-in makeVote true vw vu i l refl) .voter, few .1)
 
-  kept-known : (w : Bool) (E t v x : ℕ) → kept (votesOf w vw vu) E t v ≡ chosen x → Known (blocksOf w bw bu) x × (v < s .nodes)
+  kept-known : (w : Bool) (E t v x : ℕ) → keptChoice (votesOf w vw vu) E t v ≡ chosen x → Known (blocksOf w bw bu) x × (v < s .nodes)
   kept-known w E t v x e =
       let k = kept-is (votesOf w vw vu) E t v x e in
       let a = k .1 in
@@ -97,13 +97,13 @@ module _ {s : Settings} {bw : List ℕ} {bu : ℕ} {vw : List ℕ} {vu : ℕ} (T
   pub words-are : (w : Bool) (E t : ℕ) {slots numbers masks : List ℕ} → Kept (votesOf w vw vu) E t slots numbers → Subtrees bw bu slots numbers 1 masks
       → Supporters w bw bu vw vu E t masks
   words-are w E t K S = record {
-    each = λ j l. row-voters (blocks-held w) (λ v. kept (votesOf w vw vu) E t v) S (λ v h. K .each v h) (λ v x e. kept-known w E t v x e .0) j l;
+    each = λ j l. row-voters (blocks-held w) (λ v. keptChoice (votesOf w vw vu) E t v) S (λ v h. K .each v h) (λ v x e. kept-known w E t v x e .0) j l;
   }
 
   pub words-weigh : (w : Bool) (E t : ℕ) {masks : List ℕ} → Supporters w bw bu vw vu E t masks → Weighed w bw bu vw vu (s .nodes) E t masks
   unfolding weightAt
   words-weigh w E t W = record {
-    each = λ j l. word-weight (blocksOf w bw bu) (λ v. kept (votesOf w vw vu) E t v) (s .nodes) (blockAt bw j .number) (W .each j l) (few .1) (λ v x e. kept-known w E t v x e .1);
+    each = λ j l. word-weight (blocksOf w bw bu) (λ v. keptChoice (votesOf w vw vu) E t v) (s .nodes) (blockAt bw j .number) (W .each j l) (few .1) (λ v x e. kept-known w E t v x e .1);
   }
 
   -- the walk by the weights of the words is the walk by the weights of the blocks

@@ -10,8 +10,8 @@ use lib.ListN.{getD}
 use borrow.Author.Tests.{eqb-true, eq-eqb, leb-true, le-leb, ltb-true, ltb-false}
 use Rattle.protocol.specs.Limits.{loom}
 use Rattle.protocol.specs.Entry.{Block}
-use Rattle.protocol.specs.Chain.{above}
-use Rattle.protocol.specs.Filters.{last, none, Choice, chosen, nothing, choiceOf}
+use Rattle.protocol.specs.Chain.{atOrAbove}
+use Rattle.protocol.specs.Filters.{latestIs, noLatest, Choice, chosen, nothing, choiceOf}
 use Rattle.protocol.specs.Walk.{countBelow, supports, weight, weightAt}
 use Rattle.protocol.proofs.Basics.Counting.{count-ext}
 use Rattle.protocol.proofs.Basics.Tests.{and-left, and-right, either, both, or-left, or-right, same-test}
@@ -60,14 +60,14 @@ module _ {w : Bool} {ws : List ℕ} {n : ℕ} (H : Held w ws n) where
       (above-up r f (parentRow ws x) j (p .1 ∙ ap (λ o. o .parent) (sym (o .0))) g (omega (arith, p .0)) m (omega (arith, p .0))))
 
   -- the rows that lead to j are those of the blocks at or above the block there
-  up-is : (x j : ℕ) → Known (blocksOf w ws n) x → j < n → upTo (λ y. parentRow ws y) n 1 j (rowIn ws n x) ≡ above (blocksOf w ws n) x (blockAt ws j .number)
+  up-is : (x j : ℕ) → Known (blocksOf w ws n) x → j < n → upTo (λ y. parentRow ws y) n 1 j (rowIn ws n x) ≡ atOrAbove (blocksOf w ws n) x (blockAt ws j .number)
   up-is x j k l = go (listed w ws n (k .0) (k .1))
     where
-      go : Stands w ws n (k .0) → upTo (λ y. parentRow ws y) n 1 j (rowIn ws n x) ≡ above (blocksOf w ws n) x (blockAt ws j .number)
+      go : Stands w ws n (k .0) → upTo (λ y. parentRow ws y) n 1 j (rowIn ws n x) ≡ atOrAbove (blocksOf w ws n) x (blockAt ws j .number)
       go (i, h, s, e) =
           let a : blockAt ws i .number ≡ x = ap (λ o. o .number) (sym e) ∙ k .2 in
           let p : rowIn ws n x ≡ i = ap (λ (y : ℕ). rowIn ws n y) (sym a) ∙ row-is H i h in
-          rw p (same-test (upTo (λ y. parentRow ws y) n 1 j i) (above (blocksOf w ws n) x (blockAt ws j .number))
+          rw p (same-test (upTo (λ y. parentRow ws y) n 1 j i) (atOrAbove (blocksOf w ws n) x (blockAt ws j .number))
           (λ t. above-holds (H .sound) (above-cast a (up-above n i j h s t)))
           (λ t. above-up (above-true (H .sound) x (blockAt ws j .number) t) n i j a refl h l (omega arith)))
 
@@ -81,7 +81,7 @@ module _ {w : Bool} {ws : List ℕ} {n : ℕ} (H : Held w ws n) where
     where
       go : (b : Bool) → eqb (getD slots v 0) 0 ≡ b
           → (not b && upTo (λ y. parentRow ws y) n 1 j (rowIn ws n (numberIn numbers v)))
-          ≡ supports (blocksOf w ws n) (choiceOf (cond b none (last (record { voter = v; slot = getD slots v 0; number = numberIn numbers v })))) (blockAt ws j .number)
+          ≡ supports (blocksOf w ws n) (choiceOf (cond b noLatest (latestIs (record { voter = v; slot = getD slots v 0; number = numberIn numbers v })))) (blockAt ws j .number)
       go true e = refl
       go false e = up-is (numberIn numbers v) j (K (numberIn numbers v) (rw e)) l
 

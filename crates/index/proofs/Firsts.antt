@@ -22,15 +22,15 @@ module _ {key : ℕ → Key} {n : ℕ} {k : Key} where
   -- a link that was found is to one of the n
   pub linked-within : (link : ℕ) → Points key n k link → link ≤ n
   linked-within zero s = omega arith
-  linked-within (suc p) s = omega (arith, s .hit p refl .below)
+  linked-within (suc p) s = omega (arith, s .hit p refl .isRow)
 
   pub first-most : (link : ℕ) → Points key n k link → firstRow n link ≤ n
   first-most zero s = omega arith
-  first-most (suc p) s = omega (arith, s .hit p refl .below)
+  first-most (suc p) s = omega (arith, s .hit p refl .isRow)
 
   pub first-found : (link : ℕ) → Points key n k link → (link ≡ 0 → ⊥) → firstRow n link < n
   first-found zero s f = absurd (f refl)
-  first-found (suc p) s f = s .hit p refl .below
+  first-found (suc p) s f = s .hit p refl .isRow
 
   -- a row of the table is the first of k if its key is k
   pub first-row : (link used j : ℕ) → Points key n k link → used ≤ n → Differ key used → j < used → eqb j (firstRow n link) ≡ sameKey (key j) k
@@ -103,7 +103,7 @@ module _ (key : ℕ → Key) (used count : ℕ) (new : ℕ → Bool)
       (λ m a b d. omega arith)
   news-next {i} x c (suc p) s h e =
       let f = s .hit p refl in
-      let l : p < used + i = f .below in
+      let l : p < used + i = f .isRow in
       joins x p (omega arith) e (i + 1) (omega arith)
       (λ m z. (omega arith, first-new (used + i) (key (used + i)) p m (omega arith) f z))
       (λ m a b d. let y : m ≡ i = omega arith in absurd (clashing (sym (ap new y) ∙ d) (sym (told i (suc p) c s) ∙ eqb·suc-zero p)))
@@ -114,5 +114,5 @@ module _ (key : ℕ → Key) (used count : ℕ) (new : ℕ → Bool)
   news-named x c k zero s f h e = absurd (f refl)
   news-named {i} x c k (suc p) s f h e =
       let g = s .hit p refl in
-      let l : p < used + i = g .below in
+      let l : p < used + i = g .isRow in
       joins x p (omega arith) e i (omega arith) (λ m z. (omega arith, first-new (used + i) k p m (omega arith) g z)) (λ m a b d. absurd (omega arith))

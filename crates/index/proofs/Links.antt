@@ -39,9 +39,9 @@ linked d {test = test} t {n = n} {link = link} s xs size same = go link refl
     go zero e = sym (link-none d test xs 0 (λ m l. t .no (getD xs m d) (λ q. s .none e m (omega arith) (sym (same m (omega arith)) ∙ q))))
     go (suc p) e =
         let f = s .hit p e in
-        let l : p < length xs = omega (arith, f .below) in
+        let l : p < length xs = omega (arith, f .isRow) in
         let z : suc p ≡ suc (0 + p) = omega arith in
-        z ∙ sym (link-hit d test xs 0 p l (t .yes (getD xs p d) (same p (f .below) ∙ f .has)) (λ m h. t .no (getD xs m d) (λ q. f .fresh m h (sym (same m (omega arith)) ∙ q))))
+        z ∙ sym (link-hit d test xs 0 p l (t .yes (getD xs p d) (same p (f .isRow) ∙ f .has)) (λ m h. t .no (getD xs m d) (λ q. f .fresh m h (sym (same m (omega arith)) ∙ q))))
 
 module _ (key : ℕ → Key) where
   length-listed : (n : ℕ) → length (listed key n) ≡ n

@@ -29,8 +29,8 @@ rootOf k = (k .b % 128 * 64 + k .c % 8192 + k .d % 8192) % 8192
 abbrev pub firstOf : Key → Digits
 firstOf k = record { low = ((k .a + (k .b / 128 + k .c / 8192)) % 2 ^ 64 + k .d) % 2 ^ 64; middle = k .d; high = k .b / 128 }
 
-abbrev pub restOf : Digits → Digits
-restOf s =
+abbrev pub digitsAfter : Digits → Digits
+digitsAfter s =
     record {
       low = s .low / 4 + s .middle % 4 * 4611686018427387904;
       middle = s .middle / 4 + s .high % 4 * 4611686018427387904;
@@ -38,4 +38,4 @@ restOf s =
     }
 
 abbrev pub keyShape : Shape Key Digits
-keyShape = record { roots = 8192; radix = 4; root = rootOf; first = firstOf; digit = λ s. s .low % 4; rest = restOf }
+keyShape = record { roots = 8192; radix = 4; root = rootOf; first = firstOf; digit = λ s. s .low % 4; rest = digitsAfter }

@@ -18,7 +18,7 @@ ghost use Rattle.packets.specs.Header.{noVote};
 ghost use Rattle.protocol.specs.Lent.{BlocksFit, VotesFit, rowsOf, makeBlock, makeVote};
 ghost use Rattle.bitset.specs.Bitset.{inserted};
 ghost use Rattle.search_tree.specs.Tree.{Points, Sought, Blank};
-ghost use Rattle.index.specs.Keys.{numberKey, voteKey, sameKey, rootOf, firstOf, restOf, keyShape};
+ghost use Rattle.index.specs.Keys.{numberKey, voteKey, sameKey, rootOf, firstOf, digitsAfter, keyShape};
 ghost use Rattle.index.specs.declared.Kind.the-variants.{KnownBlocks, KnownVotes};
 ghost use Rattle.index.specs.Index.{offsetsOf, rowKey, packetKey, keyAt, inTable, InPacket, Readable, IndexOf, Room, keysDiffer};
 ghost use Rattle.index.specs.Links.{linkToNumber, numbersDiffer, votesDiffer, BlockIndex, VoteIndex, SlotIndex, slotKey, knownBlocks, knownVotes};
@@ -132,7 +132,7 @@ fn first(key: Key) -> Digits
 
 // The digits after a step.
 fn rest(digits: Digits) -> Digits
-    ensures { λ r. ⌜ r ≡ restOf digits ⌝ }
+    ensures { λ r. ⌜ r ≡ digitsAfter digits ⌝ }
 {
     Digits {
         low: digits.low / 4 + digits.middle % 4 * 4611686018427387904,

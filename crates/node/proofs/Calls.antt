@@ -17,7 +17,7 @@ use Rattle.protocol.specs.Lists.{anyPass}
 use Rattle.protocol.specs.Walk as walk
 use Rattle.protocol.specs.Limits.{loom, limitsOf}
 use Rattle.protocol.specs.Store.{Marked, entries, viewOf, waiting, inView, viewAll, sameVote, keptFrom, rowsSince, Node}
-use Rattle.protocol.specs.Sound.{between, placesSound}
+use Rattle.protocol.specs.Sound.{inRange, placesSound}
 use Rattle.protocol.specs.Packet.{Packet, packetOf, isProposal}
 use Rattle.protocol.specs.Refusal.{first, done}
 use Rattle.protocol.specs.Calls.Open.{openTests}
@@ -69,10 +69,10 @@ module _ (s : Settings) (m : Lent) {v : Verdict} (h : verdictOf v ≡ first (ope
 -- block 0 has a place
 pub open-room : (s : Settings) (bw vw : List ℕ) {v : Verdict} → verdictOf v ≡ first (openTests s (record { blocks = placesIn blockWords bw; votes = placesIn voteWords vw }))
     → v ≡ Pass → BlocksFit 1 bw
-unfolding placesSound between
+unfolding placesSound inRange
 open-room s bw vw h e =
     let o = opens s _ (said Pass h e) .places in
-    blocks-fit bw 1 (leb-true 1 (placesIn blockWords bw) (and-left (leb 1 (placesIn blockWords bw)) _ (and-left _ (between 1 (limitsOf (s .profile) .votes) (placesIn voteWords vw)) o)))
+    blocks-fit bw 1 (leb-true 1 (placesIn blockWords bw) (and-left (leb 1 (placesIn blockWords bw)) _ (and-left _ (inRange 1 (limitsOf (s .profile) .votes) (placesIn voteWords vw)) o)))
 
 -- ---- Receive
 

@@ -7,12 +7,12 @@ use Rattle.protocol.specs.declared.Profile.the-variants.{Loom}
 use Rattle.protocol.specs.Limits.{limitsOf}
 use Rattle.protocol.specs.Entry.{Block, Vote}
 use Rattle.protocol.specs.Lists.{passing, anyPass, allPass}
-use Rattle.protocol.specs.Chain.{genesis, find, foundWith, slotIn, chainStep, chainIn, chain, above}
-use Rattle.protocol.specs.Filters.{conflict, equivocates, window, later, latest, chosen, nothing, choiceOf, kept}
+use Rattle.protocol.specs.Chain.{genesis, find, foundWith, slotIn, chainStep, chainIn, chain, atOrAbove}
+use Rattle.protocol.specs.Filters.{conflict, equivocates, window, later, latest, chosen, nothing, choiceOf, keptChoice}
 use Rattle.protocol.specs.Walk.{countBelow, supports, weight, isChild, beats, better, bestChild, walkStep, walkIn, walk, weightAt, headBlock, baseBlock}
 use Rattle.protocol.specs.Confirm.{deepFrom, deepBlock, voteIn, validVote, quorum, height, higher, highest, numberFound, fastBlock}
 use Rattle.protocol.specs.Store.{waiting, inView, allWaiting, entries, viewOf, view, sameBlock, sameVote, since, fresh}
-use Rattle.protocol.specs.Sound.{between, settingsSound, placesSound, clockSound, restSound, blocksSound, votesSound, sound}
+use Rattle.protocol.specs.Sound.{inRange, settingsSound, placesSound, clockSound, restSound, blocksSound, votesSound, sound}
 use Rattle.protocol.specs.Packet.{bytesOf, numberOf, numberAt, flat, section, entriesAt, headBytes, blockBytes, voteBytes, packetAs, readBlock, readVote, packetAt, packetBytes, packetOf, headerFormed, wellFormed}
 use Rattle.protocol.specs.Refusal.{by, byEntry, first, Answer, refused, Outcome, unless}
 use Rattle.protocol.specs.Calls.Receive.{addBlock, addBlocks, addVote, addVotes, blocksAfter, votesAfter, knownAs, blockAllowed, voteAllowed, headerAllowed, firstBadBlock, firstBadVote, viewedAtOnce, stoodOn, receiveTests, Received, receiveAnswer, receiveInto, receive}
@@ -57,7 +57,7 @@ pub record Starred : Type 0 where
   pub fast-four : fastBlock blocks (vote 4 3 11 ∷ three) 5 3 ≡ chosen 11
 
 pub starred : Starred
-unfolding anyPass passing since find foundWith slotIn chainStep chainIn chain above conflict equivocates window later latest choiceOf kept countBelow supports weight isChild beats better bestChild walkStep walkIn walk weightAt headBlock baseBlock deepFrom deepBlock voteIn validVote quorum height higher highest numberFound fastBlock
+unfolding anyPass passing since find foundWith slotIn chainStep chainIn chain atOrAbove conflict equivocates window later latest choiceOf keptChoice countBelow supports weight isChild beats better bestChild walkStep walkIn walk weightAt headBlock baseBlock deepFrom deepBlock voteIn validVote quorum height higher highest numberFound fastBlock
 starred =
     record {
       head-4 = refl;
@@ -98,7 +98,7 @@ pub record Told : Type 0 where
   pub ties-by-number : headBlock arrived votes 5 2 4 ≡ 31
 
 pub told : Told
-unfolding anyPass passing since find slotIn chainStep chainIn chain above conflict equivocates window later latest choiceOf kept countBelow supports weight isChild beats better bestChild walkStep walkIn walk weightAt headBlock baseBlock deepFrom deepBlock voteIn validVote quorum height higher highest numberFound fastBlock foundWith limitsOf receive receiveTests receiveAnswer receiveInto firstBadBlock firstBadVote blockAllowed knownAs headerAllowed voteAllowed blocksAfter votesAfter addBlocks addBlock addVotes addVote viewedAtOnce stoodOn first unless sound settingsSound placesSound clockSound blocksSound restSound votesSound between allPass sameBlock sameVote entries viewOf view allWaiting packetBytes packetAs headBytes blockBytes voteBytes section flat bytesOf packetOf packetAt entriesAt readBlock readVote numberAt numberOf wellFormed headerFormed
+unfolding anyPass passing since find slotIn chainStep chainIn chain atOrAbove conflict equivocates window later latest choiceOf keptChoice countBelow supports weight isChild beats better bestChild walkStep walkIn walk weightAt headBlock baseBlock deepFrom deepBlock voteIn validVote quorum height higher highest numberFound fastBlock foundWith limitsOf receive receiveTests receiveAnswer receiveInto firstBadBlock firstBadVote blockAllowed knownAs headerAllowed voteAllowed blocksAfter votesAfter addBlocks addBlock addVotes addVote viewedAtOnce stoodOn first unless sound settingsSound placesSound clockSound blocksSound restSound votesSound inRange allPass sameBlock sameVote entries viewOf view allWaiting packetBytes packetAs headBytes blockBytes voteBytes section flat bytesOf packetOf packetAt entriesAt readBlock readVote numberAt numberOf wellFormed headerFormed
 told =
     record {
       slot-t-hides-nothing = refl;
@@ -126,7 +126,7 @@ pub record Named : Type 0 where
   pub no-place : answered 1 1 11 (block 11 0 1 ∷ []) [] ≡ refused (by 10)
 
 pub named : Named
-unfolding limitsOf anyPass passing since find foundWith receive receiveTests receiveAnswer receiveInto firstBadBlock firstBadVote blockAllowed knownAs headerAllowed voteAllowed blocksAfter votesAfter addBlocks addBlock addVotes addVote viewedAtOnce stoodOn first unless sound settingsSound placesSound clockSound blocksSound restSound votesSound between allPass sameBlock sameVote entries viewOf view allWaiting packetBytes packetAs headBytes blockBytes voteBytes section flat bytesOf packetOf packetAt entriesAt readBlock readVote numberAt numberOf wellFormed headerFormed
+unfolding limitsOf anyPass passing since find foundWith receive receiveTests receiveAnswer receiveInto firstBadBlock firstBadVote blockAllowed knownAs headerAllowed voteAllowed blocksAfter votesAfter addBlocks addBlock addVotes addVote viewedAtOnce stoodOn first unless sound settingsSound placesSound clockSound blocksSound restSound votesSound inRange allPass sameBlock sameVote entries viewOf view allWaiting packetBytes packetAs headBytes blockBytes voteBytes section flat bytesOf packetOf packetAt entriesAt readBlock readVote numberAt numberOf wellFormed headerFormed
 named = record { first-block = refl; first-vote = refl; wrong-header = refl; other-slot = refl; no-place = refl }
 
 -- ---- request 2: a voter is dropped for two votes of one slot of the window, and for the fast block for two of slot t
@@ -152,7 +152,7 @@ pub record Doubled : Type 0 where
   pub fast-after : fastBlock blocks (fourWith (vote 0 4 11 ∷ vote 0 4 0 ∷ [])) 5 3 ≡ chosen 11
 
 pub doubled : Doubled
-unfolding anyPass passing since find slotIn chainStep chainIn chain above conflict equivocates window later latest choiceOf kept countBelow supports weight isChild beats better bestChild walkStep walkIn walk weightAt headBlock baseBlock voteIn validVote quorum height higher highest numberFound fastBlock
+unfolding anyPass passing since find slotIn chainStep chainIn chain atOrAbove conflict equivocates window later latest choiceOf keptChoice countBelow supports weight isChild beats better bestChild walkStep walkIn walk weightAt headBlock baseBlock voteIn validVote quorum height higher highest numberFound fastBlock
 doubled =
     record {
       too-old = refl;
@@ -181,5 +181,5 @@ pub record Late : Type 0 where
   pub late-fast : fastBlock lateBlocks lateVotes 5 999999999 ≡ chosen 11
 
 pub late : Late
-unfolding anyPass passing since find foundWith slotIn chainStep chainIn chain above conflict equivocates window later latest choiceOf kept countBelow supports weight isChild beats better bestChild walkStep walkIn walk weightAt headBlock baseBlock deepFrom deepBlock voteIn validVote quorum height higher highest numberFound fastBlock
+unfolding anyPass passing since find foundWith slotIn chainStep chainIn chain atOrAbove conflict equivocates window later latest choiceOf keptChoice countBelow supports weight isChild beats better bestChild walkStep walkIn walk weightAt headBlock baseBlock deepFrom deepBlock voteIn validVote quorum height higher highest numberFound fastBlock
 late = record { late-head = refl; late-base = refl; late-deep = refl; late-fast = refl }

@@ -12,18 +12,18 @@ use Rattle.protocol.specs.Lists.{anyPass}
 use Rattle.protocol.specs.Chain.{genesis, find, foundWith, known}
 use Rattle.protocol.specs.Store.{Marked, entries, viewOf, sameBlock, sameVote, Places, Node}
 
-unfoldable pub between : ℕ → ℕ → ℕ → Bool
-between a b x = leb a x && leb x b
+unfoldable pub inRange : ℕ → ℕ → ℕ → Bool
+inRange a b x = leb a x && leb x b
 
 -- ---- settings, places and clock
 
 unfoldable pub settingsSound : Settings → Bool
 settingsSound s =
-    between 1 (limitsOf (s .profile) .nodes) (s .nodes)
-    && (ltb (s .own) (s .nodes) && (between 1 maxExpiry (s .expiry) && between 1 maxDepth (s .depth)))
+    inRange 1 (limitsOf (s .profile) .nodes) (s .nodes)
+    && (ltb (s .own) (s .nodes) && (inRange 1 maxExpiry (s .expiry) && inRange 1 maxDepth (s .depth)))
 
 unfoldable pub placesSound : Limits → Places → Bool
-placesSound l p = between 1 (l .blocks) (p .blocks) && between 1 (l .votes) (p .votes)
+placesSound l p = inRange 1 (l .blocks) (p .blocks) && inRange 1 (l .votes) (p .votes)
 
 unfoldable pub clockSound : Clock → Bool
 clockSound c =
@@ -54,7 +54,7 @@ blocksSound slot (m ∷ ms) = sameBlock (m .entry) genesis && (m .viewed && rest
 unfoldable pub voteSound : ℕ → ℕ → List (Marked Block) → Marked Vote → Bool
 voteSound n slot bs m =
     ltb (m .entry .voter) n
-    && (between 1 slot (m .entry .slot)
+    && (inRange 1 slot (m .entry .slot)
     && (foundWith (λ b. leb (b .slot) (m .entry .slot)) (find (entries bs) (m .entry .number))
     && (not (m .viewed) || known (viewOf bs) (m .entry .number))))
 

@@ -9,19 +9,19 @@ ghost use Prim.Native.Nat.{_*_, _<_};
 ghost use lib.Dec.{leb};
 ghost use Rattle.protocol.specs.Limits.{limitsOf};
 ghost use Rattle.protocol.specs.Lists.{allPass};
-ghost use Rattle.protocol.specs.Sound.{settingsSound, clockSound, placesSound, between};
+ghost use Rattle.protocol.specs.Sound.{settingsSound, clockSound, placesSound, inRange};
 ghost use Rattle.protocol.specs.Lent.{BlocksFit, VotesFit, blockWords, voteWords, placesIn, marksSound, rowsOf, makeBlock, makeVote};
 ghost use Rattle.ranges.specs.Rows.{blockInRange, voteInRange};
 
 pub fn within(low: u64, high: u64, x: u64) -> bool
-    ensures { λ r. ⌜ r ≡ between low high x ⌝ }
+    ensures { λ r. ⌜ r ≡ inRange low high x ⌝ }
 {
     low <= x && x <= high
 }
 
 // Whether the profile allows so many nodes.
 pub fn nodes_sound(profile: Profile, nodes: u64) -> bool
-    ensures { λ r. ⌜ r ≡ between 1 (limitsOf profile .nodes) nodes ⌝ }
+    ensures { λ r. ⌜ r ≡ inRange 1 (limitsOf profile .nodes) nodes ⌝ }
 {
     let most = limits::limits_of(profile);
     within(1, most.nodes, nodes)

@@ -8,7 +8,7 @@ use native.Mathlib.Omega.{arith}
 use lib.ListN.{length}
 use Rattle.protocol.specs.Entry.{Block}
 use Rattle.protocol.specs.Lists.{anyPass}
-use Rattle.protocol.specs.Chain.{known, above}
+use Rattle.protocol.specs.Chain.{known, atOrAbove}
 use Rattle.protocol.specs.Store.{Marked, entries, viewOf, view}
 use Rattle.protocol.specs.Packet.{Packet}
 use Rattle.protocol.specs.Lent.{rowsOf, stored, makeBlock, blockRow, marksSound}
@@ -28,7 +28,7 @@ use Rattle.receiving.proofs.Held.{rows-held, marks-held, over-held, vie
 
 length-ancestors : (ms : List (Marked Block)) → length (viewAncestors ms) ≡ length ms
 unfolding viewAncestors
-length-ancestors ms = length-viewing (λ b. anyPass (λ c. above (entries ms) (c .number) (b .number)) (viewOf ms)) ms
+length-ancestors ms = length-viewing (λ b. anyPass (λ c. atOrAbove (entries ms) (c .number) (b .number)) (viewOf ms)) ms
 
 module _ (ws₀ : List ℕ) (n : ℕ) (p : Packet) (K : Carried (rowsOf makeBlock ws₀ n) p) {ws₁ : List ℕ} (e₁ : ws₁ ≡ stored blockRow (view (named p) (rowsOf makeBlock ws₀ n)) ws₀) where
   abbrev R : List (Marked Block)

@@ -30,7 +30,7 @@ module _ {N : Network} (X : Execution N) (beat B : ℕ) (lasting : Lasting N (wo
   of-run = inr (by-proposer beat (lasting .block .proposer) (lasting .block .proposed) refl)
 
   agreed : (b i x : ℕ) → List·Memᴰ (voted b i x) (log X) → b / 3 ≡ beat / 3 → x ≡ B
-  agreed b i x k e = agreement Q (lasting .before) (lasting .now) b i x (ballot-of X b i x k) e
+  agreed b i x k e = agreement Q (lasting .mergeBeat) (lasting .proposeBeat) b i x (ballot-of X b i x k) e
 
   -- after a good slot it leads, unless it was left before
   carries : (g : ℕ) → beat / 3 ≤ g → 3 * g + 1 < world X (X .end) .beat → GoodSince N (world X (X .end)) (beat / 3) g → Carries X B (beat / 3) g
@@ -73,8 +73,8 @@ pub lasting-by : (N : Network) (w : World) (Good Other : ℕ → ℕ → Type 0)
     → Lasting N w Good beat B → Lasting N w Other beat B
 lasting-by N w Good Other beat B f L = record {
   block = L .block;
-  before = L .before;
-  now = L .now;
+  mergeBeat = L .mergeBeat;
+  proposeBeat = L .proposeBeat;
   first = λ o. f (beat / 3) (le-refl (beat / 3)) (L .first o);
   every = one-by (N .expiry) (Good (beat / 3)) (Other (beat / 3)) (beat / 3) (beat / 3) w (le-refl (beat / 3)) (λ q l o. f q l) (L .every);
 }

@@ -34,8 +34,8 @@ pub record Good (N : Network) (w : World) (g : ℕ) : Type 0 where
 pub record Lasting (N : Network) (w : World) (GoodFor : ℕ → ℕ → Type 0) (beat B : ℕ) : Type 0 where
   pub block : HonestBlock w beat B
   -- packets of the merge beat of slot t - 1 and of the propose beat of slot t arrive
-  pub before : DeliveredAt (beat - 1) (w .log)
-  pub now : DeliveredAt beat (w .log)
+  pub mergeBeat : DeliveredAt (beat - 1) (w .log)
+  pub proposeBeat : DeliveredAt beat (w .log)
   -- slot t is good, once its vote beat is over
   pub first : 3 * (beat / 3) + 1 < w .beat → GoodFor (beat / 3) (beat / 3)
   -- and so is one of any E consecutive slots from t on whose vote beats are over: a fault may last E - 1 slots, and there may be any number of faults

@@ -31,7 +31,7 @@ OneBlock log = (b c : Block) → Gives log b → Gives log c → b .number ≡ c
 -- "B or stands above B": "these parents lead from it to that one"
 pub data AtOrAbove (log : List Event) (b : ℕ) : ℕ → Type 0 where
   here : AtOrAbove log b b
-  up : (c : Block) → Gives log c → AtOrAbove log b (c .parent) → AtOrAbove log b (c .number)
+  onParent : (c : Block) → Gives log c → AtOrAbove log b (c .parent) → AtOrAbove log b (c .number)
 
 -- ---- "that nobody forges an honest node's block, vote or proposal"
 

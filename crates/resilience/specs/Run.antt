@@ -155,15 +155,15 @@ owesProposal ahead = false
 owesProposal (owes g p) = p
 
 -- whether every number below m passes
-unfoldable pub below : (ℕ → Bool) → ℕ → Bool
-below p zero = true
-below p (suc m) = p m && below p m
+unfoldable pub allBelow : (ℕ → Bool) → ℕ → Bool
+allBelow p zero = true
+allBelow p (suc m) = p m && allBelow p m
 
 -- A beat begins when no honest node owes a packet. In a beat a node makes one call and then sends, its gossip and its proposal
 -- in either order. A Receive may come at any point, also before the first beat, inside a beat and at a sleeping node.
 -- Block numbers have 128 bits, and bytes 8.
 unfoldable pub allowed : Network → World → Step → Bool
-allowed N w Begin = below (λ i. not (N .honest i) || not (owesGossip (w .turn i) || owesProposal (w .turn i))) (N .nodes)
+allowed N w Begin = allBelow (λ i. not (N .honest i) || not (owesGossip (w .turn i) || owesProposal (w .turn i))) (N .nodes)
 allowed N w (Due i number) = isHonest N i && (leb 3 (w .beat) && (beforeCall (w .turn i) && ltb number (2 ^ 128)))
 allowed N w (Gossip i buffer) = isHonest N i && owesGossip (w .turn i)
 allowed N w (Proposal i buffer) = isHonest N i && owesProposal (w .turn i)
@@ -172,11 +172,11 @@ allowed N w (Receive i bytes) = isHonest N i && allPass (λ b. ltb b 256) bytes
 -- the runs, and the world in which each stands
 pub data Run (N : Network) : World → Type 0 where
   opened : Run N (start N)
-  then : {w : World} → Run N w → (s : Step) → T (allowed N w s) → Run N (step N w s)
+  thenStep : {w : World} → Run N w → (s : Step) → T (allowed N w s) → Run N (step N w s)
 
 -- A run that stands in u goes on, by steps that are allowed, and stands in w.
 pub data Onward (N : Network) (u : World) : World → Type 0 where
-  now : Onward N u u
+  noStep : Onward N u u
   next : {w : World} → Onward N u w → (s : Step) → T (allowed N w s) → Onward N u (step N w s)
 
 -- At beat b a call of node i was carried out: in a world of a run it was due, and this is its answer. The step left the world u.

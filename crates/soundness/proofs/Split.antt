@@ -10,7 +10,7 @@ use Rattle.protocol.specs.Entry.{Block, Vote}
 use Rattle.protocol.specs.Lists.{anyPass, allPass}
 use Rattle.protocol.specs.Chain.{genesis, known}
 use Rattle.protocol.specs.Store.{Marked, entries, sameBlock, sameVote}
-use Rattle.protocol.specs.Sound.{between, blockSound, restSound, blocksSound, voteSound, votesSound}
+use Rattle.protocol.specs.Sound.{inRange, blockSound, restSound, blocksSound, voteSound, votesSound}
 use Rattle.protocol.proofs.Store.Views.{block-same}
 use Rattle.rows.proofs.Find.{known-any}
 use Rattle.rows.proofs.Views.{any-entries}
@@ -77,7 +77,7 @@ unfolding votesSound allPass votesDiffer distinct voteSound votedSound
 votes-split nodes slot bs [] = refl
 votes-split nodes slot bs (m ∷ ms) =
     rw (votes-split nodes slot bs ms, any-entries (sameVote (m .entry)) ms)
-    (turn (ltb (m .entry .voter) nodes) (between 1 slot (m .entry .slot)) (votedSound bs m) (not (anyPass (λ b. sameVote (m .entry) (b .entry)) ms))
+    (turn (ltb (m .entry .voter) nodes) (inRange 1 slot (m .entry .slot)) (votedSound bs m) (not (anyPass (λ b. sameVote (m .entry) (b .entry)) ms))
     (allPass (voteInRange nodes slot) ms) (allPass (votedSound bs) ms) (votesDiffer ms))
   where
     turn : (l b w n r v d : Bool) → ((l && (b && w)) && (n && (r && (v && d)))) ≡ (((l && b) && r) && ((w && v) && (n && d)))

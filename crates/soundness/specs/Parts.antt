@@ -39,10 +39,10 @@ tablesSound bs vs = numbersDiffer bs && (chainSound bs && (allPass (votedSound b
 pub record Indexed (ws : List ℕ) (n : ℕ) (ls : List ℕ) : Type 0 where
   pub fit : BlocksFit n ws
   pub index : BlockIndex ws n ls
-  pub differ : numbersDiffer (rowsOf makeBlock ws n) ≡ true
+  pub unrepeated : numbersDiffer (rowsOf makeBlock ws n) ≡ true
 
 -- and of the votes, none of which stands twice
 pub record TablesIndexed (bw : List ℕ) (bu : ℕ) (bl : List ℕ) (vw : List ℕ) (vu : ℕ) (vl : List ℕ) : Type 0 where
   pub blocks : Indexed bw bu bl
   pub votes : VoteIndex vw vu vl
-  pub differ : votesDiffer (rowsOf makeVote vw vu) ≡ true
+  pub unrepeated : votesDiffer (rowsOf makeVote vw vu) ≡ true

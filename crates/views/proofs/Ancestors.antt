@@ -11,7 +11,7 @@ use lib.ListN.{take, drop, take-append-drop}
 use borrow.Author.Tests.{eqb-true, eq-eqb}
 use Rattle.protocol.specs.Entry.{Block}
 use Rattle.protocol.specs.Lists.{anyPass}
-use Rattle.protocol.specs.Chain.{genesis, above}
+use Rattle.protocol.specs.Chain.{genesis, atOrAbove}
 use Rattle.protocol.specs.Store.{Marked, entries, viewOf, view}
 use Rattle.protocol.proofs.Basics.Tests.{either, or-right, same-test, and-left}
 use Rattle.protocol.proofs.Chain.Above.{above-true, above-holds, above-cast}
@@ -29,16 +29,16 @@ module _ (R : List (Marked Block)) (O : Ordered R) where
   S = ordered-sound R O
 
   abbrev stoodOn : List (Marked Block) → Block → Bool
-  stoodOn ms b = anyPass (λ c. above (entries R) (c .number) (b .number)) (viewOf ms)
+  stoodOn ms b = anyPass (λ c. atOrAbove (entries R) (c .number) (b .number)) (viewOf ms)
 
   -- by the relation
   stood-true : (ms : List (Marked Block)) (b : Block) → stoodOn ms b ≡ true → (c : Block) × In c (viewOf ms) × Above (entries R) (b .number) (c .number)
   stood-true ms b e =
-      let r = any-true (λ c. above (entries R) (c .number) (b .number)) (viewOf ms) e in
+      let r = any-true (λ c. atOrAbove (entries R) (c .number) (b .number)) (viewOf ms) e in
       (r .0, r .1, above-true S (r .0 .number) (b .number) (r .2))
 
   stood-holds : (ms : List (Marked Block)) (b c : Block) → In c (viewOf ms) → In c (entries R) → Above (entries R) (b .number) (c .number) → stoodOn ms b ≡ true
-  stood-holds ms b c n k r = any-holds (λ d. above (entries R) (d .number) (b .number)) c n (above-holds S r)
+  stood-holds ms b c n k r = any-holds (λ d. atOrAbove (entries R) (d .number) (b .number)) c n (above-holds S r)
 
   -- ---- the parent of a block in view comes into view
 
@@ -73,7 +73,7 @@ module _ (R : List (Marked Block)) (O : Ordered R) where
     pub parent-same : viewAncestors next ≡ viewAncestors R
     unfolding viewAncestors
     parent-same =
-        ap (λ (bs : List Block). view (λ b. anyPass (λ d. above bs (d .number) (b .number)) (viewOf next)) next) (entries-viewing (numbered (c .parent)) R)
+        ap (λ (bs : List Block). view (λ b. anyPass (λ d. atOrAbove bs (d .number) (b .number)) (viewOf next)) next) (entries-viewing (numbered (c .parent)) R)
         ∙ viewing-both (numbered (c .parent)) (stoodOn next) R
         ∙ viewing-ext (λ b. numbered (c .parent) b || stoodOn next b) (stoodOn R) R (λ b m. same b)
 

@@ -9,7 +9,7 @@ use lib.Dec.{eqb}
 use borrow.Author.Tests.{eqb-true, eq-eqb}
 use Rattle.protocol.specs.Entry.{Block, Vote}
 use Rattle.protocol.specs.Lists.{anyPass}
-use Rattle.protocol.specs.Chain.{above}
+use Rattle.protocol.specs.Chain.{atOrAbove}
 use Rattle.protocol.specs.Store.{Marked, entries, viewOf, view}
 use Rattle.protocol.specs.Packet.{Packet}
 use Rattle.protocol.specs.Calls.Receive.{stoodOn}
@@ -58,31 +58,31 @@ module _ (p : Packet) (R : List (Marked Block)) (O : Ordered R) (C : Closed (vie
 
   stood-true : (b : Block) → stoodOn (entries R) p b ≡ true → (x : ℕ) × Names x × Above (entries R) (b .number) x
   unfolding stoodOn
-  stood-true b e = go (either (anyPass (λ c. above (entries R) (c .number) (b .number)) (p .blocks)) _ e)
+  stood-true b e = go (either (anyPass (λ c. atOrAbove (entries R) (c .number) (b .number)) (p .blocks)) _ e)
     where
-      go : (anyPass (λ c. above (entries R) (c .number) (b .number)) (p .blocks) ≡ true) ⊎ (anyPass (λ a. above (entries R) (a .number) (b .number)) (p .votes) ≡ true)
+      go : (anyPass (λ c. atOrAbove (entries R) (c .number) (b .number)) (p .blocks) ≡ true) ⊎ (anyPass (λ a. atOrAbove (entries R) (a .number) (b .number)) (p .votes) ≡ true)
           → (x : ℕ) × Names x × Above (entries R) (b .number) x
       go (inl h) =
-          let r = any-true (λ c. above (entries R) (c .number) (b .number)) (p .blocks) h in
+          let r = any-true (λ c. atOrAbove (entries R) (c .number) (b .number)) (p .blocks) h in
           (r .0 .number, by-block (r .0) (r .1) refl, above-true S (r .0 .number) (b .number) (r .2))
       go (inr h) =
-          let r = any-true (λ a. above (entries R) (a .number) (b .number)) (p .votes) h in
+          let r = any-true (λ a. atOrAbove (entries R) (a .number) (b .number)) (p .votes) h in
           (r .0 .number, by-vote (r .0) (r .1) refl, above-true S (r .0 .number) (b .number) (r .2))
 
   stood-holds : (b : Block) (x : ℕ) → Names x → Above (entries R) (b .number) x → stoodOn (entries R) p b ≡ true
   unfolding stoodOn
   stood-holds b x (by-block c m q) r =
-      or-left (anyPass (λ o. above (entries R) (o .number) (b .number)) (p .blocks)) _
-      (any-holds (λ o. above (entries R) (o .number) (b .number)) c m (above-holds S (above-cast q r)))
+      or-left (anyPass (λ o. atOrAbove (entries R) (o .number) (b .number)) (p .blocks)) _
+      (any-holds (λ o. atOrAbove (entries R) (o .number) (b .number)) c m (above-holds S (above-cast q r)))
   stood-holds b x (by-vote a m q) r =
-      or-right (anyPass (λ o. above (entries R) (o .number) (b .number)) (p .blocks)) _
-      (any-holds (λ o. above (entries R) (o .number) (b .number)) a m (above-holds S (above-cast q r)))
+      or-right (anyPass (λ o. atOrAbove (entries R) (o .number) (b .number)) (p .blocks)) _
+      (any-holds (λ o. atOrAbove (entries R) (o .number) (b .number)) a m (above-holds S (above-cast q r)))
 
   abbrev direct : List (Marked Block)
   direct = view (named p) R
 
   abbrev under : Block → Bool
-  under b = anyPass (λ c. above (entries R) (c .number) (b .number)) (viewOf direct)
+  under b = anyPass (λ c. atOrAbove (entries R) (c .number) (b .number)) (viewOf direct)
 
   -- a row that waits comes into view by the one test if and only if it does by the other
   agree : (m : Marked Block) → List·Memᴰ m R → m .viewed ≡ false → (named p (m .entry) || under (m .entry)) ≡ stoodOn (entries R) p (m .entry)
@@ -105,7 +105,7 @@ module _ (p : Packet) (R : List (Marked Block)) (O : Ordered R) (C : Closed (vie
       to : (named p b ≡ true) ⊎ (under b ≡ true) → stoodOn (entries R) p b ≡ true
       to (inl e) = stood-holds b (b .number) (named-true b e) (here refl)
       to (inr e) =
-          let r = any-true (λ c. above (entries R) (c .number) (b .number)) (viewOf direct) e in
+          let r = any-true (λ c. atOrAbove (entries R) (c .number) (b .number)) (viewOf direct) e in
           old (r .0) (viewing-from (named p) R (r .0) (r .1)) (above-true S (r .0 .number) (b .number) (r .2))
 
       from : stoodOn (entries R) p b ≡ true → (named p b || under b) ≡ true
@@ -113,11 +113,11 @@ module _ (p : Packet) (R : List (Marked Block)) (O : Ordered R) (C : Closed (vie
           let r = stood-true b e in
           let k = names-known (r .0) (r .1) in
           or-right (named p b) (under b)
-          (any-holds (λ c. above (entries R) (c .number) (b .number)) (k .0)
+          (any-holds (λ c. atOrAbove (entries R) (c .number) (b .number)) (k .0)
           (viewing-viewed-at-once (named p) R (k .0) (k .1) (named-holds (k .0) (rw (k .2) (r .1)))) (above-holds S (above-cast (sym (k .2)) (r .2))))
 
   pub proposal-viewed : viewAncestors direct ≡ view (λ b. stoodOn (entries R) p b) R
   unfolding viewAncestors
   proposal-viewed =
-      ap (λ (bs : List Block). view (λ b. anyPass (λ c. above bs (c .number) (b .number)) (viewOf direct)) direct) (entries-viewing (named p) R)
+      ap (λ (bs : List Block). view (λ b. anyPass (λ c. atOrAbove bs (c .number) (b .number)) (viewOf direct)) direct) (entries-viewing (named p) R)
       ∙ viewing-both (named p) under R ∙ viewing-agree (λ b. named p b || under b) (λ b. stoodOn (entries R) p b) R agree

@@ -5,7 +5,7 @@ use mathlib.Core.List.{List}
 use mathlib.Core.Path.{_≡_}
 use Rattle.protocol.specs.Entry.{Block}
 use Rattle.protocol.specs.Lists.{anyPass}
-use Rattle.protocol.specs.Chain.{above}
+use Rattle.protocol.specs.Chain.{atOrAbove}
 use Rattle.protocol.specs.Store.{Marked, entries, viewOf, view, viewAll}
 use Rattle.protocol.specs.Sound.{blocksSound}
 
@@ -15,4 +15,4 @@ Ordered ms = (slot : ℕ) × (blocksSound slot (viewAll ms) ≡ true)
 
 -- the blocks that a block in view stands on come into view
 unfoldable pub viewAncestors : List (Marked Block) → List (Marked Block)
-viewAncestors ms = view (λ b. anyPass (λ c. above (entries ms) (c .number) (b .number)) (viewOf ms)) ms
+viewAncestors ms = view (λ b. anyPass (λ c. atOrAbove (entries ms) (c .number) (b .number)) (viewOf ms)) ms

@@ -165,7 +165,7 @@ module _ (w : Bool) (ws : List ℕ) (i : ℕ) (m : Marked Vote) (read : m ≡ ro
 
       cast : Cast (f .entry) votes
       cast =
-          rw met (entry-in makeVote w ws i (link - 1) (first .below) (slot-selected ws (link - 1) i w (first .has) ∙ sym (ap (λ c. w || c .viewed) read) ∙ viewed))
+          rw met (entry-in makeVote w ws i (link - 1) (first .isRow) (slot-selected ws (link - 1) i w (first .has) ∙ sym (ap (λ c. w || c .viewed) read) ∙ viewed))
 
       counts : window E t (m .entry .slot) ≡ true
       counts = unfold window in (and-right (w || m .viewed) (window E t (m .entry .slot)) e)

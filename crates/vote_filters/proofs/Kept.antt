@@ -10,7 +10,7 @@ use lib.Seq.{getD-set-same, getD-set-other}
 use borrow.Author.Tests.{eqb-true, eqb-false, eq-eqb, lt-ltb, le-ltb}
 use Rattle.protocol.specs.Limits.{loom}
 use Rattle.protocol.specs.Entry.{Vote}
-use Rattle.protocol.specs.Filters.{equivocates, window, Last, last, none, later, latest, chosen, nothing, choiceOf, kept}
+use Rattle.protocol.specs.Filters.{equivocates, window, LatestVote, latestIs, noLatest, later, latest, chosen, nothing, choiceOf, keptChoice}
 use Rattle.protocol.specs.Confirm.{voteIn, inSlot, validVote}
 use Rattle.protocol.proofs.Basics.Tests.{same-test}
 use Rattle.protocol.proofs.Filters.Kept.{LastIs, latest-is, window-true, window-holds, equivocates-true, equivocates-holds, equivocation-in}
@@ -21,12 +21,12 @@ use Rattle.vote_filters.specs.Latest.{equivocatorsOf, lastAt, Latest, Ke
 
 -- the voters below k in the set have no vote any more
 pub record Dropped (vs : List Vote) (E t mask k : ℕ) (slots numbers : List ℕ) : Type 0 where
-  pub each : (v : ℕ) → v < loom .nodes → lastAt slots numbers v ≡ cond (ltb v k && bitOf mask v) none (latest vs E t v)
+  pub each : (v : ℕ) → v < loom .nodes → lastAt slots numbers v ≡ cond (ltb v k && bitOf mask v) noLatest (latest vs E t v)
 
 pub dropped-none : (vs : List Vote) (E t mask : ℕ) {slots numbers : List ℕ} → Latest vs E t slots numbers → Dropped vs E t mask 0 slots numbers
 dropped-none vs E t mask L = record { each = λ v l. rw (le-ltb v 0 (omega arith)) (L .each v l) }
 
-last-cleared : (slots numbers : List ℕ) (k : ℕ) → k < length slots → lastAt (set slots k 0) numbers k ≡ none
+last-cleared : (slots numbers : List ℕ) (k : ℕ) → k < length slots → lastAt (set slots k 0) numbers k ≡ noLatest
 unfolding lastAt
 last-cleared slots numbers k h = rw (getD-set-same {A = ℕ} slots k 0 0 h)
 
@@ -39,7 +39,7 @@ pub dropped-more : (vs : List Vote) (E t mask k : ℕ) {slots numbers next : Lis
 dropped-more vs E t mask k {slots} {numbers} {next} D e h = record { each = λ v l. ap (λ (s : List ℕ). lastAt s numbers v) e ∙ go v l (eqb v k) refl (bitOf mask k) refl }
   where
     go : (v : ℕ) → v < loom .nodes → (x : Bool) → eqb v k ≡ x → (b : Bool) → bitOf mask k ≡ b
-        → lastAt (cond b (set slots k 0) slots) numbers v ≡ cond (ltb v (k + 1) && bitOf mask v) none (latest vs E t v)
+        → lastAt (cond b (set slots k 0) slots) numbers v ≡ cond (ltb v (k + 1) && bitOf mask v) noLatest (latest vs E t v)
     go v l true q true m =
         let p : v ≡ k = eqb-true v k q in
         let o : k < k + 1 = omega arith in
@@ -57,16 +57,16 @@ dropped-more vs E t mask k {slots} {numbers} {next} D e h = record { each = λ v
         D .each v l ∙ rw (below-more v k p)
 
 pub dropped-all : (vs : List Vote) (E t mask k : ℕ) {slots numbers : List ℕ} → Dropped vs E t mask k slots numbers → 64 ≤ k → mask ≡ equivocatorsOf vs E t → Kept vs E t slots numbers
-unfolding equivocatorsOf kept choiceOf
+unfolding equivocatorsOf keptChoice choiceOf
 dropped-all vs E t mask k {slots} {numbers} D h e = record { each = λ v l. go v l }
   where
-    pick : (b : Bool) (f : Last) → choiceOf (cond b none f) ≡ cond b nothing (choiceOf f)
+    pick : (b : Bool) (f : LatestVote) → choiceOf (cond b noLatest f) ≡ cond b nothing (choiceOf f)
     pick true f = refl
     pick false f = refl
 
-    go : (v : ℕ) → v < loom .nodes → choiceOf (lastAt slots numbers v) ≡ kept vs E t v
+    go : (v : ℕ) → v < loom .nodes → choiceOf (lastAt slots numbers v) ≡ keptChoice vs E t v
     go v l =
-        let d : lastAt slots numbers v ≡ cond (equivocates (window E t) vs v) none (latest vs E t v)
+        let d : lastAt slots numbers v ≡ cond (equivocates (window E t) vs v) noLatest (latest vs E t v)
         = D .each v l ∙ rw (lt-ltb v k (omega arith), e, bit-mask 64 (λ u. equivocates (window E t) vs u) v l) in
         ap choiceOf d ∙ pick (equivocates (window E t) vs v) (latest vs E t v)
 
@@ -85,10 +85,10 @@ vote-latest (a ∷ rest) t v f =
     rw (window-one t (a .slot) (f a (List·Memᴰ·head refl)))
     (go (eqb (a .voter) v) (window 1 (t + 1) (a .slot)) refl (latest rest 1 (t + 1) v) (latest-is 1 (t + 1) v rest) (vote-latest rest t v (λ b m. f b (List·Memᴰ·tail m))))
   where
-    go : (x y : Bool) → window 1 (t + 1) (a .slot) ≡ y → (o : Last) → LastIs rest 1 (t + 1) v o → voteIn rest t v ≡ choiceOf o
+    go : (x y : Bool) → window 1 (t + 1) (a .slot) ≡ y → (o : LatestVote) → LastIs rest 1 (t + 1) v o → voteIn rest t v ≡ choiceOf o
         → cond (x && y) (chosen (a .number)) (voteIn rest t v) ≡ choiceOf (cond (x && y) (later a o) o)
-    go true true e none i q = refl
-    go true true e (last b) i q =
+    go true true e noLatest i q = refl
+    go true true e (latestIs b) i q =
         let w = window-true 1 (t + 1) (a .slot) e in
         let l : b .slot ≤ a .slot = omega (arith, w .past, w .fresh, i .inside .past, i .inside .fresh) in
         rw (le-ltb (a .slot) (b .slot) l)
@@ -106,6 +106,6 @@ equivocates-one vs t v f =
     one : (a : Vote) → Cast a vs → eqb (a .slot) t ≡ window 1 (t + 1) (a .slot)
     one a m = window-one t (a .slot) (f a m)
 
-pub valid-kept : (vs : List Vote) (t v : ℕ) → ((a : Vote) → Cast a vs → 0 < a .slot) → validVote vs t v ≡ kept vs 1 (t + 1) v
-unfolding validVote kept
+pub valid-kept : (vs : List Vote) (t v : ℕ) → ((a : Vote) → Cast a vs → 0 < a .slot) → validVote vs t v ≡ keptChoice vs 1 (t + 1) v
+unfolding validVote keptChoice
 valid-kept vs t v f = rw (equivocates-one vs t v f, vote-latest vs t v f)

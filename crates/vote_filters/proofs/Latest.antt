@@ -10,7 +10,7 @@ use lib.Seq.{getD-set-same, getD-set-other}
 use borrow.Author.Tests.{eqb-true, eqb-false, ne-eqb, ltb-true, ltb-false, lt-ltb, le-ltb, leb-true, le-leb}
 use Rattle.protocol.specs.Limits.{loom}
 use Rattle.protocol.specs.Entry.{Vote}
-use Rattle.protocol.specs.Filters.{window, Last, last, none, later, latest}
+use Rattle.protocol.specs.Filters.{window, LatestVote, latestIs, noLatest, later, latest}
 use Rattle.protocol.proofs.Basics.Tests.{same-test, and-left, and-right}
 use Rattle.vote_filters.specs.Latest.{lastAt, Latest, selected, votesOf}
 use Rattle.protocol.specs.Store.{Marked, entries, viewOf}
@@ -22,17 +22,17 @@ use Rattle.rows.specs.Rows.{rowAt}
 use Rattle.vote_filters.proofs.Selected.{selected-in, selected-out}
 
 -- a vote more at the end: it is the latest where its slot is above the one held
-abbrev after : Last → Vote → Last
-after none a = last a
-after (last b) a = cond (ltb (b .slot) (a .slot)) (last a) (last b)
+abbrev after : LatestVote → Vote → LatestVote
+after noLatest a = latestIs a
+after (latestIs b) a = cond (ltb (b .slot) (a .slot)) (latestIs a) (latestIs b)
 
-later-after : (c : Vote) (f : Last) (a : Vote) → later c (after f a) ≡ after (later c f) a
+later-after : (c : Vote) (f : LatestVote) (a : Vote) → later c (after f a) ≡ after (later c f) a
 unfolding later
-later-after c none a = refl
-later-after c (last b) a = go (ltb (b .slot) (a .slot)) refl (ltb (c .slot) (b .slot)) refl
+later-after c noLatest a = refl
+later-after c (latestIs b) a = go (ltb (b .slot) (a .slot)) refl (ltb (c .slot) (b .slot)) refl
   where
     go : (x : Bool) → ltb (b .slot) (a .slot) ≡ x → (y : Bool) → ltb (c .slot) (b .slot) ≡ y
-        → later c (cond x (last a) (last b)) ≡ after (cond y (last b) (last c)) a
+        → later c (cond x (latestIs a) (latestIs b)) ≡ after (cond y (latestIs b) (latestIs c)) a
     go true p true q =
         let l : c .slot < a .slot = omega (arith, ltb-true (b .slot) (a .slot) p, ltb-true (c .slot) (b .slot) q) in
         rw (lt-ltb (c .slot) (a .slot) l, p)
@@ -47,10 +47,10 @@ latest-end : (E t v : ℕ) (vs : List Vote) (a : Vote)
 unfolding latest later
 latest-end E t v [] a = refl
 latest-end E t v (c ∷ vs) a =
-    ap (λ (f : Last). cond (eqb (c .voter) v && window E t (c .slot)) (later c f) f) (latest-end E t v vs a)
+    ap (λ (f : LatestVote). cond (eqb (c .voter) v && window E t (c .slot)) (later c f) f) (latest-end E t v vs a)
     ∙ go (eqb (c .voter) v && window E t (c .slot)) (eqb (a .voter) v && window E t (a .slot)) (latest vs E t v)
   where
-    go : (x y : Bool) (f : Last) → cond x (later c (cond y (after f a) f)) (cond y (after f a) f) ≡ cond y (after (cond x (later c f) f) a) (cond x (later c f) f)
+    go : (x y : Bool) (f : LatestVote) → cond x (later c (cond y (after f a) f)) (cond y (after f a) f) ≡ cond y (after (cond x (later c f) f) a) (cond x (later c f) f)
     go true true f = later-after c f a
     go true false f = refl
     go false y f = refl
@@ -66,8 +66,8 @@ unfolding lastAt
 held-slot slots numbers v a e z = go (eqb (getD slots v 0) 0) refl
   where
     go : (b : Bool) → eqb (getD slots v 0) 0 ≡ b
-        → after (cond b none (last (record { voter = v; slot = getD slots v 0; number = numberIn numbers v }))) a
-        ≡ cond b none (last (record { voter = v; slot = getD slots v 0; number = numberIn numbers v }))
+        → after (cond b noLatest (latestIs (record { voter = v; slot = getD slots v 0; number = numberIn numbers v }))) a
+        ≡ cond b noLatest (latestIs (record { voter = v; slot = getD slots v 0; number = numberIn numbers v }))
     go true h = absurd (omega (arith, eqb-true (getD slots v 0) 0 h, ltb-false (getD slots v 0) (a .slot) e))
     go false h = rw e
 
@@ -88,14 +88,14 @@ pub latest-new : (vs : List Vote) (a : Vote) (E t : ℕ) (slots numbers : List �
 unfolding lastAt
 latest-new vs a E t slots numbers w z h m n L = record { each = λ v l. go v l (eqb (a .voter) v) refl }
   where
-    new : lastAt (set slots (a .voter) (a .slot)) (keptIn numbers (a .voter) (a .number)) (a .voter) ≡ last a
+    new : lastAt (set slots (a .voter) (a .slot)) (keptIn numbers (a .voter) (a .number)) (a .voter) ≡ latestIs a
     new = unfold lastAt in (
         rw (getD-set-same slots (a .voter) (a .slot) 0 m, kept-same numbers (a .voter) (a .number) n, ne-eqb (a .slot) 0 (λ q. omega arith)))
 
-    over : after (lastAt slots numbers (a .voter)) a ≡ last a
+    over : after (lastAt slots numbers (a .voter)) a ≡ latestIs a
     over = unfold lastAt in (pick (eqb (getD slots (a .voter) 0) 0))
       where
-        pick : (b : Bool) → after (cond b none (last (record { voter = a .voter; slot = getD slots (a .voter) 0; number = numberIn numbers (a .voter) }))) a ≡ last a
+        pick : (b : Bool) → after (cond b noLatest (latestIs (record { voter = a .voter; slot = getD slots (a .voter) 0; number = numberIn numbers (a .voter) }))) a ≡ latestIs a
         pick true = refl
         pick false = rw (lt-ltb (getD slots (a .voter) 0) (a .slot) h)
 

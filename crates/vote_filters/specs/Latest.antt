@@ -7,7 +7,7 @@ use lib.Dec.{eqb}
 use lib.ListN.{getD}
 use Rattle.protocol.specs.Limits.{loom}
 use Rattle.protocol.specs.Entry.{Vote}
-use Rattle.protocol.specs.Filters.{equivocates, window, Last, last, none, latest, choiceOf, kept}
+use Rattle.protocol.specs.Filters.{equivocates, window, LatestVote, latestIs, noLatest, latest, choiceOf, keptChoice}
 use Rattle.protocol.specs.Store.{Marked, entries, viewOf}
 use Rattle.protocol.specs.Lent.{rowsOf, makeVote}
 use Rattle.numbers.specs.NumberWords.{numberIn}
@@ -31,9 +31,9 @@ unfoldable pub equivocatorsOf : List Vote → ℕ → ℕ → ℕ
 equivocatorsOf vs E t = maskOf 64 (λ v. equivocates (window E t) vs v)
 
 -- the vote that two arrays hold for voter v: its slot and its block's number; no vote has slot 0
-unfoldable pub lastAt : List ℕ → List ℕ → ℕ → Last
+unfoldable pub lastAt : List ℕ → List ℕ → ℕ → LatestVote
 lastAt slots numbers v =
-    cond (eqb (getD slots v 0) 0) none (last (record { voter = v; slot = getD slots v 0; number = numberIn numbers v }))
+    cond (eqb (getD slots v 0) 0) noLatest (latestIs (record { voter = v; slot = getD slots v 0; number = numberIn numbers v }))
 
 -- the arrays hold the latest vote of each voter
 pub record Latest (vs : List Vote) (E t : ℕ) (slots numbers : List ℕ) : Type 0 where
@@ -41,4 +41,4 @@ pub record Latest (vs : List Vote) (E t : ℕ) (slots numbers : List ℕ) : Type
 
 -- and the kept one, which an equivocator has not
 pub record Kept (vs : List Vote) (E t : ℕ) (slots numbers : List ℕ) : Type 0 where
-  pub each : (v : ℕ) → v < loom .nodes → choiceOf (lastAt slots numbers v) ≡ kept vs E t v
+  pub each : (v : ℕ) → v < loom .nodes → choiceOf (lastAt slots numbers v) ≡ keptChoice vs E t v

@@ -33,7 +33,7 @@ met key n j k h u e =
     }
   where
     first : First key n k j
-    first = record { below = h; has = e; fresh = u }
+    first = record { isRow = h; has = e; fresh = u }
 
 abbrev Inv-loop : tie.InvT-loop
 Inv-loop kind words used bytes n key j₀ j = (j ≤ n) × Unmet (keyAt kind words used bytes) j key

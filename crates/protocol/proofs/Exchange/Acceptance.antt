@@ -14,7 +14,7 @@ use Rattle.protocol.specs.declared.Settings.{Settings}
 use Rattle.protocol.specs.Limits.{maxSlot, limitsOf}
 use Rattle.protocol.specs.Chain.{genesis, Lookup, found, missing, find, foundWith}
 use Rattle.protocol.specs.Store.{entries, keptFrom, Places, Node}
-use Rattle.protocol.specs.Sound.{between, sound}
+use Rattle.protocol.specs.Sound.{inRange, sound}
 use Rattle.protocol.specs.Packet.{Packet, packetOf, wellFormed}
 use Rattle.protocol.specs.Refusal.{by, first, done, pass, refuse, unless}
 use Rattle.protocol.specs.Calls.Receive.{knownAs, addBlock, addBlocks, blockAllowed, firstBadBlock, blocksAfter, votesAfter, headerAllowed, viewedAtOnce, receiveAnswer, receiveInto, receiveTests, receive}
@@ -34,7 +34,7 @@ use Rattle.protocol.proofs.Exchange.Sendable.{Sendable, sending, sendab
 -- F: blocks among which a number names one block
 module _ (F : Block → Type 0) (one : (c d : Block) → F c → F d → c .number ≡ d .number → c ≡ d) (slot later : ℕ) (l : slot ≤ later) where
   block-allowed : (e known : List Block) → ((c : Block) → In c e → In c known) → ((c : Block) → In c known → F c) → (b : Block) → F b → Follows slot e b → blockAllowed later known b ≡ true
-  unfolding blockAllowed between knownAs
+  unfolding blockAllowed inRange knownAs
   block-allowed e known f g b h w =
       let p = w .on in
       let k : foundWith (λ q. ltb (q .slot) (b .slot)) (find known (b .parent)) ≡ true =

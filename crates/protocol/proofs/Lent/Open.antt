@@ -8,7 +8,7 @@ use lib.ListN.{length, drop, replicate, length-append, length-replicate}
 use Rattle.protocol.specs.declared.Settings.{Settings}
 use Rattle.protocol.specs.Limits.{limitsOf}
 use Rattle.protocol.specs.Store.{fresh}
-use Rattle.protocol.specs.Sound.{between, placesSound}
+use Rattle.protocol.specs.Sound.{inRange, placesSound}
 use Rattle.protocol.specs.Refusal.{Refusal, first, Verdict, pass, refuse, refused, done, unless, answerUnless}
 use Rattle.protocol.specs.Calls.Open.{openTests, openNode}
 use Rattle.protocol.specs.Lent.{Lent, rowsOf, wordsOf, blockRow, placesIn, placesOf, nodeOf, marksSound, lentSound, cleared, openVerdict, openLent, blockWords, voteWords}
@@ -36,7 +36,7 @@ module _ (s : Settings) (m : Lent) where
 
   module _ (O : Opens s (placesOf m)) where
     room : blockWords ≤ length (m .blocks)
-    unfolding placesSound between placesOf
+    unfolding placesSound inRange placesOf
     room =
         let e : placesSound (limitsOf (s .profile)) (placesOf m) ≡ true = O .places in
         let h : 1 ≤ placesIn blockWords (m .blocks) = search facts in

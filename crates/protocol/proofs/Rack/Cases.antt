@@ -11,11 +11,11 @@ use Rattle.protocol.specs.declared.Settings.{Settings}
 use Rattle.protocol.specs.Entry.{Block, Vote}
 use Rattle.protocol.specs.Limits.{limitsOf}
 use Rattle.protocol.specs.Lists.{anyPass, passing}
-use Rattle.protocol.specs.Chain.{find, foundWith, slotIn, chainStep, chainIn, chain, above}
-use Rattle.protocol.specs.Filters.{conflict, equivocates, window, later, latest, choiceOf, kept}
+use Rattle.protocol.specs.Chain.{find, foundWith, slotIn, chainStep, chainIn, chain, atOrAbove}
+use Rattle.protocol.specs.Filters.{conflict, equivocates, window, later, latest, choiceOf, keptChoice}
 use Rattle.protocol.specs.Walk.{countBelow, supports, weight, isChild, beats, better, bestChild, walkStep, walkIn, walk, weightAt, headBlock, baseBlock}
 use Rattle.protocol.specs.Store.{allWaiting, entries, viewOf, view, viewAll, sameBlock, sameVote, since, rowsSince, Places, Node, fresh}
-use Rattle.protocol.specs.Sound.{between, settingsSound, placesSound, clockSound, blockSound, restSound, blocksSound, voteSound, votesSound, sound}
+use Rattle.protocol.specs.Sound.{inRange, settingsSound, placesSound, clockSound, blockSound, restSound, blocksSound, voteSound, votesSound, sound}
 use Rattle.protocol.specs.Packet.{bytesOf, numberOf, numberAt, flat, section, entriesAt, headBytes, blockBytes, voteBytes, packetAs, readBlock, readVote, packetAt, packetBytes, packetOf, headerFormed, wellFormed}
 use Rattle.protocol.specs.Refusal.{by, first, refused, done, unless}
 use Rattle.protocol.specs.Calls.Open.{openTests, openNode}
@@ -76,7 +76,7 @@ pub record UntilItLacks : Type 0 where
   pub longer-loom : onLoom (replicate 4097 0) ≡ received (refused (by 8))
 
 pub until-it-lacks : UntilItLacks
-unfolding limitsOf anyPass passing since find foundWith openTests openNode receive receiveTests receiveAnswer receiveInto firstBadBlock firstBadVote blockAllowed knownAs headerAllowed voteAllowed blocksAfter votesAfter addBlocks addBlock addVotes addVote viewedAtOnce first unless sound settingsSound placesSound clockSound blockSound blocksSound restSound voteSound votesSound between sameBlock sameVote entries viewOf view viewAll rowsSince allWaiting packetBytes packetAs headBytes blockBytes voteBytes section flat bytesOf packetOf packetAt entriesAt readBlock readVote numberAt numberOf wellFormed headerFormed slotIn chainStep chainIn chain above conflict equivocates window later latest choiceOf kept countBelow supports weight isChild beats better bestChild walkStep walkIn walk weightAt headBlock baseBlock headOf baseOf propose proposeTests vote voteTests merge mergeTests afterCall callAnswer refusedBy meets afterCalls meetsNone
+unfolding limitsOf anyPass passing since find foundWith openTests openNode receive receiveTests receiveAnswer receiveInto firstBadBlock firstBadVote blockAllowed knownAs headerAllowed voteAllowed blocksAfter votesAfter addBlocks addBlock addVotes addVote viewedAtOnce first unless sound settingsSound placesSound clockSound blockSound blocksSound restSound voteSound votesSound inRange sameBlock sameVote entries viewOf view viewAll rowsSince allWaiting packetBytes packetAs headBytes blockBytes voteBytes section flat bytesOf packetOf packetAt entriesAt readBlock readVote numberAt numberOf wellFormed headerFormed slotIn chainStep chainIn chain atOrAbove conflict equivocates window later latest choiceOf keptChoice countBelow supports weight isChild beats better bestChild walkStep walkIn walk weightAt headBlock baseBlock headOf baseOf propose proposeTests vote voteTests merge mergeTests afterCall callAnswer refusedBy meets afterCalls meetsNone
 until-it-lacks =
     record {
       opens-rack = refl;
@@ -108,7 +108,7 @@ pub record AtTheLimits : Type 0 where
   pub unsound-places : sound (two Rack) (record { blocks = 65; votes = 256 }) fresh ≡ false
 
 pub at-the-limits : AtTheLimits
-unfolding limitsOf openTests openNode first unless sound settingsSound placesSound clockSound blocksSound restSound votesSound between sameBlock
+unfolding limitsOf openTests openNode first unless sound settingsSound placesSound clockSound blocksSound restSound votesSound inRange sameBlock
 at-the-limits =
     record {
       nodes = refl;

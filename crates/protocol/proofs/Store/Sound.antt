@@ -17,7 +17,7 @@ use Rattle.protocol.specs.Limits.{maxSlot, loom, limitsOf}
 use Rattle.protocol.specs.Lists.{anyPass}
 use Rattle.protocol.specs.Chain.{genesis, find, foundWith}
 use Rattle.protocol.specs.Store.{Marked, entries, viewOf, sameVote, Places, Node, fresh}
-use Rattle.protocol.specs.Sound.{between, blocksSound, voteSound, votesSound, settingsSound, placesSound, clockSound, sound}
+use Rattle.protocol.specs.Sound.{inRange, blocksSound, voteSound, votesSound, settingsSound, placesSound, clockSound, sound}
 use Rattle.protocol.specs.Calls.Receive.{voteAllowed}
 use Rattle.protocol.proofs.Limits.{within-loom}
 use Rattle.protocol.proofs.Basics.Tests.{facts, both, and-left, and-right}
@@ -36,7 +36,7 @@ pub record VoteSound (n slot : ℕ) (bs : List Block) (a : Vote) : Type 0 where
   pub on : (b : Block) × In b bs × (b .number ≡ a .number) × (b .slot ≤ a .slot)
 
 pub vote-true : (n slot : ℕ) (bs : List Block) (a : Vote) → voteAllowed n slot bs a ≡ true → VoteSound n slot bs a
-unfolding voteAllowed between
+unfolding voteAllowed inRange
 vote-true n slot bs a e =
     let y : foundWith (λ b. leb (b .slot) (a .slot)) (find bs (a .number)) ≡ true = search facts in
     let r = found-true (λ b. leb (b .slot) (a .slot)) bs (a .number) y in
@@ -44,7 +44,7 @@ vote-true n slot bs a e =
     record { voter = search facts; real = z; early = search facts; on = (r .0, r .1, r .2, leb-true (r .0 .slot) (a .slot) (r .3)) }
 
 pub vote-holds : (n slot : ℕ) (bs : List Block) (a : Vote) → ((b c : Block) → In b bs → In c bs → b .number ≡ c .number → b ≡ c) → VoteSound n slot bs a → voteAllowed n slot bs a ≡ true
-unfolding voteAllowed between
+unfolding voteAllowed inRange
 vote-holds n slot bs a unique v =
     let p = v .on in
     both (lt-ltb (a .voter) n (v .voter)) (both (both (le-leb 1 (a .slot) (v .real)) (le-leb (a .slot) slot (v .early)))
@@ -67,7 +67,7 @@ pub record Ranges (s : Settings) : Type 0 where
   pub depth : 1 ≤ s .depth
 
 pub ranges : (s : Settings) → settingsSound s ≡ true → Ranges s
-unfolding settingsSound between
+unfolding settingsSound inRange
 ranges s e =
     let n : s .nodes ≤ limitsOf (s .profile) .nodes = search facts in
     record {
@@ -79,7 +79,7 @@ ranges s e =
     }
 
 pub places-few : (p : Profile) (pl : Places) → placesSound (limitsOf p) pl ≡ true → (pl .blocks ≤ loom .blocks) × (pl .votes ≤ loom .votes)
-unfolding placesSound between
+unfolding placesSound inRange
 places-few p pl e =
     let a : pl .blocks ≤ limitsOf p .blocks = search facts in
     let b : pl .votes ≤ limitsOf p .votes = search facts in
@@ -131,7 +131,7 @@ votes-true n slot bs (m ∷ ms) e =
         allowed : voteSound n slot bs m ≡ true → voteAllowed n slot (entries bs) (m .entry) ≡ true
         allowed h = unfold voteSound voteAllowed in (
             let x : ltb (m .entry .voter) n ≡ true = search facts in
-            let y : between 1 slot (m .entry .slot) ≡ true = search facts in
+            let y : inRange 1 slot (m .entry .slot) ≡ true = search facts in
             let z : foundWith (λ b. leb (b .slot) (m .entry .slot)) (find (entries bs) (m .entry .number)) ≡ true = search facts in
             both x (both y z))
     each o a (inr k) = o .each a k
@@ -161,7 +161,7 @@ votes-holds n slot bs S (m ∷ ms) o =
     one = unfold voteSound voteAllowed in (
         let h : voteAllowed n slot (entries bs) (m .entry) ≡ true = vote-holds n slot (entries bs) (m .entry) (S .unique) (o .each (m .entry) (List·Memᴰ·head refl)) in
         let x : ltb (m .entry .voter) n ≡ true = search facts in
-        let y : between 1 slot (m .entry .slot) ≡ true = search facts in
+        let y : inRange 1 slot (m .entry .slot) ≡ true = search facts in
         let z : foundWith (λ b. leb (b .slot) (m .entry .slot)) (find (entries bs) (m .entry .number)) ≡ true = search facts in
         both x (both y (both z (mark (m .viewed) refl))))
 
@@ -212,7 +212,7 @@ module _ {s : Settings} {pl : Places} {x : Node} (G : IsSound s pl x) where
 
 -- a fresh node is sound
 pub fresh-sound : (s : Settings) (pl : Places) → settingsSound s ≡ true → placesSound (limitsOf (s .profile)) pl ≡ true → IsSound s pl fresh
-unfolding placesSound between entries viewOf allFollow apart
+unfolding placesSound inRange entries viewOf allFollow apart
 fresh-sound s pl a b =
     let x : 1 ≤ pl .blocks = search facts in
     record {

@@ -8,9 +8,9 @@ use Rattle.protocol.specs.declared.Settings.{Settings}
 use Rattle.protocol.specs.Entry.{Block, Vote}
 use Rattle.protocol.specs.Limits.{limitsOf}
 use Rattle.protocol.specs.Lists.{anyPass, passing}
-use Rattle.protocol.specs.Chain.{Lookup, found, missing, find, foundWith, known, above}
+use Rattle.protocol.specs.Chain.{Lookup, found, missing, find, foundWith, known, atOrAbove}
 use Rattle.protocol.specs.Store.{entries, allWaiting, view, sameBlock, sameVote, keptFrom, since, Places, Node}
-use Rattle.protocol.specs.Sound.{between}
+use Rattle.protocol.specs.Sound.{inRange}
 use Rattle.protocol.specs.Packet.{Packet, isProposal, packetOf, wellFormed}
 use Rattle.protocol.specs.Refusal.{Test, test, testSection, first, Outcome, unless, unsound, wrongBeat}
 
@@ -48,12 +48,12 @@ knownAs b (found c) = sameBlock c b
 
 unfoldable pub blockAllowed : ℕ → List Block → Block → Bool
 blockAllowed slot before b =
-    between 1 slot (b .slot)
+    inRange 1 slot (b .slot)
     && (foundWith (λ p. ltb (p .slot) (b .slot)) (find before (b .parent)) && knownAs b (find before (b .number)))
 
 unfoldable pub voteAllowed : ℕ → ℕ → List Block → Vote → Bool
 voteAllowed n slot bs a =
-    ltb (a .voter) n && (between 1 slot (a .slot) && foundWith (λ b. leb (b .slot) (a .slot)) (find bs (a .number)))
+    ltb (a .voter) n && (inRange 1 slot (a .slot) && foundWith (λ b. leb (b .slot) (a .slot)) (find bs (a .number)))
 
 -- a proposal's block is among the packet's, with the header's slot
 unfoldable pub headerAllowed : Packet → Bool
@@ -80,7 +80,7 @@ viewedAtOnce x beat p = isProposal (p .kind) && (eqb (p .slot * 3) beat && not (
 -- a block that the packet's entries stand on: one of its blocks, one that its votes are for, old ones too, or an ancestor of these
 unfoldable pub stoodOn : List Block → Packet → Block → Bool
 stoodOn bs p b =
-    anyPass (λ c. above bs (c .number) (b .number)) (p .blocks) || anyPass (λ a. above bs (a .number) (b .number)) (p .votes)
+    anyPass (λ c. atOrAbove bs (c .number) (b .number)) (p .blocks) || anyPass (λ a. atOrAbove bs (a .number) (b .number)) (p .votes)
 
 -- ---- the call
 

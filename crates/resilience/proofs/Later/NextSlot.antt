@@ -8,8 +8,8 @@ use mathlib.Core.List.{List, List·Memᴰ}
 use native.Mathlib.Nat.{le-refl}
 use native.Mathlib.Omega.{arith}
 use Rattle.protocol.specs.Entry.{Block, Vote}
-use Rattle.protocol.specs.Chain.{above}
-use Rattle.protocol.specs.Filters.{chosen, kept}
+use Rattle.protocol.specs.Chain.{atOrAbove}
+use Rattle.protocol.specs.Filters.{chosen, keptChoice}
 use Rattle.protocol.specs.Walk.{weight, weightAt, walk, headBlock, baseBlock}
 use Rattle.protocol.specs.Store.{entries, viewOf}
 use Rattle.protocol.specs.Calls.Propose.{baseOf}
@@ -76,19 +76,19 @@ module _ {N : Network} (X : Execution N) where
       genuine a m = stored-ballot X k l i h a (stored a m)
 
       -- and are on B if their slot is between g and s
-      between-on : (a : Vote) → Cast a vs → N .honest (a .voter) ≡ true → g < a .slot → a .slot < s → above bs (a .number) (B .number) ≡ true
+      between-on : (a : Vote) → Cast a vs → N .honest (a .voter) ≡ true → g < a .slot → a .slot < s → atOrAbove bs (a .number) (B .number) ≡ true
       between-on a m o p q =
           let c = ballot-voted (log X) (a .voter) (a .slot) (a .number) (genuine a m o) in
           above-holds S (above-in-list X bs of S (known a m) (between (a .slot) p q (c .0) (a .voter) (a .number) (c .2) (c .1)))
 
       -- who is for neither side keeps no vote beside B
       harmless : (v : ℕ) → (N .honest v ≡ true) × ((q x : ℕ) → InWindow (N .expiry) (suc g) q → ballotIn (log X) v q ≡ chosen x → Harmless X (B .number) g v q x)
-          → (a : Vote) → IsLast vs (N .expiry) s v a → a .slot ≤ g → above bs (a .number) (B .number) ≡ true
+          → (a : Vote) → IsLast vs (N .expiry) s v a → a .slot ≤ g → atOrAbove bs (a .number) (B .number) ≡ true
       harmless v (o, f) a I u =
           go (f (a .slot) (a .number) (record { real = I .inside .real; past = omega arith; fresh = omega (arith, I .inside .fresh) })
           (sym (ap (λ z. ballotIn (log X) z (a .slot)) (I .by)) ∙ genuine a (I .mem) (ap (N .honest) (I .by) ∙ o)))
         where
-          go : Harmless X (B .number) g v (a .slot) (a .number) → above bs (a .number) (B .number) ≡ true
+          go : Harmless X (B .number) g v (a .slot) (a .number) → atOrAbove bs (a .number) (B .number) ≡ true
           go (inl e) = above-holds S (above-in-list X bs of S (known a (I .mem)) e)
           go (inr (r, y, q, m, d, e)) =
               let n = I .inside .fresh in
@@ -96,7 +96,7 @@ module _ {N : Network} (X : Execution N) where
               (record { real = omega arith; past = omega arith; fresh = omega arith }) in
               absurd (omega (arith, t))
 
-      pub walk-on : (lim : ℕ) → B .slot < lim → AtOrAbove (log X) (B .number) (walk (weight bs (λ v. kept vs (N .expiry) s v) (N .nodes)) bs lim)
+      pub walk-on : (lim : ℕ) → B .slot < lim → AtOrAbove (log X) (B .number) (walk (weight bs (λ v. keptChoice vs (N .expiry) s v) (N .nodes)) bs lim)
       walk-on lim soon =
           above-in-log X bs of
           (stays S vs (N .nodes) (N .expiry) g s B inside positive after near (N .honest) (ballotIn (log X)) genuine between-on (L .for) (L .against)

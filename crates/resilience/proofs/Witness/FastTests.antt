@@ -13,7 +13,7 @@ use Rattle.protocol.specs.Calls.Merge.{merge}
 use Rattle.protocol.specs.Calls.Query.{queryTests, fastOf, fastQuery}
 use Rattle.protocol.proofs.Basics.Tests.{and-left, and-right, both}
 use Rattle.protocol.proofs.Basics.Members.{all-true}
-use Rattle.resilience.specs.Run.{Network, World, start, Event, woke, settings, Onward, now}
+use Rattle.resilience.specs.Run.{Network, World, start, Event, woke, settings, Onward, noStep}
 use Rattle.resilience.specs.FastHolds.{FoundAfterMerge}
 use Rattle.resilience.proofs.Witness.Runs.{runs, runs-append, allowedAll, allowed-append, onward-all, anyStep}
 use Rattle.resilience.proofs.Witness.Acts.{Act, together, together-append}
@@ -68,5 +68,5 @@ found-true N acts before after e r i t F h =
       asleep = asleep-true i (3 * t + 2) (w .log) (and-left s _ rest);
       fast = finds-true _ F (and-right s _ rest);
       onward = subst (Onward N w) (sym (ap (runs N (start N)) split ∙ runs-append N (start N) (together before) (together after)))
-          (onward-all N w w (together after) now (a .1));
+          (onward-all N w w (together after) noStep (a .1));
     }

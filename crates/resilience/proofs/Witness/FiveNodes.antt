@@ -8,7 +8,7 @@ use native.Mathlib.Omega.{arith}
 use lib.Dec.{eqb}
 use Rattle.protocol.specs.Entry.{Vote}
 use Rattle.protocol.specs.Lists.{allPass, passing}
-use Rattle.protocol.specs.Filters.{chosen, nothing, kept}
+use Rattle.protocol.specs.Filters.{chosen, nothing, keptChoice}
 use Rattle.protocol.specs.Store.{entries, viewOf}
 use Rattle.protocol.specs.Packet.{Packet, packetBytes, packetOf}
 use Rattle.resilience.specs.Run.{Network, World, start, Event, voted, built, given}
@@ -173,7 +173,7 @@ pub record Happened : Type 0 where
       ∷ given 7 2 (packetBytes vote-12) true ∷ given 7 3 (packetBytes vote-twin) true
       ∷ given 9 3 (packetBytes orphan) false ∷ given 13 4 (packetBytes again-12) true
       ∷ given 18 0 (packetBytes proposal-61) true ∷ []) ≡ true
-  pub counts-again : (kept (viewOf (before .node 3 .votes)) 2 4 1 ≡ nothing) × (kept (viewOf (before .node 3 .votes)) 2 5 1 ≡ chosen 12)
+  pub counts-again : (keptChoice (viewOf (before .node 3 .votes)) 2 4 1 ≡ nothing) × (keptChoice (viewOf (before .node 3 .votes)) 2 5 1 ≡ chosen 12)
   -- the votes of slot 2, in which block twin is proposed, leave the table of node 3 with its Merge of slot 5
   pub votes-removed : (before .node 3 .clock .merged ≡ 4) × (end .node 3 .clock .merged ≡ 5)
       × (ofSlot 2 (entries (before .node 3 .votes)) ≡ voteBy 2 2 twin ∷ voteBy 3 2 twin ∷ voteBy 1 2 twin ∷ voteBy 4 2 twin ∷ voteBy 1 2 12 ∷ [])

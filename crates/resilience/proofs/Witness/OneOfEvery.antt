@@ -7,7 +7,7 @@ use native.Mathlib.Omega.{arith}
 use lib.Dec.{leb, ltb}
 use borrow.Author.Tests.{le-leb, lt-ltb}
 use Rattle.protocol.proofs.Basics.Tests.{both, either}
-use Rattle.resilience.specs.Run.{World, below}
+use Rattle.resilience.specs.Run.{World, allBelow}
 use Rattle.resilience.specs.DeepAgreement.{OneOfEvery}
 use Rattle.resilience.proofs.Witness.Tests.{implies, implied, below-true}
 
@@ -27,8 +27,8 @@ some-true p r (suc k) h = go (either (p (r + k)) _ h) (λ e. some-true p r k e)
     go (inr e) rec = let x = rec e in (x .0, x .1, omega (arith, x .2), x .3)
 
 unfoldable pub oneOfTest : (ℕ → Bool) → ℕ → ℕ → World → Bool
-unfolding someTest below
-oneOfTest p k s w = below (λ r. implies (leb s r && ltb (3 * (r + k)) (w .beat + 2)) (someTest p r k)) (w .beat)
+unfolding someTest allBelow
+oneOfTest p k s w = allBelow (λ r. implies (leb s r && ltb (3 * (r + k)) (w .beat + 2)) (someTest p r k)) (w .beat)
 
 pub one-of-true : (p : ℕ → Bool) (Slot : ℕ → Type 0) → ((q : ℕ) → p q ≡ true → Slot q) → (k s : ℕ) (w : World) → 0 < k → oneOfTest p k s w ≡ true
     → OneOfEvery k Slot s w

@@ -103,7 +103,7 @@ unfolding checkTest storm
 met = checked merged proposed first (every-good (λ N. N .expiry)) four storm 6 2 21 11 refl
 
 pub block-21 : Lasting four end (λ t. Good four end) 6 21
-block-21 = record { block = met .block; before = met .a; now = met .b; first = λ o. met .c; every = met .d }
+block-21 = record { block = met .block; mergeBeat = met .a; proposeBeat = met .b; first = λ o. met .c; every = met .d }
 
 -- block 21 stays
 pub storm-stays : Stays 6 21 end
@@ -119,7 +119,7 @@ pub block-81 : Lasting four end (λ t. Good four end) 24 81
 unfolding checkTest storm
 block-81 =
     let M = checked merged proposed first (every-good (λ N. N .expiry)) four storm 24 0 81 61 refl in
-    record { block = M .block; before = M .a; now = M .b; first = λ o. M .c; every = M .d }
+    record { block = M .block; mergeBeat = M .a; proposeBeat = M .b; first = λ o. M .c; every = M .d }
 
 lasts : (beat B : ℕ) → Lasting four end (λ t. Good four end) beat B → Lasting four end (GoodSince four end) beat B
 lasts beat B = lasting-by four end (λ t. Good four end) (GoodSince four end) beat B (good-since four end (beat / 3))
@@ -171,4 +171,4 @@ unfolding AsynchronyResilienceSince checkTest drowsy
 drowsy-stays =
     let M = checked merged proposed first every-good-since four drowsy 6 2 21 11 refl in
     asynchrony-resilient-since four (M .opened) dawn (M .run) (M .unforged) (M .oneBlock) (enough-for-honest (M .enough)) 6 21
-    (record { block = M .block; before = M .a; now = M .b; first = λ o. good-since four dawn 2 2 (omega arith) (M .c); every = M .d })
+    (record { block = M .block; mergeBeat = M .a; proposeBeat = M .b; first = λ o. good-since four dawn 2 2 (omega arith) (M .c); every = M .d })

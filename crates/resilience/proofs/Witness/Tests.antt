@@ -18,8 +18,8 @@ use Rattle.protocol.specs.Calls.Open.{openNode}
 use Rattle.protocol.proofs.Basics.Tests.{facts, both, and-left, and-right, clashing}
 use Rattle.protocol.proofs.Basics.Members.{any-true, any-holds, all-true}
 use Rattle.protocol.proofs.Store.Views.{block-same, vote-same}
-use Rattle.resilience.specs.Run.{Network, World, Event, woke, voted, built, sent, given, lacked, turnedAway, isHonest, settings, below, carried}
-use Rattle.resilience.specs.Resilience.{Opened, Gives, by-packet, by-proposer, OneBlock, AtOrAbove, here, up, Unforged, Enough, EnoughForHonest, Delivered, DeliveredAt, Majority, voters, opposed}
+use Rattle.resilience.specs.Run.{Network, World, Event, woke, voted, built, sent, given, lacked, turnedAway, isHonest, settings, allBelow, carried}
+use Rattle.resilience.specs.Resilience.{Opened, Gives, by-packet, by-proposer, OneBlock, AtOrAbove, here, onParent, Unforged, Enough, EnoughForHonest, Delivered, DeliveredAt, Majority, voters, opposed}
 use Rattle.resilience.proofs.Witness.Events.{row, is-kind, sameBytes, bytes-same, same-bytes, only, only-in}
 
 -- ---- "if a then b" as a test
@@ -35,19 +35,19 @@ holds-true : (b : Bool) → T b → b ≡ true
 holds-true true h = refl
 holds-true false h = absurd h
 
-pub below-true : (p : ℕ → Bool) (m : ℕ) → below p m ≡ true → (i : ℕ) → i < m → p i ≡ true
-unfolding below
+pub below-true : (p : ℕ → Bool) (m : ℕ) → allBelow p m ≡ true → (i : ℕ) → i < m → p i ≡ true
+unfolding allBelow
 below-true p zero h i l = absurd (omega arith)
-below-true p (suc m) h i l = go (eqb i m) refl (λ k. below-true p m (and-right (p m) (below p m) h) i k)
+below-true p (suc m) h i l = go (eqb i m) refl (λ k. below-true p m (and-right (p m) (allBelow p m) h) i k)
   where
     go : (t : Bool) → eqb i m ≡ t → (i < m → p i ≡ true) → p i ≡ true
-    go true e rec = ap p (eqb-true i m e) ∙ and-left (p m) (below p m) h
+    go true e rec = ap p (eqb-true i m e) ∙ and-left (p m) (allBelow p m) h
     go false e rec = let ne = eqb-false i m e in rec (omega (arith, ne))
 
 -- ---- freshly opened nodes
 
 unfoldable pub openedTest : Network → Bool
-openedTest N = below (λ i. implies (isHonest N i) (carried (openNode (settings N i) (N .places i) (N .before i) .answer))) (N .nodes)
+openedTest N = allBelow (λ i. implies (isHonest N i) (carried (openNode (settings N i) (N .places i) (N .before i) .answer))) (N .nodes)
 
 pub carried-done : {A : Type 0} (r : Answer A) → carried r ≡ true → (a : A) × (r ≡ done a)
 carried-done (refused k) h = absurd (false≢true h)
@@ -421,7 +421,7 @@ pub apart-true : (log : List Event) (B : ℕ) (chain : List ℕ) → apartTest l
     (x : ℕ) → among x chain ≡ true → AtOrAbove log B x → ⊥
 unfolding apartTest
 apart-true log B chain h x m here = clashing m (not-true (among B chain) (and-left (not (among B chain)) _ h))
-apart-true log B chain h x m (up c g a) =
+apart-true log B chain h x m (onParent c g a) =
     apart-true log B chain h (c .parent)
     (implied (among (c .number) chain) _ (all-true _ (and-right (not (among B chain)) _ h) c (gives-in log c g)) m) a
 
@@ -435,7 +435,7 @@ countVoters N w r = countBelow (voters N (w .log) r) (N .nodes)
 
 -- each slot from t on whose vote beat is over passes
 unfoldable pub slotsTest : (ℕ → Bool) → ℕ → World → Bool
-slotsTest p t w = below (λ r. implies (leb t r && ltb (3 * r + 1) (w .beat)) (p r)) (w .beat)
+slotsTest p t w = allBelow (λ r. implies (leb t r && ltb (3 * r + 1) (w .beat)) (p r)) (w .beat)
 
 pub slots-true : (p : ℕ → Bool) (t : ℕ) (w : World) → slotsTest p t w ≡ true → (r : ℕ) → t ≤ r → 3 * r + 1 < w .beat → p r ≡ true
 unfolding slotsTest

@@ -48,7 +48,7 @@ told b =
     let s = start b in
     let row = s .args .row in
     tested-at (λ q. ltb (q .slot) (row .block .slot)) _ _ (value (row .block .parent)) (row .viewed) (before _ _ _ _ (s .pre .0) (p .link .ensures) (j .if2 .left)) (i .if1 .left)
-    (differ-before _ _ _ (s .pre .0) (s .pre .1 .differ)) (b .block-at .ensures)
+    (differ-before _ _ _ (s .pre .0) (s .pre .1 .unrepeated)) (b .block-at .ensures)
 
 returns-3 : tie.Need-returns-3
 returns-3 c = sym (told (c .before .before .before) ∙ fails _ (le-ltb _ _ (c .if3 .taken)))

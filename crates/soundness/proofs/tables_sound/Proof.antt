@@ -19,7 +19,7 @@ start c = c .before .before .before .before .before .before .before .before .bef
 indexed : (c : tie.Else1) → let a = start c .args in Indexed (now (a .blocks)) (a .blocks-used) (c .before .before .before .build-blocks .last .1 .1 .0)
 indexed c =
     let b = c .before .before .before in
-    record { fit = start c .pre .0; index = b .build-blocks .ensures .1; differ = sym (b .build-blocks .ensures .0) ∙ not-false _ (c .if1 .left) }
+    record { fit = start c .pre .0; index = b .build-blocks .ensures .1; unrepeated = sym (b .build-blocks .ensures .0) ∙ not-false _ (c .if1 .left) }
 
 returns-2 : tie.Need-returns-2
 returns-2 c = (no-chain _ _ (sym (c .before .chain-sound .ensures) ∙ not-true _ (c .if2 .taken)), λ e. absurd (false≢true e))
@@ -37,9 +37,9 @@ returns-4 c =
     let c3 = b .before .before in
     let c2 = c3 .before .before .before in (
       b .build-votes .ensures .0
-          ∙ votes-left _ _ (indexed (passed c3) .differ) (sym (c2 .before .chain-sound .ensures) ∙ not-false _ (c2 .if2 .left))
+          ∙ votes-left _ _ (indexed (passed c3) .unrepeated) (sym (c2 .before .chain-sound .ensures) ∙ not-false _ (c2 .if2 .left))
           (sym (c3 .before .all-voted-sound .ensures) ∙ not-false _ (c3 .if3 .left)),
-      λ e. record { blocks = indexed (passed c3); votes = b .build-votes .ensures .1; differ = sym (b .build-votes .ensures .0) ∙ e },
+      λ e. record { blocks = indexed (passed c3); votes = b .build-votes .ensures .1; unrepeated = sym (b .build-votes .ensures .0) ∙ e },
     )
 
 pub tables-sound-spec : {M : Type 1} → statement M

@@ -40,7 +40,7 @@ told b =
     let i = b .before in
     let s = start b in
     let row = s .args .row in
-    tested-at (λ q. leb (q .slot) (row .vote .slot)) _ _ (value (row .vote .number)) (row .viewed) (i .before .link .ensures) (i .if1 .left) (s .pre .differ) (b .block-at .ensures)
+    tested-at (λ q. leb (q .slot) (row .vote .slot)) _ _ (value (row .vote .number)) (row .viewed) (i .before .link .ensures) (i .if1 .left) (s .pre .unrepeated) (b .block-at .ensures)
 
 returns-2 : tie.Need-returns-2
 returns-2 c = sym (told (c .before .before .before) ∙ fails _ (lt-leb _ _ (c .if2 .taken)))

@@ -111,7 +111,7 @@ admit-blocks-requires c κs =
     let e = header-blocks _ (i .before .header-of .ensures) in
     let l = lengths t in (
       T .blocks .fit,
-      T .blocks .differ,
+      T .blocks .unrepeated,
       λ z. (
           let f : start t .args .blocks-used + i .before .header-of .result .blocks ≤ 4096 = leb-true _ _ (sym (i .fits2 .ensures) ∙ z) in
           ((omega (arith, f, e), omega (arith, f, e, l .0)), blocks-known _ _ _ (T .blocks .index))
@@ -151,7 +151,7 @@ admit-votes-requires c κs =
     let t = passed (fitted a) in
     let T = tables t in
     let x = a .admit-blocks .ensures .1 (good d) in
-    (T .blocks .fit, T .blocks .differ, x .1, omega (arith, ready t .few-blocks, counts t .0, lengths t .2, a .admit-blocks .kept .1 .1 .1 .1 .1 .1 .0), x .2)
+    (T .blocks .fit, T .blocks .unrepeated, x .1, omega (arith, ready t .few-blocks, counts t .0, lengths t .2, a .admit-blocks .kept .1 .1 .1 .1 .1 .1 .0), x .2)
 
 abbrev asked : tie.Else4 → tie.After-admit-votes
 asked w = w .before .before .before
@@ -229,7 +229,7 @@ new-votes-requires c κs =
     let h = fitted (admitted (before-votes (asked (allowed k .before)))) .before in
     let e = header-votes _ (h .header-of .ensures) in (
       ready t .memory .vote-words,
-      T .differ,
+      T .unrepeated,
       λ z. (
           let f : start t .args .votes-used + h .header-of .result .votes ≤ 16384 = leb-true _ _ (sym (k .fits3 .ensures) ∙ z) in
           ((omega (arith, f, e), omega (arith, f, e, l .1)), votes-known _ _ _ (T .votes))

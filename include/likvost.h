@@ -59,7 +59,7 @@ extern "C" {
 #define LIKVOST_BLOCK_WORDS 6
 #define LIKVOST_VOTE_WORDS 5
 
-/* No honest node sends a packet of more bytes: on a loom drop longer ones before likvost_receive, which takes long to answer them. */
+/* No honest node sends a packet of more bytes. A loom answers longer ones too, at no higher cost for each byte. */
 #define LIKVOST_LARGEST_PACKET 245749
 
 /* The longest packet that a rack reads: likvost_receive refuses longer ones by 24, whatever they hold. */

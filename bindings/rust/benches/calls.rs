@@ -2,6 +2,9 @@
 //!
 //! `cargo bench --offline` prints the tables of docs/PERFORMANCE.md.
 
+mod common;
+
+use common::{micros, Run};
 use likvost::{Clock, Memory, Node, Profile, Settings, Width, BLOCK_WORDS, RACK_PACKET, VOTE_WORDS};
 use likvost_model as model;
 use std::hint::black_box;
@@ -187,22 +190,8 @@ const CALLS: [&str; 12] = [
     "Write, gossip",
 ];
 
-/// A run prepares what it needs and answers how long the call took.
-type Run<'a> = Box<dyn FnMut() -> Duration + 'a>;
-
-/// The median of each of these, run in turn, so that what else the machine does meanwhile falls on all of them.
-fn medians<const N: usize>(mut runs: [Run; N]) -> [Duration; N] {
-    let mut times: [Vec<Duration>; N] = std::array::from_fn(|_| Vec::new());
-    let start = Instant::now();
-    while times[0].len() < 9 || (times[0].len() < 2001 && start.elapsed() < Duration::from_millis(1500)) {
-        for (run, times) in runs.iter_mut().zip(&mut times) {
-            times.push(run());
-        }
-    }
-    times.map(|mut times| {
-        times.sort();
-        times[times.len() / 2]
-    })
+fn medians<const N: usize>(runs: [Run; N]) -> [Duration; N] {
+    common::medians(runs, 9, Duration::from_millis(1500))
 }
 
 fn timed<T>(call: impl FnOnce() -> T) -> Duration {
@@ -267,23 +256,8 @@ fn modelled<'a>(case: &'a Case, call: usize, packets: &'a Packets) -> Run<'a> {
     })
 }
 
-/// Microseconds, with three digits or more.
-fn micros(time: Duration) -> String {
-    let us = time.as_secs_f64() * 1e6;
-    match us {
-        us if us < 10.0 => format!("{us:.2}"),
-        us if us < 100.0 => format!("{us:.1}"),
-        us => format!("{us:.0}"),
-    }
-}
-
 fn ratio(a: Duration, b: Duration) -> String {
-    let r = a.as_secs_f64() / b.as_secs_f64().max(1e-9);
-    if r < 10.0 {
-        format!("{r:.1}")
-    } else {
-        format!("{r:.0}")
-    }
+    common::ratio(a.as_secs_f64(), b.as_secs_f64())
 }
 
 fn measure(profile: Profile, kind: Kind, nodes: u64, (blocks, votes): (usize, usize)) {

@@ -61,7 +61,7 @@ pub const BLOCK_WORDS: usize = 6;
 /// Words to a row of [`Memory::votes`].
 pub const VOTE_WORDS: usize = 5;
 
-/// No node sends a packet of more bytes. On a loom drop longer ones before [`Node::receive`], which takes long to refuse them.
+/// No honest node sends a packet of more bytes. A loom answers longer ones too, at no higher cost for each byte.
 pub const LARGEST_PACKET: usize = Width::Wide.packet_length(2047, 8192);
 
 /// The longest packet that a rack reads: [`Node::receive`] refuses longer ones by [`Refusal::PacketTooLong`], whatever they hold.

@@ -17,13 +17,11 @@ use Rattle.protocol.proofs.Basics.Members.{any-append}
 use Rattle.protocol.proofs.Store.New.{any-added}
 use Rattle.packets.specs.Header.{noVote}
 use Rattle.rows.proofs.Find.{known-any}
-use Rattle.search_tree.specs.Tree.{Points}
-use Rattle.search_tree.proofs.Lists.{any-linked}
+use Rattle.hash_table.specs.Table.{Points}
+use Rattle.hash_table.proofs.Lists.{any-linked}
 use Rattle.index.specs.declared.Key.{Key}
-use Rattle.index.specs.declared.Kind.the-variants.{KnownBlocks, KnownVotes}
 use Rattle.index.specs.Keys.{numberKey, voteKey}
-use Rattle.index.specs.Index.{keyAt}
-use Rattle.index.specs.Links.{knownBlocks, linkToBlock, linkToVote, lookupAt}
+use Rattle.index.specs.Links.{blockKeys, voteKeys, knownBlocks, linkToBlock, linkToVote, lookupAt}
 use Rattle.index.specs.Firsts.{blockNew, voteNew}
 use Rattle.index.proofs.Known.{known-front, known-next}
 use Rattle.index.proofs.Joined.{block-linked, vote-linked, vote-among, link-found}
@@ -34,15 +32,15 @@ no-link link e = sym (Bool·not-not (eqb link 0)) ∙ ap not e
 
 module _ (ws : List ℕ) (used : ℕ) (bytes : List ℕ) (i : ℕ) where
   -- the keys of the packet's next entries
-  pub block-key : keyAt KnownBlocks ws used bytes (used + i) ≡ numberKey (getD (packetOf bytes .blocks) i genesis .number)
+  pub block-key : blockKeys ws used bytes (used + i) ≡ numberKey (getD (packetOf bytes .blocks) i genesis .number)
   block-key = ap (λ (b : Block). numberKey (b .number)) (known-next makeBlock ws used (packetOf bytes .blocks) i genesis)
 
-  pub vote-key : keyAt KnownVotes ws used bytes (used + i) ≡ voteKey (getD (packetOf bytes .votes) i noVote)
+  pub vote-key : voteKeys ws used bytes (used + i) ≡ voteKey (getD (packetOf bytes .votes) i noVote)
   vote-key = ap voteKey (known-next makeVote ws used (packetOf bytes .votes) i noVote)
 
   -- what was read at the row of x, where the packet's first i blocks are known
   module _ (l : i ≤ length (packetOf bytes .blocks)) where
-    pub link-told : (x : ℕ) {k : Key} {link : ℕ} {f : Lookup} → k ≡ numberKey x → Points (keyAt KnownBlocks ws used bytes) (used + i) k link
+    pub link-told : (x : ℕ) {k : Key} {link : ℕ} {f : Lookup} → k ≡ numberKey x → Points (blockKeys ws used bytes) (used + i) k link
         → f ≡ lookupAt (knownBlocks ws used bytes) link → f ≡ find (addBlocks (entries (rowsOf makeBlock ws used)) (take i (packetOf bytes .blocks))) x
     link-told x e s r =
         let known = knownBlocks ws used bytes in
@@ -51,7 +49,7 @@ module _ (ws : List ℕ) (used : ℕ) (bytes : List ℕ) (i : ℕ) where
         r ∙ ap (lookupAt known) p ∙ link-found known (used + i) x
         ∙ ap (λ l. find l x) (known-front makeBlock ws used bs i) ∙ sym (added-joined (entries (rowsOf makeBlock ws used)) (take i bs) x)
 
-    pub block-new : (link : ℕ) → Points (keyAt KnownBlocks ws used bytes) (used + i) (keyAt KnownBlocks ws used bytes (used + i)) link
+    pub block-new : (link : ℕ) → Points (blockKeys ws used bytes) (used + i) (blockKeys ws used bytes (used + i)) link
         → eqb link 0 ≡ blockNew ws used bytes i
     unfolding linkToBlock
     block-new link s =
@@ -64,7 +62,7 @@ module _ (ws : List ℕ) (used : ℕ) (bytes : List ℕ) (i : ℕ) where
         ∙ sym (ap (foundWith (λ c. true)) (added-joined old (take i bs) x) ∙ known-any (old ++ take i bs) x ∙ any-linked (λ b. eqb (b .number) x) (old ++ take i bs) 0))
 
   pub vote-new : i ≤ length (packetOf bytes .votes) → (link : ℕ)
-      → Points (keyAt KnownVotes ws used bytes) (used + i) (keyAt KnownVotes ws used bytes (used + i)) link → eqb link 0 ≡ voteNew ws used bytes i
+      → Points (voteKeys ws used bytes) (used + i) (voteKeys ws used bytes (used + i)) link → eqb link 0 ≡ voteNew ws used bytes i
   vote-new l link s =
       let old = entries (rowsOf makeVote ws used) in
       let vs = packetOf bytes .votes in

@@ -17,14 +17,12 @@ use Rattle.protocol.proofs.Basics.Members.{any-append}
 use Rattle.packets.specs.Header.{noVote}
 use Rattle.packets.proofs.Turns.{front-entry}
 use Rattle.rows.specs.Rows.{rowAt}
-use Rattle.search_tree.specs.Tree.{Points}
+use Rattle.hash_table.specs.Table.{Points}
 use Rattle.bitset.specs.Bitset.{inserted}
 use Rattle.bitset.proofs.Bitset.{none-in}
 use Rattle.index.specs.declared.Key.{Key}
-use Rattle.index.specs.declared.Kind.the-variants.{KnownBlocks, KnownVotes}
 use Rattle.index.specs.Keys.{numberKey, voteKey, sameKey}
-use Rattle.index.specs.Index.{keyAt}
-use Rattle.index.specs.Links.{numbersDiffer, votesDiffer}
+use Rattle.index.specs.Links.{blockKeys, voteKeys, numbersDiffer, votesDiffer}
 use Rattle.index.specs.Firsts.{firstRow, blockNew, voteNew, isBlock, isVoted, isVote, named, BlocksNew, BlocksNamed, VotesNew, VotesNamed}
 use Rattle.index.proofs.Tables.{number-keys, vote-keys}
 use Rattle.index.proofs.Joined.{block-row, vote-row, blocks-apart, votes-apart}
@@ -47,7 +45,7 @@ module _ (ws : List ℕ) (used : ℕ) (bytes : List ℕ) where
 
   module _ (differ : numbersDiffer (rowsOf makeBlock ws used) ≡ true) where
     abbrev key : ℕ → Key
-    key = keyAt KnownBlocks ws used bytes
+    key = blockKeys ws used bytes
 
     -- row j has the number x
     row-number : (j x : ℕ) → j < used → eqb (rowAt makeBlock ws j .entry .number) x ≡ sameKey (key j) (numberKey x)
@@ -86,7 +84,7 @@ module _ (ws : List ℕ) (used : ℕ) (bytes : List ℕ) where
   blocks-begin w =
       record {
         rows = λ j h. none-in w j ∙ sym (any-none (λ c. eqb (rowAt makeBlock ws j .entry .number) (c .number)) (packetOf bytes .blocks));
-        news = news-none (keyAt KnownBlocks ws used bytes) used (length (packetOf bytes .blocks)) (blockNew ws used bytes) (λ m p k q. block-new ws used bytes m (omega arith) p q) w;
+        news = news-none (blockKeys ws used bytes) used (length (packetOf bytes .blocks)) (blockNew ws used bytes) (λ m p k q. block-new ws used bytes m (omega arith) p q) w;
       }
 
   pub voted-begin : (set : List ℕ) → BlocksSeen ws used bytes (length (packetOf bytes .blocks)) set → VotedSeen ws used bytes 0 set
@@ -113,10 +111,10 @@ module _ (ws : List ℕ) (used : ℕ) (bytes : List ℕ) where
 
   module _ (differ : votesDiffer (rowsOf makeVote ws used) ≡ true) where
     pub votes-next : (i link : ℕ) (set set′ : List ℕ) → i < length (packetOf bytes .votes)
-        → Points (keyAt KnownVotes ws used bytes) (used + i) (keyAt KnownVotes ws used bytes (used + i)) link
+        → Points (voteKeys ws used bytes) (used + i) (voteKeys ws used bytes (used + i)) link
         → used + i < 64 * length set → set′ ≡ inserted set (firstRow (used + i) link) → VotesSeen ws used bytes i set → VotesSeen ws used bytes (i + 1) set′
     votes-next i link set set′ h s l e x =
-        let key = keyAt KnownVotes ws used bytes in
+        let key = voteKeys ws used bytes in
         let vs = packetOf bytes .votes in
         record {
           rows = names-next used (used + i) (key (used + i)) s (omega arith) (votes-apart ws used bytes differ)
@@ -131,7 +129,7 @@ module _ (ws : List ℕ) (used : ℕ) (bytes : List ℕ) where
   votes-begin w =
       record {
         rows = λ j h. none-in w j ∙ sym (any-none (sameVote (rowAt makeVote ws j .entry)) (packetOf bytes .votes));
-        news = news-none (keyAt KnownVotes ws used bytes) used (length (packetOf bytes .votes)) (voteNew ws used bytes) (λ m p k q. vote-new ws used bytes m (omega arith) p q) w;
+        news = news-none (voteKeys ws used bytes) used (length (packetOf bytes .votes)) (voteNew ws used bytes) (λ m p k q. vote-new ws used bytes m (omega arith) p q) w;
       }
 
   module _ (set : List ℕ) (x : VotesSeen ws used bytes (length (packetOf bytes .votes)) set) where

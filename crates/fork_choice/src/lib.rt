@@ -80,9 +80,9 @@ fn link_child(parents: &[u16], i: usize, children: &mut [u16], siblings: &mut [u
     ensures { λ r. ⌜ (now (siblings .exit) ≡ set (now (siblings .entry)) i (getD (now (children .entry)) (getD (now (parents .entry)) i 0) 0))
         × (now (children .exit) ≡ set (now (children .entry)) (getD (now (parents .entry)) i 0) i) ⌝ }
 {
-    let p = search_tree::link_at(parents, i);
+    let p = hash_table::link_at(parents, i);
     siblings[i] = children[p];
-    search_tree::put_link(children, p, i);
+    hash_table::put_link(children, p, i);
 }
 
 // The children of each row, linked in the order of their rows. One turn for each row.
@@ -116,10 +116,10 @@ fn best_child(
 {
     let parent = rows::block_at(blocks, a);
     let mut best: usize = 0;
-    let mut c = search_tree::link_at(children, a);
+    let mut c = hash_table::link_at(children, a);
     while c != 0 {
         best = better_row(blocks, weights, whole, lim, parent.block.number, c, best);
-        c = search_tree::link_at(siblings, c);
+        c = hash_table::link_at(siblings, c);
     }
     best
 }
@@ -154,8 +154,8 @@ fn leaf(
 
 // The voters of each subtree, by the votes kept for slot t: the word at a block's row is the set of the voters whose kept vote is for it or
 // for a block above it. Also the row of each block's parent.
-// The cost is a descent for each vote, two for each block and one for each voter. Stack: 1.5 KB for the kept votes of 64 voters, and while they
-// are gathered 80 KiB.
+// The cost is a walk for each vote, two for each block and one for each voter. Stack: 1.5 KB for the kept votes of 64 voters, and while they
+// are gathered 64 KiB.
 pub fn weigh(
     settings: Settings,
     blocks: &[u64],
@@ -199,7 +199,7 @@ fn count_voters(masks: &[u64], used: usize, weights: &mut [u32])
 }
 
 // The row of the heaviest leaf: by the weights of slot t, with children of slots below the limit. Also the row of each block's parent.
-// Stack: 24 KiB for the words and weights of 2,048 blocks; with what gathers the kept votes 105 KiB, the most that any call here takes.
+// Stack: 24 KiB for the words and weights of 2,048 blocks; with what gathers the kept votes 89 KiB, the most that any call here takes.
 pub fn heaviest_leaf(
     settings: Settings,
     blocks: &[u64],
@@ -265,7 +265,7 @@ fn heaviest(
     row.block.number
 }
 
-// The head of slot t, over the view: children of slots up to t. The cost is a few descents for each vote and block.
+// The head of slot t, over the view: children of slots up to t. The cost is a few walks for each vote and block.
 pub fn head(
     settings: Settings,
     blocks: &[u64],

@@ -5,6 +5,7 @@ use mathlib.Core.List.{List, [], _∷_}
 use mathlib.Core.Logic.{_⊎_, inl, inr}
 use mathlib.Core.Path.{_≡_, refl, ap, sym, _∙_}
 use native.Mathlib.Omega.{arith}
+use native.Mathlib.Decide.{decLt}
 use lib.Dec.{eqb}
 use lib.ListN.{length, getD, take}
 use lib.Seq.{length-take-le, getD-take}
@@ -15,22 +16,22 @@ use Rattle.protocol.specs.Store.{sameVote, inView}
 use Rattle.protocol.specs.Packet.{packetOf}
 use Rattle.protocol.specs.Lent.{rowsOf, makeBlock, makeVote}
 use Rattle.packets.specs.Header.{noVote}
-use Rattle.search_tree.specs.Lists.{linkFrom}
-use Rattle.search_tree.specs.Tree.{Points}
-use Rattle.search_tree.proofs.Tree.{index-same}
-use Rattle.search_tree.proofs.Lists.{link-past}
+use Rattle.hash_table.specs.Lists.{linkFrom}
+use Rattle.hash_table.specs.Table.{Blank, Points}
+use Rattle.hash_table.proofs.Table.{index-free}
+use Rattle.hash_table.proofs.Lists.{link-past}
 use Rattle.index.specs.declared.Key.{Key}
-use Rattle.index.specs.declared.Kind.the-variants.{Blocks, Votes, KnownBlocks, KnownVotes}
+use Rattle.index.specs.declared.Kind.the-variants.{Blocks, Votes, PacketBlocks, PacketVotes}
 use Rattle.index.specs.Keys.{numberKey, voteKey}
-use Rattle.index.specs.Index.{keyAt, IndexOf}
-use Rattle.index.specs.Links.{BlockIndex, VoteIndex, numbersDiffer, votesDiffer, knownBlocks, knownVotes, linkToBlock, linkToVote, lookupAt}
-use Rattle.index.proofs.Known.{length-known, known-row}
+use Rattle.index.specs.Index.{keyAt, Room}
+use Rattle.index.specs.Links.{BlockIndex, VoteIndex, BlocksIndexed, VotesIndexed, blockKeys, voteKeys, linkBehind, numbersDiffer, votesDiffer, knownBlocks, knownVotes, linkToBlock, linkToVote, lookupAt}
+use Rattle.index.proofs.Known.{length-known, known-row, known-next}
 use Rattle.index.proofs.Links.{linked, Differ, keys-differ}
 use Rattle.index.proofs.Tables.{number-tells, vote-tells, has-link, numbers-differ, votes-differ}
 
 module _ (ws : List ℕ) (used : ℕ) (bytes : List ℕ) (n : ℕ) where
   pub block-linked : (x : ℕ) {k : Key} {link : ℕ} → n ≤ used + length (packetOf bytes .blocks) → k ≡ numberKey x
-      → Points (keyAt KnownBlocks ws used bytes) n k link → link ≡ linkToBlock (take n (knownBlocks ws used bytes)) x
+      → Points (blockKeys ws used bytes) n k link → link ≡ linkToBlock (take n (knownBlocks ws used bytes)) x
   unfolding linkToBlock
   block-linked x h e s =
       let bs = knownBlocks ws used bytes in
@@ -38,7 +39,7 @@ module _ (ws : List ℕ) (used : ℕ) (bytes : List ℕ) (n : ℕ) where
       linked genesis (number-tells (λ b. b .number) x) (rw e at s) (take n bs) (length-take-le n bs l) (λ j m. ap (λ b. numberKey (b .number)) (getD-take n bs j genesis m))
 
   pub vote-linked : (v : Vote) {k : Key} {link : ℕ} → n ≤ used + length (packetOf bytes .votes) → k ≡ voteKey v
-      → Points (keyAt KnownVotes ws used bytes) n k link → link ≡ linkToVote (take n (knownVotes ws used bytes)) v
+      → Points (voteKeys ws used bytes) n k link → link ≡ linkToVote (take n (knownVotes ws used bytes)) v
   unfolding linkToVote
   vote-linked v h e s =
       let vs = knownVotes ws used bytes in
@@ -47,27 +48,82 @@ module _ (ws : List ℕ) (used : ℕ) (bytes : List ℕ) (n : ℕ) where
 
 -- ---- the rows of the table come first
 
+-- `front` are the keys of the rows of the table, `back` those of the entries behind them
+module _ {key front : ℕ → Key} {used : ℕ} (rows : (j : ℕ) → j < used → front j ≡ key j) where
+  early : (i : ℕ) {k : Key} {link : ℕ} → Points front used k link → (link ≡ 0 → ⊥) → Points key (used + i) k link
+  early i {k} s f =
+      record {
+        hit = λ p e.
+            let g = s .hit p e in
+            let l : p < used = g .isRow in
+            record { isRow = omega arith; has = sym (rows p l) ∙ g .has; fresh = λ m h q. g .fresh m h (rows m (omega arith) ∙ q) };
+        none = λ e. absurd (f e);
+      }
+
+  module _ {back : ℕ → Key} (entries : (m : ℕ) → back m ≡ key (used + m)) where
+    -- no row before entry m has the key
+    before : {k : Key} {m : ℕ} → ((j : ℕ) → j < used → front j ≡ k → ⊥) → ((j : ℕ) → j < m → back j ≡ k → ⊥) → (j : ℕ) → j < used + m → key j ≡ k → ⊥
+    before f g j h e = go (decLt j used)
+      where
+        go : Dec (j < used) → ⊥
+        go (yes l) = f j l (rows j l ∙ e)
+        go (no l) = let z : used + (j - used) ≡ j = omega arith in g (j - used) (omega arith) (entries (j - used) ∙ ap key z ∙ e)
+
+    late : (i : ℕ) {k : Key} {link later : ℕ} → Points front used k link → link ≡ 0 → Points back i k later → Points key (used + i) k (linkBehind used later)
+    late i {later = zero} s e t = record { hit = λ p q. absurd (omega arith); none = λ q. before (s .none e) (t .none refl) }
+    late i {later = suc m} s e t =
+        let g = t .hit m refl in
+        record {
+          hit = λ p q.
+              let z : used + m ≡ p = omega arith in
+              let l : m < i = g .isRow in
+              record { isRow = omega arith; has = ap key (sym z) ∙ sym (entries m) ∙ g .has; fresh = λ r h. before (s .none e) (g .fresh) r (omega arith) };
+          none = λ q. absurd (omega arith);
+        }
+
 module _ (ws : List ℕ) (used : ℕ) (bytes : List ℕ) where
-  pub block-row : (j : ℕ) → j < used → keyAt Blocks ws 0 [] j ≡ keyAt KnownBlocks ws used bytes j
+  pub block-row : (j : ℕ) → j < used → keyAt Blocks ws [] j ≡ blockKeys ws used bytes j
   block-row j h = ap (λ (b : Block). numberKey (b .number)) (known-row makeBlock ws used (packetOf bytes .blocks) j (inView genesis) h refl)
 
-  pub vote-row : (j : ℕ) → j < used → keyAt Votes ws 0 [] j ≡ keyAt KnownVotes ws used bytes j
+  pub vote-row : (j : ℕ) → j < used → keyAt Votes ws [] j ≡ voteKeys ws used bytes j
   vote-row j h = ap voteKey (known-row makeVote ws used (packetOf bytes .votes) j (inView noVote) h refl)
 
-  -- an index of the table is one of the first rows here
-  pub blocks-known : {ls : List ℕ} → BlockIndex ws used ls → IndexOf KnownBlocks ws used bytes used ls
-  blocks-known x = index-same block-row x
+  pub block-past : (m : ℕ) → keyAt PacketBlocks ws bytes m ≡ blockKeys ws used bytes (used + m)
+  block-past m = ap (λ (b : Block). numberKey (b .number)) (sym (known-next makeBlock ws used (packetOf bytes .blocks) m genesis))
 
-  pub votes-known : {ls : List ℕ} → VoteIndex ws used ls → IndexOf KnownVotes ws used bytes used ls
-  votes-known x = index-same vote-row x
+  pub vote-past : (m : ℕ) → keyAt PacketVotes ws bytes m ≡ voteKeys ws used bytes (used + m)
+  vote-past m = ap voteKey (sym (known-next makeVote ws used (packetOf bytes .votes) m noVote))
 
-  pub blocks-apart : numbersDiffer (rowsOf makeBlock ws used) ≡ true → Differ (keyAt KnownBlocks ws used bytes) used
+  -- of no entry of the packet there is an index where the cells are free
+  pub blocks-begin : {ls ps : List ℕ} → BlockIndex ws used ls → Blank ps → Room 0 ps → BlocksIndexed ws used bytes 0 ls ps
+  blocks-begin x e h = record { table = x; packet = index-free _ e (h .1) (h .2) }
+
+  pub votes-begin : {ls ps : List ℕ} → VoteIndex ws used ls → Blank ps → Room 0 ps → VotesIndexed ws used bytes 0 ls ps
+  votes-begin x e h = record { table = x; packet = index-free _ e (h .1) (h .2) }
+
+  -- what was found in the table, or else among the packet's first i entries
+  module _ (i : ℕ) where
+    pub block-early : {k x : Key} {link : ℕ} → k ≡ x → Points (keyAt Blocks ws []) used k link → (link ≡ 0 → ⊥) → Points (blockKeys ws used bytes) (used + i) x link
+    block-early a s f = rw a at (early block-row i s f)
+
+    pub block-late : {k x y : Key} {link later r : ℕ} → k ≡ x → k ≡ y → Points (keyAt Blocks ws []) used k link → link ≡ 0 → Points (keyAt PacketBlocks ws bytes) i y later
+        → r ≡ linkBehind used later → Points (blockKeys ws used bytes) (used + i) x r
+    block-late {later = later} a b s e t z = rw z (rw a at (late block-row block-past i {later = later} s e (rw (← b) at t)))
+
+    pub vote-early : {k x : Key} {link : ℕ} → k ≡ x → Points (keyAt Votes ws []) used k link → (link ≡ 0 → ⊥) → Points (voteKeys ws used bytes) (used + i) x link
+    vote-early a s f = rw a at (early vote-row i s f)
+
+    pub vote-late : {k x y : Key} {link later r : ℕ} → k ≡ x → k ≡ y → Points (keyAt Votes ws []) used k link → link ≡ 0 → Points (keyAt PacketVotes ws bytes) i y later
+        → r ≡ linkBehind used later → Points (voteKeys ws used bytes) (used + i) x r
+    vote-late {later = later} a b s e t z = rw z (rw a at (late vote-row vote-past i {later = later} s e (rw (← b) at t)))
+
+  pub blocks-apart : numbersDiffer (rowsOf makeBlock ws used) ≡ true → Differ (blockKeys ws used bytes) used
   blocks-apart e i j h l q =
-      keys-differ (keyAt Blocks ws 0 []) used (numbers-differ ws used ∙ e) i j h l (block-row i (omega arith) ∙ q ∙ sym (block-row j l))
+      keys-differ (keyAt Blocks ws []) used (numbers-differ ws used ∙ e) i j h l (block-row i (omega arith) ∙ q ∙ sym (block-row j l))
 
-  pub votes-apart : votesDiffer (rowsOf makeVote ws used) ≡ true → Differ (keyAt KnownVotes ws used bytes) used
+  pub votes-apart : votesDiffer (rowsOf makeVote ws used) ≡ true → Differ (voteKeys ws used bytes) used
   votes-apart e i j h l q =
-      keys-differ (keyAt Votes ws 0 []) used (votes-differ ws used ∙ e) i j h l (vote-row i (omega arith) ∙ q ∙ sym (vote-row j l))
+      keys-differ (keyAt Votes ws []) used (votes-differ ws used ∙ e) i j h l (vote-row i (omega arith) ∙ q ∙ sym (vote-row j l))
 
 -- a vote is there if it has a row
 pub vote-among : (vs : List Vote) (a : Vote) {link : ℕ} → link ≡ linkToVote vs a → not (eqb link 0) ≡ anyPass (sameVote a) vs

@@ -7,3 +7,4 @@ pub mod Found
 pub mod Joined
 pub mod Slots
 pub mod Firsts
+pub mod Added

@@ -2,10 +2,8 @@
 // Lengths and counts are tested first, so nothing is read outside the slices; then marks, voters and slots, in one pass over each
 // table. Then one pass over the blocks builds an index of their numbers, one looks each parent up and one each vote's block, and one
 // over the votes builds an index of them, by which no vote stands twice.
-// The whole test costs two descents for each block and two for each vote. Most numbers make a descent a step or two. The worst that
-// dishonest nodes can choose make it 27 steps for a block's number and 45 for a vote, so the whole takes less than 750,000 steps on
-// the largest tables, and never more than in proportion to the entries.
-// Stack: 32 KiB for the links of 2,048 blocks and 80 KiB for those of 8,192 votes.
+// The whole test costs two walks for each block and two for each vote. Most numbers make a walk a probe or two, chosen ones three or four.
+// Stack: 16 KiB for the links of 2,048 blocks and 64 KiB for those of 8,192 votes.
 use protocol::Clock;
 use protocol::Number;
 use protocol::Settings;
@@ -22,7 +20,7 @@ ghost use Rattle.protocol.specs.Chain.{genesis, known};
 ghost use Rattle.protocol.specs.Store.{entries, sameBlock};
 ghost use Rattle.protocol.specs.Lent.{BlocksFit, VotesFit, rowsOf, makeBlock, makeVote, lentSound};
 ghost use Rattle.rows.specs.Rows.{markedBlock, markedVote};
-ghost use Rattle.search_tree.specs.Tree.{Blank};
+ghost use Rattle.hash_table.specs.Table.{Blank};
 ghost use Rattle.index.specs.Index.{Room};
 ghost use Rattle.soundness.specs.Parts.{parentSound, chainSound, votedSound, tablesSound, Indexed, TablesIndexed};
 
@@ -52,7 +50,7 @@ fn first_sound(row: BlockRow) -> bool
     false
 }
 
-// Whether the parent of row i stands before it with a lower slot, in view if the row is. The cost is a descent.
+// Whether the parent of row i stands before it with a lower slot, in view if the row is. The cost is a walk.
 fn parent_sound(blocks: &[u64], used: usize, links: &[u16], i: usize, row: BlockRow) -> bool
     requires { ⌜ (i ≤ used) × Indexed (now blocks) used (now links) ⌝ }
     ensures { λ r. ⌜ r ≡ parentSound (rowsOf makeBlock (now (blocks .entry)) i) (markedBlock row) ⌝ }
@@ -74,7 +72,7 @@ fn parent_sound(blocks: &[u64], used: usize, links: &[u16], i: usize, row: Block
     true
 }
 
-// Whether block 0 stands first, in view, and each other block's parent is sound. The cost is a descent for each block.
+// Whether block 0 stands first, in view, and each other block's parent is sound. The cost is a walk for each block.
 fn chain_sound(blocks: &[u64], used: usize, links: &[u16]) -> bool
     requires { ⌜ Indexed (now blocks) used (now links) ⌝ }
     ensures { λ r. ⌜ r ≡ chainSound (rowsOf makeBlock (now (blocks .entry)) used) ⌝ }
@@ -97,7 +95,7 @@ fn chain_sound(blocks: &[u64], used: usize, links: &[u16]) -> bool
     true
 }
 
-// Whether the vote's block is there with no later slot, in view if the vote is. The cost is a descent.
+// Whether the vote's block is there with no later slot, in view if the vote is. The cost is a walk.
 fn voted_sound(blocks: &[u64], used: usize, links: &[u16], row: VoteRow) -> bool
     requires { ⌜ Indexed (now blocks) used (now links) ⌝ }
     ensures { λ r. ⌜ r ≡ votedSound (rowsOf makeBlock (now (blocks .entry)) used) (markedVote row) ⌝ }
@@ -116,7 +114,7 @@ fn voted_sound(blocks: &[u64], used: usize, links: &[u16], row: VoteRow) -> bool
     true
 }
 
-// Whether the block of each vote is sound. The cost is a descent for each vote.
+// Whether the block of each vote is sound. The cost is a walk for each vote.
 fn all_voted_sound(
     blocks: &[u64],
     blocks_used: usize,
@@ -139,7 +137,7 @@ fn all_voted_sound(
 }
 
 // The rules that look at several rows; and the links, all free before, are indices of both tables if these keep them. The cost is two
-// descents for each row.
+// walks for each row.
 fn tables_sound(
     blocks: &[u64],
     blocks_used: usize,
@@ -218,7 +216,7 @@ pub fn sound_indexed(
     )
 }
 
-// Whether lent memory is sound. Nothing is asked of what is lent. Stack: 112 KiB of links.
+// Whether lent memory is sound. Nothing is asked of what is lent. Stack: 80 KiB of links.
 pub fn lent_sound(
     settings: Settings,
     clock: Clock,

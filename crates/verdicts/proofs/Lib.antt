@@ -2,6 +2,7 @@
 pub mod Sequence
 pub mod Passed
 pub mod Room
+pub mod Cells
 pub mod Lent
 pub mod Calls
 pub mod Receive

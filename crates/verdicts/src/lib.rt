@@ -1,11 +1,12 @@
 // The verdict of each call: its tests in document 01's order, for any memory that a caller may lend. Nothing is changed here.
-// The first test, whether the memory is sound, takes two descents in an index for each entry; Receive takes two more for each entry of the packet.
+// The first test, whether the memory is sound, takes two walks in an index for each entry; Receive takes four more for each entry of the packet.
 // The other tests look through one table at most.
 use protocol::Clock;
 use protocol::Number;
 use protocol::Settings;
 use protocol::Width;
 ghost use mathlib.Core.Path.{_≡_};
+ghost use Prim.Native.Nat.{_<_, _≤_};
 ghost use lib.ListN.{replicate};
 ghost use Rattle.protocol.specs.Limits.{loom};
 ghost use Rattle.protocol.specs.Words.{value};
@@ -18,7 +19,7 @@ ghost use Rattle.protocol.specs.Calls.Vote.{voteTests};
 ghost use Rattle.protocol.specs.Calls.Merge.{mergeTests};
 ghost use Rattle.protocol.specs.Calls.Query.{queryTests};
 ghost use Rattle.protocol.specs.Calls.Write.{writeTests};
-ghost use Rattle.search_tree.specs.Tree.{Blank};
+ghost use Rattle.hash_table.specs.Table.{Blank};
 ghost use Rattle.index.specs.Index.{Room};
 ghost use Rattle.soundness.specs.Parts.{TablesIndexed};
 ghost use Rattle.verdicts.specs.declared.Verdict.the-variants.{Pass};
@@ -26,10 +27,8 @@ ghost use Rattle.verdicts.specs.Firsts.{FirstsNoted};
 ghost use Rattle.verdicts.specs.Verdict.{refusalNumberOf, refusalIndexOf, verdictOf};
 ghost use Rattle.verdicts.specs.Lent.{lent, lentVerdict, beatTests, dueTests};
 
-// As many entries of table and packet together as Receive keeps an index of.
-const INDEXED_BLOCKS: usize = 2 * limits::LOOM_BLOCKS;
-
-const INDEXED_VOTES: usize = 2 * limits::LOOM_VOTES;
+// The cells of an index of a packet's blocks, or of its votes: a sixth more than a packet can have. As many are used as the packet needs.
+const PACKET_LINKS: usize = 77824;
 
 // The words of a set with a bit for each row of the largest table and each entry of a packet, whose counts have two bytes.
 pub const BLOCK_FIRSTS: usize = (limits::LOOM_BLOCKS + 65536) / 64;
@@ -273,10 +272,22 @@ fn due_verdict(
 
 // ---- the calls
 
+// How many cells are used for so many entries of a packet.
+fn cells_for(count: usize) -> usize
+    ensures { λ r. ⌜ (0 < r) × (r ≤ 77824) ⌝ }
+{
+    if count <= 2048 {
+        return 8192;
+    }
+    if count <= 8192 {
+        return 32768;
+    }
+    PACKET_LINKS
+}
+
 // Receive. The sets, empty before, hold the first rows of the packet's entries if the verdict is to pass: so the entries need not be looked up
-// again when they are stored. The cost beside soundness is two descents for each block and two for each vote of the packet, if there are at most
-// 4,096 blocks and 16,384 votes in table and packet together; a longer packet, which no honest node sends, costs its entries times all entries.
-// Stack: 192 KiB of links.
+// again when they are stored. The cost beside soundness is four walks for each block and four for each vote of the packet, however many there are.
+// Stack: 232 KiB of links.
 pub fn receive_verdict(
     settings: Settings,
     clock: Clock,
@@ -293,8 +304,8 @@ pub fn receive_verdict(
     ensures { λ r. ⌜ (verdictOf r ≡ lentVerdict settings (λ p x. receiveTests settings p x beat (now (bytes .entry))) (lent (now (blocks .entry)) (now (votes .entry)) «blocks_used» «votes_used» clock))
         × (r ≡ Pass → FirstsNoted (now (blocks .entry)) «blocks_used» (now (votes .entry)) «votes_used» (now (bytes .entry)) (now («block_firsts» .exit)) (now («vote_firsts» .exit))) ⌝ }
 {
-    let mut block_links = [0u16; index::ROOTS + 4 * INDEXED_BLOCKS];
-    let mut vote_links = [0u16; index::ROOTS + 4 * INDEXED_VOTES];
+    let mut block_links = [0u16; index::BLOCK_LINKS];
+    let mut vote_links = [0u16; index::VOTE_LINKS];
     let begun = indexed_verdict(
         settings,
         clock,
@@ -321,14 +332,15 @@ pub fn receive_verdict(
     let header = packets::header_of(bytes);
     let block_count = header.blocks as usize;
     let slot = beat / 3;
-    let blocks_fit = packets::fits(blocks_used, block_count, INDEXED_BLOCKS);
+    let mut packet_links = [0u16; PACKET_LINKS];
+    let block_cells = cells_for(block_count);
     let admitted = admission::admit_blocks(
         slot,
         blocks,
         blocks_used,
         bytes,
-        blocks_fit,
-        &mut block_links,
+        &block_links,
+        &mut packet_links[..block_cells],
         block_firsts,
     );
     if admitted.bad < block_count {
@@ -341,8 +353,8 @@ pub fn receive_verdict(
         blocks,
         blocks_used,
         bytes,
-        blocks_fit,
         &block_links,
+        &packet_links[..block_cells],
         block_firsts,
     );
     if vote < vote_count {
@@ -355,14 +367,15 @@ pub fn receive_verdict(
         return Verdict::Refuse(Refusal::TooFewPlaces);
     }
     let from = own_entries::kept_from(settings, clock.merged);
-    let votes_fit = packets::fits(votes_used, vote_count, INDEXED_VOTES);
+    hash_table::free_all(&mut packet_links[..block_cells]);
+    let vote_cells = cells_for(vote_count);
     let new_votes = admission::new_votes(
         votes,
         votes_used,
         bytes,
         from,
-        votes_fit,
-        &mut vote_links,
+        &vote_links,
+        &mut packet_links[..vote_cells],
         vote_firsts,
     );
     if ranges::places_in(5, votes) - votes_used < new_votes {

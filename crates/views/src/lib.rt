@@ -1,7 +1,7 @@
 // Bringing a proposal's entries into view: its own in one pass over each table, and then all that its blocks stand on in another.
 // Which rows are the packet's own was found when it was tested: they are in a set of rows, or stand behind those that were there before it.
-// A parent is looked up in an index of the blocks, in links that the caller lends; a descent meets at most 65 blocks, whatever numbers are looked
-// up. A mark is in no key, so the index serves until a row is added. No function keeps an array: the largest call takes less than 1 KB of stack.
+// A parent is looked up in an index of the blocks, in links that the caller lends. A mark is in no key, so the index serves until a row is added.
+// No function keeps an array: the largest call takes less than 1 KB of stack.
 use protocol::Number;
 use rows::BlockRow;
 use rows::VoteRow;
@@ -76,7 +76,7 @@ pub fn view_named_votes(votes: &mut [u64], before: usize, used: usize, firsts: &
 
 // ---- what its blocks stand on
 
-// The block with this number comes into view. The cost is a descent.
+// The block with this number comes into view. The cost is a walk.
 fn view_block(blocks: &mut [u64], used: usize, links: &[u16], number: Number)
     requires { ⌜ BlocksFit used (now blocks) × (marksSound makeBlock (now blocks) used ≡ true) × Ordered (rowsOf makeBlock (now blocks) used)
         × BlockIndex (now blocks) used (now links) ⌝ }
@@ -98,7 +98,7 @@ fn view_block(blocks: &mut [u64], used: usize, links: &[u16], number: Number)
 }
 
 // The blocks that a block in view stands on come into view: parents stand before their children, so one pass from the last row
-// to the first is enough. The links are those that `index::build_blocks` wrote; marks may have changed since. The cost is a descent for each
+// to the first is enough. The links are those that `index::build_blocks` wrote; marks may have changed since. The cost is a walk for each
 // row in view.
 pub fn view_ancestors(blocks: &mut [u64], used: usize, links: &[u16])
     requires { ⌜ BlocksFit used (now blocks) × (marksSound makeBlock (now blocks) used ≡ true) × Ordered (rowsOf makeBlock (now blocks) used)

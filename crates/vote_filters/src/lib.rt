@@ -96,7 +96,7 @@ fn latest_next(
 }
 
 // The latest vote of each voter in the window, and the voters with two votes of one slot of the window for different blocks.
-// One pass over the votes, with a descent for each. Stack: 80 KiB for the links.
+// One pass over the votes, with a walk for each. Stack: 64 KiB for the links.
 fn gather(
     votes: &[u64],
     used: usize,
@@ -133,7 +133,7 @@ fn drop_voter(dropped: u64, v: usize, slots: &mut [u64])
 }
 
 // The kept vote of each voter, by its slot and its block's number; slot 0 where there is none.
-// One pass over the votes, with a descent in an index for each. Stack: 80 KiB.
+// One pass over the votes, with a walk in an index for each. Stack: 64 KiB.
 pub fn kept_votes(
     votes: &[u64],
     used: usize,

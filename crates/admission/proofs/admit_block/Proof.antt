@@ -5,12 +5,9 @@ use Prim.Native.Nat.{_<_}
 use mathlib.Core.Path.{refl, ap, sym, _∙_}
 use denote.Ref.{now}
 use Rattle.protocol.specs.Entry.{Block}
-use Rattle.protocol.specs.Chain.{genesis}
-use Rattle.protocol.specs.Lent.{makeBlock}
 use Rattle.protocol.proofs.Packet.Numbers.{bytes-by-index}
 use Rattle.protocol.proofs.Packet.Bytes.{read-fits}
 use Rattle.index.specs.Keys.{numberKey}
-use Rattle.index.proofs.Known.{known-next}
 use Rattle.index.proofs.Firsts.{linked-within, first-most}
 use Rattle.admission.proofs.Links.{block-key, link-told, block-new}
 use Rattle.admission.proofs.FirstBad.{block-told}
@@ -19,13 +16,13 @@ use Rattle.admission.proofs.admit_block.Statement.{statement}
 use Rattle.admission.proofs.admit_block.Tie as tie
 
 abbrev start : tie.After-block-at → tie.Start
-start b = b .before .before .before .before .before
+start b = b .before .before .before .before .before .before
 
 -- a packet has fewer than 65,536 blocks
 below : (b : tie.After-block-at) → start b .args .i < 65536
 below b =
     let bs = now (start b .args .bytes) in
-    let fit = read-fits bs (bytes-by-index bs (λ j _. omega (arith, b .before .before .before .shared-slice-known2 .given j))) in
+    let fit = read-fits bs (bytes-by-index bs (λ j _. omega (arith, b .before .before .before .before .shared-slice-known2 .given j))) in
     omega (arith, start b .pre .2, fit .blockCount)
 
 add-n : tie.Need-add-n
@@ -34,7 +31,7 @@ add-n b = omega (arith, below b, start b .pre .0)
 known-block-requires : tie.Need-known-block-requires
 known-block-requires c κs =
     let s = start (c .before) in
-    ((s .pre .0, omega (arith, s .pre .2)), λ e. s .pre .3 e .1)
+    (s .pre .0, omega (arith, s .pre .2), omega (arith, below (c .before)), s .pre .4)
 
 block-of-requires : tie.Need-block-of-requires
 block-of-requires c κs =
@@ -45,7 +42,7 @@ join-block-requires : tie.Need-join-block-requires
 join-block-requires c κs =
     let b = c .before .before .before .before in
     let s = start b in
-    ((s .pre .0, omega (arith, s .pre .2)), s .pre .3, ap (λ (x : Block). x .number) (b .block-at .ensures ∙ sym (known-next makeBlock _ _ _ (s .args .i) genesis)))
+    (s .pre .0, s .pre .2, s .pre .3, s .pre .4, ap (λ (x : Block). x .number) (b .block-at .ensures))
 
 block-of-requires-2 : tie.Need-block-of-requires-2
 block-of-requires-2 c κs =
@@ -57,7 +54,7 @@ note-first-requires : tie.Need-note-first-requires
 note-first-requires c κs =
     let j = c .before .before .before .before in
     let s = start (j .before .before .before .before .before) in
-    omega (arith, first-most _ (j .join-block .ensures .0), s .pre .4)
+    omega (arith, first-most _ (j .join-block .ensures .0), s .pre .5)
 
 returns : tie.Need-returns
 returns c =
@@ -74,7 +71,7 @@ returns c =
           (link-told _ _ _ i (omega arith) _ (block-key _ _ _ i ∙ ap (λ (x : Block). numberKey (x .number)) (sym (b .block-at .ensures))) (j .join-block .ensures .0) (o .block-of2 .ensures)) (c .block-allowed .ensures),
       block-new _ _ _ i (omega arith) _ (j .join-block .ensures .0),
       j .join-block .ensures .1,
-      blocks-next _ _ _ (s .pre .1) i _ _ _ h (j .join-block .ensures .0) (s .pre .4) (f .note-first .ensures) (s .pre .5),
+      blocks-next _ _ _ (s .pre .1) i _ _ _ h (j .join-block .ensures .0) (s .pre .5) (f .note-first .ensures) (s .pre .6),
     )
 
 pub admit-block-spec : {M : Type 1} → statement M

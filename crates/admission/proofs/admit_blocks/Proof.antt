@@ -1,10 +1,8 @@
 -- `admit_blocks` meets its contract. Assumes nothing.
 use borrow.Author.Needs.{needs}
 use borrow.Author.Tests.{not-true, not-false}
-use native.Mathlib.Nat.{add-zero}
 use native.Mathlib.Omega.{arith}
 use Prim.Native.Nat.{_+_, _-_, _≤_, _<_}
-use mathlib.Core.Bool.{true}
 use mathlib.Core.Path.{_≡_, refl, sym, _∙_}
 use denote.Ref.{now}
 use lib.ListN.{length, take, drop}
@@ -17,8 +15,7 @@ use Rattle.protocol.proofs.Store.Views.{length-entries}
 use Rattle.protocol.proofs.Store.New.{knowsBlock, adding-blocks}
 use Rattle.protocol.proofs.Lent.Rows.{length-rowsOf}
 use Rattle.packets.proofs.Headers.{header-blocks}
-use Rattle.index.specs.declared.Kind.the-variants.{KnownBlocks}
-use Rattle.index.specs.Index.{IndexOf}
+use Rattle.index.specs.Links.{BlocksIndexed}
 use Rattle.admission.specs.Seen.{BlocksSeen}
 use Rattle.admission.proofs.FirstBad.{block-begin, block-good, block-bad, block-end}
 use Rattle.admission.proofs.Counts.{flag-one, count-begin, count-turn, count-end}
@@ -26,37 +23,37 @@ use Rattle.admission.proofs.admit_blocks.Statement.{statement}
 use Rattle.admission.proofs.admit_blocks.Tie as tie
 
 abbrev Inv-loop : tie.InvT-loop
-Inv-loop slot blocks used bytes indexed links₀ firsts₀ count new₀ i₀ links firsts new i =
+Inv-loop slot blocks used bytes table links₀ firsts₀ count new₀ i₀ links firsts new i =
     (count ≡ length (packetOf bytes .blocks))
     × (i ≤ count)
     × (new ≤ i)
     × (length links ≡ length links₀)
     × (length firsts ≡ length firsts₀)
     × (used + new ≡ length (addBlocks (entries (rowsOf makeBlock blocks used)) (take i (packetOf bytes .blocks))))
-    × (indexed ≡ true → IndexOf KnownBlocks blocks used bytes (used + i) links)
+    × BlocksIndexed blocks used bytes i table links
     × BlocksSeen blocks used bytes i firsts
     × (firstBadBlock slot (entries (rowsOf makeBlock blocks used)) (packetOf bytes .blocks)
     ≡ i + firstBadBlock slot (addBlocks (entries (rowsOf makeBlock blocks used)) (take i (packetOf bytes .blocks))) (drop i (packetOf bytes .blocks)))
 
 abbrev μ-loop : tie.MeasureT-loop
-μ-loop slot blocks used bytes indexed links₀ firsts₀ count new₀ i₀ links firsts new i = count - i
+μ-loop slot blocks used bytes table links₀ firsts₀ count new₀ i₀ links firsts new i = count - i
 
 loop-holds : tie.Need-loop-holds Inv-loop μ-loop
 loop-holds c =
-    let s = c .before .before .before .before .before in (
+    let s = c .before .before .before .before .before .before in (
       header-blocks _ (c .header-of .ensures),
       omega arith,
       omega arith,
       refl,
       refl,
       count-begin knowsBlock addBlocks adding-blocks _ (packetOf (now (s .args .bytes)) .blocks) _ (length-entries _ ∙ length-rowsOf makeBlock _ _),
-      λ e. rw (add-zero (s .args .used)) (s .pre .2 e .1),
-      s .pre .4,
+      s .pre .3,
+      s .pre .5,
       block-begin _ _ _,
     )
 
 abbrev start : tie.At-loop Inv-loop μ-loop → tie.Start Inv-loop μ-loop
-start l = l .before .before .before .before .before .before
+start l = l .before .before .before .before .before .before .before
 
 -- in the loop block i is one of the packet's
 there : (t : tie.In-loop Inv-loop μ-loop) → t .before .loop .i < length (packetOf (now (start (t .before) .args .bytes)) .blocks)
@@ -71,8 +68,9 @@ admit-block-requires c κs =
       s .pre .0,
       s .pre .1,
       h,
-      λ e. let r = s .pre .2 e .0 in ((omega (arith, r .0, h), omega (arith, r .1, h, l .loop .inv .3)), l .loop .inv .6 e),
-      omega (arith, s .pre .3, h, l .loop .inv .4),
+      (omega (arith, s .pre .2 .0, h), omega (arith, s .pre .2 .1, l .loop .inv .3), omega (arith, s .pre .2 .2, l .loop .inv .3)),
+      l .loop .inv .6,
+      omega (arith, s .pre .4, h, l .loop .inv .4),
       l .loop .inv .7,
     )
 
@@ -99,15 +97,14 @@ loop-again c =
     let t = a .before .before .before in
     let l = t .before .loop in
     let s = start (t .before) in
-    let f = flag-one (a .admit-block .result .new) in
-    let next : s .args .used + l .i + 1 ≡ s .args .used + (l .i + 1) = omega arith in (
+    let f = flag-one (a .admit-block .result .new) in (
       l .inv .0,
       omega (arith, t .loop-test .taken),
       omega (arith, f, l .inv .2),
       a .admit-block .kept .1 .1 .1 .1 .1 .1 .0 ∙ l .inv .3,
       a .admit-block .kept .1 .1 .1 .1 .1 .1 .1 .0 ∙ l .inv .4,
       count-turn knowsBlock addBlocks adding-blocks _ (packetOf (now (s .args .bytes)) .blocks) _ genesis _ (l .i) (there t) (l .inv .5) (a .admit-block .ensures .1),
-      λ z. rw next at (a .admit-block .ensures .2 z),
+      a .admit-block .ensures .2,
       a .admit-block .ensures .3,
       l .inv .8 ∙ block-good _ _ _ (l .i) (there t) (sym (a .admit-block .ensures .0) ∙ not-false _ (e .if1 .left)),
     )
@@ -121,7 +118,7 @@ returns-2 c =
       sym (l .inv .8 ∙ block-end _ _ _ (l .i) h),
       λ q. (
         count-end knowsBlock addBlocks adding-blocks _ (packetOf (now (s .args .bytes)) .blocks) _ _ (l .i) h (l .inv .5),
-        λ e. rw z at (l .inv .6 e),
+        rw z at (l .inv .6),
         rw z at (l .inv .7),
       ),
     )

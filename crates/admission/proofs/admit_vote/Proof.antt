@@ -26,19 +26,19 @@ use Rattle.admission.proofs.admit_vote.Statement.{statement}
 use Rattle.admission.proofs.admit_vote.Tie as tie
 
 abbrev start : tie.After-vote-at → tie.Start
-start v = v .before .before .before .before .before
+start v = v .before .before .before .before .before .before
 
 -- a packet has fewer than 65,536 blocks
 below : (v : tie.After-vote-at) → start v .args .known < 65536
 below v =
     let bs = now (start v .args .bytes) in
-    let fit = read-fits bs (bytes-by-index bs (λ j _. omega (arith, v .before .before .before .shared-slice-known2 .given j))) in
+    let fit = read-fits bs (bytes-by-index bs (λ j _. omega (arith, v .before .before .before .before .shared-slice-known2 .given j))) in
     omega (arith, start v .pre .2, fit .blockCount)
 
 known-block-requires : tie.Need-known-block-requires
 known-block-requires v κs =
     let s = start v in
-    ((s .pre .0, omega (arith, s .pre .2)), s .pre .4)
+    (s .pre .0, omega (arith, s .pre .2), omega (arith, below v), s .pre .4)
 
 block-of-requires : tie.Need-block-of-requires
 block-of-requires c κs =

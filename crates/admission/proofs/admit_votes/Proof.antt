@@ -12,8 +12,7 @@ use Rattle.protocol.specs.Packet.{packetOf}
 use Rattle.protocol.specs.Lent.{rowsOf, makeBlock}
 use Rattle.protocol.specs.Calls.Receive.{addBlocks, firstBadVote}
 use Rattle.packets.proofs.Headers.{header-blocks, header-votes}
-use Rattle.index.specs.declared.Kind.the-variants.{KnownBlocks}
-use Rattle.index.specs.Index.{IndexOf}
+use Rattle.index.specs.Links.{BlocksIndexed}
 use Rattle.admission.specs.Seen.{VotedSeen}
 use Rattle.admission.proofs.FirstBad.{vote-good, vote-bad, vote-end}
 use Rattle.admission.proofs.Seen.{voted-begin}
@@ -21,35 +20,35 @@ use Rattle.admission.proofs.admit_votes.Statement.{statement}
 use Rattle.admission.proofs.admit_votes.Tie as tie
 
 abbrev Inv-loop : tie.InvT-loop
-Inv-loop nodes slot blocks used bytes indexed links firsts₀ known count i₀ firsts i =
+Inv-loop nodes slot blocks used bytes table links firsts₀ known count i₀ firsts i =
     (known ≡ length (packetOf bytes .blocks))
     × (count ≡ length (packetOf bytes .votes))
     × (i ≤ count)
     × (length firsts ≡ length firsts₀)
-    × (indexed ≡ true → IndexOf KnownBlocks blocks used bytes (used + known) links)
+    × BlocksIndexed blocks used bytes known table links
     × VotedSeen blocks used bytes i firsts
     × (firstBadVote nodes slot (addBlocks (entries (rowsOf makeBlock blocks used)) (packetOf bytes .blocks)) (packetOf bytes .votes)
     ≡ i + firstBadVote nodes slot (addBlocks (entries (rowsOf makeBlock blocks used)) (packetOf bytes .blocks)) (drop i (packetOf bytes .votes)))
 
 abbrev μ-loop : tie.MeasureT-loop
-μ-loop nodes slot blocks used bytes indexed links firsts₀ known count i₀ firsts i = count - i
+μ-loop nodes slot blocks used bytes table links firsts₀ known count i₀ firsts i = count - i
 
 loop-holds : tie.Need-loop-holds Inv-loop μ-loop
 loop-holds c =
-    let s = c .before .before .before .before .before in
+    let s = c .before .before .before .before .before .before in
     let h = c .header-of .ensures in
     let e = header-blocks _ h in (
       e,
       header-votes _ h,
       omega arith,
       refl,
-      λ z. rw (← e) at (s .pre .2 z),
+      rw (← e) at (s .pre .2),
       voted-begin _ _ _ _ (s .pre .4),
       omega arith,
     )
 
 abbrev start : tie.At-loop Inv-loop μ-loop → tie.Start Inv-loop μ-loop
-start l = l .before .before .before .before .before .before
+start l = l .before .before .before .before .before .before .before
 
 -- in the loop vote i is one of the packet's
 there : (t : tie.In-loop Inv-loop μ-loop) → t .before .loop .i < length (packetOf (now (start (t .before) .args .bytes)) .votes)

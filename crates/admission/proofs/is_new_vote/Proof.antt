@@ -9,12 +9,9 @@ use denote.Ref.{now}
 use lib.Dec.{eqb, leb}
 use Rattle.protocol.specs.Entry.{Vote}
 use Rattle.protocol.specs.Store.{since}
-use Rattle.protocol.specs.Lent.{makeVote}
 use Rattle.protocol.proofs.Packet.Numbers.{bytes-by-index}
 use Rattle.protocol.proofs.Packet.Bytes.{read-fits}
-use Rattle.packets.specs.Header.{noVote}
 use Rattle.index.specs.Firsts.{voteNew}
-use Rattle.index.proofs.Known.{known-next}
 use Rattle.index.proofs.Firsts.{first-most}
 use Rattle.admission.specs.Seen.{VotesSeen}
 use Rattle.admission.proofs.Links.{vote-new}
@@ -23,25 +20,25 @@ use Rattle.admission.proofs.is_new_vote.Statement.{statement}
 use Rattle.admission.proofs.is_new_vote.Tie as tie
 
 abbrev start : tie.After-vote-at → tie.Start
-start v = v .before .before .before .before .before
+start v = v .before .before .before .before .before .before
 
 -- a packet has fewer than 65,536 votes
 below : (v : tie.After-vote-at) → start v .args .i < 65536
 below v =
     let bs = now (start v .args .bytes) in
-    let fit = read-fits bs (bytes-by-index bs (λ j _. omega (arith, v .before .before .before .shared-slice-known2 .given j))) in
+    let fit = read-fits bs (bytes-by-index bs (λ j _. omega (arith, v .before .before .before .before .shared-slice-known2 .given j))) in
     omega (arith, start v .pre .2, fit .voteCount)
 
 join-vote-requires : tie.Need-join-vote-requires
 join-vote-requires c κs =
     let v = c .before in
     let s = start v in
-    ((s .pre .0, omega (arith, s .pre .2)), s .pre .3, v .vote-at .ensures ∙ sym (known-next makeVote _ _ _ (s .args .i) noVote))
+    (s .pre .0, s .pre .2, s .pre .3, s .pre .4, v .vote-at .ensures)
 
 note-first-requires : tie.Need-note-first-requires
 note-first-requires c κs =
     let j = c .before .before .before in
-    omega (arith, first-most _ (j .join-vote .ensures .0), start (j .before .before) .pre .4)
+    omega (arith, first-most _ (j .join-vote .ensures .0), start (j .before .before) .pre .5)
 
 -- whether vote i is new, by the link that was found
 told : (j : tie.After-join-vote) → let a = start (j .before .before) .args in eqb (j .join-vote .result) 0 ≡ voteNew (now (a .votes)) (a .used) (now (a .bytes)) (a .i)
@@ -56,7 +53,7 @@ noted : (f : tie.After-note-first) → let a = start (joined f .before .before) 
 noted f =
     let j = joined f in
     let s = start (j .before .before) in
-    votes-next _ _ _ (s .pre .1) (s .args .i) _ _ _ (s .pre .2) (j .join-vote .ensures .0) (s .pre .4) (f .note-first .ensures) (s .pre .5)
+    votes-next _ _ _ (s .pre .1) (s .args .i) _ _ _ (s .pre .2) (j .join-vote .ensures .0) (s .pre .5) (f .note-first .ensures) (s .pre .6)
 
 returns : tie.Need-returns
 returns c =

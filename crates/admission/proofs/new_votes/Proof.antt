@@ -1,9 +1,7 @@
 -- `new_votes` meets its contract. Assumes nothing.
 use borrow.Author.Needs.{needs}
-use native.Mathlib.Nat.{add-zero}
 use native.Mathlib.Omega.{arith}
 use Prim.Native.Nat.{_+_, _-_, _≤_, _<_}
-use mathlib.Core.Bool.{true}
 use mathlib.Core.Path.{_≡_, refl, _∙_}
 use denote.Ref.{now}
 use lib.ListN.{length, getD, take}
@@ -16,42 +14,41 @@ use Rattle.protocol.proofs.Lent.Rows.{length-rowsOf}
 use Rattle.protocol.proofs.Store.Since.{adding-since}
 use Rattle.packets.specs.Header.{noVote}
 use Rattle.packets.proofs.Headers.{header-votes}
-use Rattle.index.specs.declared.Kind.the-variants.{KnownVotes}
-use Rattle.index.specs.Index.{IndexOf}
+use Rattle.index.specs.Links.{VotesIndexed}
 use Rattle.admission.specs.Seen.{VotesSeen}
 use Rattle.admission.proofs.Counts.{flag-one, since-new, count-begin, count-turn, count-end}
 use Rattle.admission.proofs.new_votes.Statement.{statement}
 use Rattle.admission.proofs.new_votes.Tie as tie
 
 abbrev Inv-loop : tie.InvT-loop
-Inv-loop votes used bytes from indexed links₀ firsts₀ count new₀ i₀ links firsts new i =
+Inv-loop votes used bytes from table links₀ firsts₀ count new₀ i₀ links firsts new i =
     (count ≡ length (packetOf bytes .votes))
     × (i ≤ count)
     × (new ≤ i)
     × (length links ≡ length links₀)
     × (length firsts ≡ length firsts₀)
     × (used + new ≡ length (addSince from (entries (rowsOf makeVote votes used)) (take i (packetOf bytes .votes))))
-    × (indexed ≡ true → IndexOf KnownVotes votes used bytes (used + i) links)
+    × VotesIndexed votes used bytes i table links
     × VotesSeen votes used bytes i firsts
 
 abbrev μ-loop : tie.MeasureT-loop
-μ-loop votes used bytes from indexed links₀ firsts₀ count new₀ i₀ links firsts new i = count - i
+μ-loop votes used bytes from table links₀ firsts₀ count new₀ i₀ links firsts new i = count - i
 
 loop-holds : tie.Need-loop-holds Inv-loop μ-loop
 loop-holds c =
-    let s = c .before .before .before .before .before in (
+    let s = c .before .before .before .before .before .before in (
       header-votes _ (c .header-of .ensures),
       omega arith,
       omega arith,
       refl,
       refl,
       count-begin _ _ (adding-since (s .args .from)) _ (packetOf (now (s .args .bytes)) .votes) _ (length-entries _ ∙ length-rowsOf makeVote _ _),
-      λ e. rw (add-zero (s .args .used)) (s .pre .2 e .1),
-      s .pre .4,
+      s .pre .3,
+      s .pre .5,
     )
 
 abbrev start : tie.At-loop Inv-loop μ-loop → tie.Start Inv-loop μ-loop
-start l = l .before .before .before .before .before .before
+start l = l .before .before .before .before .before .before .before
 
 -- in the loop vote i is one of the packet's
 there : (t : tie.In-loop Inv-loop μ-loop) → t .before .loop .i < length (packetOf (now (start (t .before) .args .bytes)) .votes)
@@ -66,8 +63,9 @@ is-new-vote-requires c κs =
       s .pre .0,
       s .pre .1,
       h,
-      λ e. let r = s .pre .2 e .0 in ((omega (arith, r .0, h), omega (arith, r .1, h, l .loop .inv .3)), l .loop .inv .6 e),
-      omega (arith, s .pre .3, h, l .loop .inv .4),
+      (omega (arith, s .pre .2 .0, h), omega (arith, s .pre .2 .1, l .loop .inv .3), omega (arith, s .pre .2 .2, l .loop .inv .3)),
+      l .loop .inv .6,
+      omega (arith, s .pre .4, h, l .loop .inv .4),
       l .loop .inv .7,
     )
 
@@ -84,8 +82,7 @@ loop-again c =
     let t = j .before .before .before in
     let l = t .before .loop in
     let s = start (t .before) in
-    let f = flag-one (j .is-new-vote .result) in
-    let next : s .args .used + l .i + 1 ≡ s .args .used + (l .i + 1) = omega arith in (
+    let f = flag-one (j .is-new-vote .result) in (
       l .inv .0,
       omega (arith, t .loop-test .taken),
       omega (arith, f, l .inv .2),
@@ -93,7 +90,7 @@ loop-again c =
       j .is-new-vote .kept .1 .1 .1 .1 .1 .1 .1 .0 ∙ l .inv .4,
       count-turn _ _ (adding-since (s .args .from)) _ (packetOf (now (s .args .bytes)) .votes) _ noVote _ (l .i) (there t) (l .inv .5)
           (j .is-new-vote .ensures .0 ∙ since-new (s .args .from) _ (take (l .i) (packetOf (now (s .args .bytes)) .votes)) (getD (packetOf (now (s .args .bytes)) .votes) (l .i) noVote)),
-      λ z. rw next at (j .is-new-vote .ensures .1 z),
+      j .is-new-vote .ensures .1,
       j .is-new-vote .ensures .2,
     )
 

@@ -7,8 +7,8 @@ use Rattle.index.proofs.in_table.Statement.{statement}
 use Rattle.index.proofs.in_table.Tie as tie
 
 -- where the kind is told
-told : (s : tie.Start) {k : Kind} → s .args .kind ≡ k → inTable k (s .args .used) (s .args .j) ≡ inTable (s .args .kind) (s .args .used) (s .args .j)
-told s e = ap (λ (x : Kind). inTable x (s .args .used) (s .args .j)) (sym e)
+told : (s : tie.Start) {k : Kind} → s .args .kind ≡ k → inTable k ≡ inTable (s .args .kind)
+told s e = ap inTable (sym e)
 
 pub in-table-spec : {M : Type 1} → statement M
 in-table-spec {M} =

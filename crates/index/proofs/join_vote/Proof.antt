@@ -1,12 +1,69 @@
 -- `join_vote` meets its contract. Assumes nothing.
-use mathlib.Core.Path.{ap, _∙_}
 use borrow.Author.Needs.{needs}
+use native.Mathlib.Omega.{arith}
+use Prim.Native.Nat.{_+_, _-_}
+use mathlib.Core.Path.{_≡_, ap, sym, _∙_}
+use denote.Ref.{now}
+use Rattle.hash_table.proofs.Table.{index-for, index-unwanted}
+use Rattle.index.specs.declared.Kind.the-variants.{PacketVotes}
 use Rattle.index.specs.Keys.{voteKey}
+use Rattle.index.specs.Index.{keyAt}
+use Rattle.index.specs.Links.{voteKeys}
+use Rattle.index.proofs.Added.{added-index, added-points}
+use Rattle.index.proofs.Firsts.{linked-within}
+use Rattle.index.proofs.Joined.{vote-past, vote-early, vote-late}
 use Rattle.index.proofs.join_vote.Statement.{statement}
 use Rattle.index.proofs.join_vote.Tie as tie
 
-join-requires : tie.Need-join-requires
-join-requires c κs = let k = c .before in let s = k .before .before .before .before in (s .pre .0, s .pre .1, k .vote-key .ensures ∙ ap voteKey (s .pre .2))
+abbrev start : tie.After-find → tie.Start
+start f = f .before .before .before .before .before .before .before
+
+-- the key looked for is that of entry i
+own : (f : tie.After-find) → let a = start f .args in f .before .before .vote-key .result ≡ keyAt PacketVotes (now (a .votes)) (now (a .bytes)) (a .i)
+own f = f .before .before .vote-key .ensures ∙ ap voteKey (start f .pre .4)
+
+-- and that at its row
+row : (f : tie.After-find) → let a = start f .args in f .before .before .vote-key .result ≡ voteKeys (now (a .votes)) (a .used) (now (a .bytes)) (a .used + a .i)
+row f = let a = start f .args in own f ∙ vote-past (now (a .votes)) (a .used) (now (a .bytes)) (a .i)
+
+find-requires : tie.Need-find-requires
+find-requires c κs = let s = c .before .before .before .before .before .before in (s .pre .0, index-for (s .pre .3 .table) _ tt)
+
+returns : tie.Need-returns
+returns c =
+    let f = c .before in
+    let s = start f in
+    let a = s .args in
+    let g = f .find .ensures .hit (f .find .result - 1) (omega (arith, c .if1 .taken)) in (
+      vote-early (now (a .votes)) (a .used) (now (a .bytes)) (a .i) (row f) (f .find .ensures) (c .if1 .taken),
+      record { table = s .pre .3 .table; packet = index-unwanted (s .pre .3 .packet) (λ w. w _ (g .isRow) (g .has ∙ own f)) },
+    )
+
+add-key-requires : tie.Need-add-key-requires
+add-key-requires c κs =
+    let i = c .before in
+    let f = i .before in
+    let s = start f in
+    (omega (arith, s .pre .1), s .pre .2, index-for (s .pre .3 .packet) _ (f .find .ensures .none (i .if1 .left)), own f)
+
+behind-requires : tie.Need-behind-requires
+behind-requires c κs =
+    let d = c .before .before in
+    let s = start (d .before .before .before) in
+    omega (arith, linked-within _ (added-points (d .add-key .ensures)), s .pre .0, s .pre .2 .0)
+
+returns-2 : tie.Need-returns-2
+returns-2 c =
+    let d = c .before .before .before in
+    let i = d .before .before in
+    let f = i .before in
+    let s = start f in
+    let a = s .args in (
+      vote-late (now (a .votes)) (a .used) (now (a .bytes)) (a .i) (row f) (own f) (f .find .ensures) (i .if1 .left) (added-points (d .add-key .ensures)) (c .behind .ensures),
+      record { table = s .pre .3 .table; packet = added-index (d .add-key .ensures) (s .pre .3 .packet) },
+    )
 
 pub join-vote-spec : {M : Type 1} → statement M
-join-vote-spec = tie.close (tie.spec (λ c κs. search needs) join-requires (λ c. search needs) (λ c. c .before .before .join .ensures))
+join-vote-spec {M} =
+    let s = tie.spec {M = M} (λ c κs. search needs) (λ c. search needs) find-requires returns add-key-requires behind-requires (λ c. search needs) in
+    tie.close (s returns-2)

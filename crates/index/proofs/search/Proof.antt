@@ -6,7 +6,7 @@ use Prim.Native.Nat.{ℕ, _+_, _-_, _≤_, _<_}
 use mathlib.Core.Path.{_≡_, ap, sym, _∙_}
 use denote.Ref.{now}
 use Rattle.protocol.proofs.Basics.Tests.{clashing}
-use Rattle.search_tree.specs.Tree.{First, Points}
+use Rattle.hash_table.specs.Table.{First, Points}
 use Rattle.index.specs.declared.Key.{Key}
 use Rattle.index.specs.Keys.{sameKey}
 use Rattle.index.specs.Index.{keyAt}
@@ -36,10 +36,10 @@ met key n j k h u e =
     first = record { isRow = h; has = e; fresh = u }
 
 abbrev Inv-loop : tie.InvT-loop
-Inv-loop kind words used bytes n key j₀ j = (j ≤ n) × Unmet (keyAt kind words used bytes) j key
+Inv-loop kind words bytes n key j₀ j = (j ≤ n) × Unmet (keyAt kind words bytes) j key
 
 abbrev μ-loop : tie.MeasureT-loop
-μ-loop kind words used bytes n key j₀ j = n - j
+μ-loop kind words bytes n key j₀ j = n - j
 
 abbrev start : tie.At-loop Inv-loop μ-loop → tie.Start Inv-loop μ-loop
 start l = l .before .before .before
@@ -47,11 +47,11 @@ start l = l .before .before .before
 key-at-requires : tie.Need-key-at-requires Inv-loop μ-loop
 key-at-requires c κs =
     let a = start (c .before) .args in
-    readable-less (a .kind) (now (a .words)) (a .used) (now (a .bytes)) (a .n) _ (omega arith) (start (c .before) .pre)
+    readable-less (a .kind) (now (a .words)) (now (a .bytes)) (a .n) _ (omega arith) (start (c .before) .pre)
 
 -- what the call of `same_key` tells of the key met
 told : (c : tie.After-same-key Inv-loop μ-loop) → let l = c .before .before .before in let a = start l .args in
-    c .same-key .result ≡ sameKey (keyAt (a .kind) (now (a .words)) (a .used) (now (a .bytes)) (l .loop .j)) (a .key)
+    c .same-key .result ≡ sameKey (keyAt (a .kind) (now (a .words)) (now (a .bytes)) (l .loop .j)) (a .key)
 told c = c .same-key .ensures ∙ ap (λ k. sameKey k (start (c .before .before .before) .args .key)) (c .before .key-at .ensures)
 
 returns : tie.Need-returns Inv-loop μ-loop

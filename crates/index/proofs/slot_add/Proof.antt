@@ -5,7 +5,7 @@ use Prim.Native.Nat.{ℕ, _+_}
 use mathlib.Core.Bool.{Bool}
 use mathlib.Core.List.{List}
 use mathlib.Core.Path.{_≡_}
-use Rattle.search_tree.specs.Tree.{Points}
+use Rattle.hash_table.specs.Table.{Points}
 use Rattle.index.specs.Links.{SlotIndex, slotKey}
 use Rattle.index.proofs.slot_add.Statement.{statement}
 use Rattle.index.proofs.slot_add.Tie as tie
@@ -20,26 +20,26 @@ answer e ws n link ls x = rw e x
 
 add-requires : tie.Need-add-requires
 add-requires c κs =
-    let i = c .before .before in
+    let i = c .before in
     let s = i .before .before .before in
     (omega (arith, s .pre .0), s .pre .1, told (i .if1 .taken) _ _ _ (s .pre .2))
 
 returns : tie.Need-returns
 returns c =
     let a = c .before .before in
-    answer (a .before .before .before .if1 .taken) _ _ _ _ (a .add .ensures)
+    answer (a .before .before .if1 .taken) _ _ _ _ (a .add .ensures)
 
 add-requires-2 : tie.Need-add-requires-2
 add-requires-2 c κs =
-    let i = c .before .before in
+    let i = c .before in
     let s = i .before .before .before in
     (omega (arith, s .pre .0), s .pre .1, told (i .if1 .left) _ _ _ (s .pre .2))
 
 returns-2 : tie.Need-returns-2
 returns-2 c =
     let a = c .before .before in
-    answer (a .before .before .before .if1 .left) _ _ _ _ (a .add2 .ensures)
+    answer (a .before .before .if1 .left) _ _ _ _ (a .add2 .ensures)
 
 pub slot-add-spec : {M : Type 1} → statement M
 slot-add-spec =
-    tie.close (tie.spec (λ c. search needs) add-requires (λ c. search needs) returns (λ c. search needs) add-requires-2 (λ c. search needs) returns-2)
+    tie.close (tie.spec add-requires (λ c. search needs) returns add-requires-2 (λ c. search needs) returns-2)

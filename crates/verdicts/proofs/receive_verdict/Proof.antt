@@ -2,10 +2,11 @@
 use borrow.Author.Needs.{needs}
 use borrow.Author.Tests.{not-true, not-false, leb-true}
 use native.Mathlib.Omega.{arith}
-use Prim.Native.Nat.{ℕ, _+_, _≤_}
+use Prim.Native.Nat.{ℕ, _+_, _≤_, _<_}
 use mathlib.Core.Path.{_≡_, ap, sym, _∙_, subst⁻¹}
 use denote.Ref.{now}
-use lib.ListN.{length, length-replicate}
+use mathlib.Core.List.{List, _++_}
+use lib.ListN.{length, length-replicate, replicate, take, drop}
 use Rattle.protocol.specs.Store.{entries}
 use Rattle.protocol.specs.Packet.{packetOf}
 use Rattle.protocol.specs.Lent.{rowsOf, makeBlock}
@@ -13,12 +14,16 @@ use Rattle.protocol.specs.Calls.Receive.{addBlocks}
 use Rattle.protocol.proofs.Packet.Numbers.{bytes-by-index}
 use Rattle.protocol.proofs.Packet.Bytes.{read-fits}
 use Rattle.packets.proofs.Headers.{header-blocks, header-votes}
-use Rattle.search_tree.proofs.Tree.{blank-new}
-use Rattle.index.proofs.Joined.{blocks-known, votes-known}
+use Rattle.hash_table.specs.Table.{Blank}
+use Rattle.hash_table.proofs.Table.{blank-new}
+use Rattle.index.specs.Index.{Room}
+use Rattle.index.specs.Links.{BlocksIndexed}
+use Rattle.index.proofs.Joined as joined
 use Rattle.admission.proofs.Seen.{blocks-begin, votes-begin, blocks-new, blocks-named, votes-new, votes-named}
 use Rattle.soundness.specs.Parts.{TablesIndexed}
 use Rattle.admission.specs.Seen.{BlocksSeen, VotesSeen}
 use Rattle.verdicts.specs.Lent.{lent}
+use Rattle.verdicts.proofs.Cells.{part-blank, part-room, part-length, part-fits, part-back, back-length, back-fits, freed}
 use Rattle.verdicts.proofs.Passed.{Ready}
 use Rattle.verdicts.proofs.Sequence.{not-passed, refused-before, sound-before, receive-front}
 use Rattle.verdicts.proofs.Receive.{Left, too-long, misformed, block-refused, vote-refused, entries-passed, header-refused, blocks-full, votes-full, room}
@@ -27,9 +32,9 @@ use Rattle.verdicts.proofs.receive_verdict.Tie as tie
 
 indexed-verdict-requires : tie.Need-indexed-verdict-requires
 indexed-verdict-requires c κs =
-    let b = length-replicate {A = ℕ} 24576 0 in
-    let v = length-replicate {A = ℕ} 73728 0 in
-    ((omega arith, omega arith), blank-new 24576, (omega arith, omega arith), blank-new 73728)
+    let b = length-replicate {A = ℕ} 8192 0 in
+    let v = length-replicate {A = ℕ} 32768 0 in
+    ((omega arith, omega arith, omega arith), blank-new 8192, (omega arith, omega arith, omega arith), blank-new 32768)
 
 returns : tie.Need-returns
 returns c =
@@ -61,13 +66,13 @@ counts t =
 
 -- the lengths of what is lent
 lengths : (t : tie.After-enum-told2) → let s = start t in let x = begun t .indexed-verdict in
-    (length (x .last .1 .1 .1 .1 .1 .1 .1 .0) ≡ 24576) × (length (x .last .1 .1 .1 .1 .1 .1 .1 .1 .0) ≡ 73728)
+    (length (x .last .1 .1 .1 .1 .1 .1 .1 .0) ≡ 8192) × (length (x .last .1 .1 .1 .1 .1 .1 .1 .1 .0) ≡ 32768)
     × (length (now (s .args .block-firsts)) ≡ 1056) × (length (now (s .args .vote-firsts)) ≡ 1152)
 lengths t =
     let s = start t in
     let x = begun t .indexed-verdict in (
-      x .kept .1 .1 .1 .1 .1 .1 .1 .0 ∙ length-replicate {A = ℕ} 24576 0,
-      x .kept .1 .1 .1 .1 .1 .1 .1 .1 .0 ∙ length-replicate {A = ℕ} 73728 0,
+      x .kept .1 .1 .1 .1 .1 .1 .1 .0 ∙ length-replicate {A = ℕ} 8192 0,
+      x .kept .1 .1 .1 .1 .1 .1 .1 .1 .0 ∙ length-replicate {A = ℕ} 32768 0,
       ap length (s .pre .0) ∙ length-replicate {A = ℕ} 1056 0,
       ap length (s .pre .1) ∙ length-replicate {A = ℕ} 1152 0,
     )
@@ -94,28 +99,29 @@ returns-3 c =
 
 -- ---- blocks
 
-abbrev formed : tie.After-fits2 → tie.Else2
+abbrev formed : tie.After-cells-for → tie.Else2
 formed i = i .before .before
 
-abbrev read : tie.After-fits2 → tie.Else1
+abbrev read : tie.After-cells-for → tie.Else1
 read i = formed i .before
 
-abbrev passed : tie.After-fits2 → tie.After-enum-told2
+abbrev passed : tie.After-cells-for → tie.After-enum-told2
 passed i = short (read i)
+
+-- as many cells are used
+cells : (i : tie.After-cells-for) → (0 < i .cells-for .result) × (i .cells-for .result ≤ 77824)
+cells i = i .cells-for .ensures
 
 admit-blocks-requires : tie.Need-admit-blocks-requires
 admit-blocks-requires c κs =
-    let i = c .before .before in
+    let i = c .before .before .before in
     let t = passed i in
     let T = tables t in
-    let e = header-blocks _ (i .before .header-of .ensures) in
     let l = lengths t in (
       T .blocks .fit,
       T .blocks .unrepeated,
-      λ z. (
-          let f : start t .args .blocks-used + i .before .header-of .result .blocks ≤ 4096 = leb-true _ _ (sym (i .fits2 .ensures) ∙ z) in
-          ((omega (arith, f, e), omega (arith, f, e, l .0)), blocks-known _ _ _ (T .blocks .index))
-          ),
+      part-room 77824 _ (cells i .1) (counts t .0) (cells i .0) (omega (arith, cells i .1)),
+      joined.blocks-begin _ _ _ (T .blocks .index) (part-blank 77824 _ (cells i .1)) (part-room 77824 _ (cells i .1) {count = 0} (omega arith) (cells i .0) (omega (arith, cells i .1))),
       omega (arith, ready t .few-blocks, counts t .0, l .2),
       subst⁻¹ (BlocksSeen _ _ _ 0) (start t .pre .0) (blocks-begin _ _ _ 1056),
     )
@@ -123,8 +129,8 @@ admit-blocks-requires c κs =
 abbrev admitted : tie.Else3 → tie.After-admit-blocks
 admitted d = d .before .before .before .before .before
 
-abbrev fitted : tie.After-admit-blocks → tie.After-fits2
-fitted a = a .before .before .before
+abbrev fitted : tie.After-admit-blocks → tie.After-cells-for
+fitted a = a .before .before .before .before
 
 -- all blocks are allowed
 good : (d : tie.Else3) → let i = fitted (admitted d) in length (packetOf (now (start (passed i) .args .bytes)) .blocks) ≤ admitted d .admit-blocks .result .bad
@@ -144,20 +150,37 @@ returns-4 c =
 
 -- ---- votes
 
+-- as many links came back
+written : (a : tie.After-admit-blocks) → length (a .admit-blocks .last .1 .1 .1 .1 .1 .0) ≡ fitted a .cells-for .result
+written a = a .admit-blocks .kept .1 .1 .1 .1 .1 .0 ∙ part-length 77824 _ (cells (fitted a) .1)
+
+-- and the cells are those that were lent
+abbrev back : tie.After-admit-blocks → List ℕ
+back a = a .admit-blocks .last .1 .1 .1 .1 .1 .0
+
+abbrev behind : tie.After-admit-blocks → List ℕ
+behind a = drop (fitted a .cells-for .result) (replicate {A = ℕ} 77824 0)
+
+filled : (a : tie.After-admit-blocks) → fitted a .cells-for .result ≤ length (back a ++ behind a)
+filled a = back-fits 77824 _ (cells (fitted a) .1) (back a) (behind a) (written a)
+
+size : (a : tie.After-admit-blocks) → length (take (fitted a .cells-for .result) (back a ++ behind a)) ≡ fitted a .cells-for .result
+size a = back-length 77824 _ (cells (fitted a) .1) (back a) (behind a) (written a)
+
 admit-votes-requires : tie.Need-admit-votes-requires
 admit-votes-requires c κs =
-    let d = c .before .before in
+    let d = c .before .before .before in
     let a = admitted d in
     let t = passed (fitted a) in
     let T = tables t in
     let x = a .admit-blocks .ensures .1 (good d) in
-    (T .blocks .fit, T .blocks .unrepeated, x .1, omega (arith, ready t .few-blocks, counts t .0, lengths t .2, a .admit-blocks .kept .1 .1 .1 .1 .1 .1 .0), x .2)
+    (T .blocks .fit, T .blocks .unrepeated, subst⁻¹ (BlocksIndexed _ _ _ _ _) (part-back 77824 _ (cells (fitted a) .1) _ _ (written a)) (x .1), omega (arith, ready t .few-blocks, counts t .0, lengths t .2, a .admit-blocks .kept .1 .1 .1 .1 .1 .1 .0), x .2)
 
 abbrev asked : tie.Else4 → tie.After-admit-votes
 asked w = w .before .before .before
 
 abbrev before-votes : tie.After-admit-votes → tie.Else3
-before-votes v = v .before .before .before
+before-votes v = v .before .before .before .before
 
 returns-5 : tie.Need-returns-5
 returns-5 c =
@@ -214,26 +237,48 @@ returns-7 c =
     (blocks-full _ _ _ _ (ready (told a)) (a .header-allowed .result) (left a) (not-false _ (g .if5 .left)) (p .places-in .ensures) (new-blocks a) (c .if6 .taken), λ e. absurd (not-passed e))
 
 -- where there is room for the blocks
-abbrev roomy : tie.After-fits3 → tie.Else6
-roomy k = k .before .before
+abbrev roomy : tie.After-cells-for2 → tie.Else6
+roomy k = k .before .before .before .before .before
 
-abbrev allowed : tie.After-fits3 → tie.After-header-allowed
+abbrev allowed : tie.After-cells-for2 → tie.After-header-allowed
 allowed k = roomy k .before .before .before .before
+
+-- all cells are free again
+all-free : (k : tie.After-cells-for2) → let f = k .before .before in let a = admitted (before-votes (asked (allowed k .before))) in let m = fitted a .cells-for .result in
+    f .free-all .last .0 ++ drop m (a .admit-blocks .last .1 .1 .1 .1 .1 .0 ++ drop m (replicate {A = ℕ} 77824 0)) ≡ replicate 77824 0
+all-free k =
+    let f = k .before .before in
+    let a = admitted (before-votes (asked (allowed k .before))) in
+    let l = part-back 77824 _ (cells (fitted a) .1) (a .admit-blocks .last .1 .1 .1 .1 .1 .0) _ (written a) in
+    freed 77824 _ (cells (fitted a) .1) (a .admit-blocks .last .1 .1 .1 .1 .1 .0) (f .free-all .last .0) (written a) (f .free-all .kept .0 ∙ ap length l ∙ written a) (f .free-all .ensures)
+
+abbrev again : tie.After-cells-for2 → List ℕ
+again k = let a = admitted (before-votes (asked (allowed k .before))) in k .before .before .free-all .last .0 ++ drop (fitted a .cells-for .result) (back a ++ behind a)
+
+free-fits : (k : tie.After-cells-for2) → k .cells-for2 .result ≤ length (again k)
+free-fits k = subst⁻¹ (λ (l : List ℕ). k .cells-for2 .result ≤ length l) (all-free k) (part-fits 77824 _ (k .cells-for2 .ensures .1))
+
+free-length : (k : tie.After-cells-for2) → length (take (k .cells-for2 .result) (again k)) ≡ k .cells-for2 .result
+free-length k = subst⁻¹ (λ (l : List ℕ). length (take (k .cells-for2 .result) l) ≡ k .cells-for2 .result) (all-free k) (part-length 77824 _ (k .cells-for2 .ensures .1))
+
+free-blank : (k : tie.After-cells-for2) → Blank (take (k .cells-for2 .result) (again k))
+free-blank k = subst⁻¹ (λ (l : List ℕ). Blank (take (k .cells-for2 .result) l)) (all-free k) (part-blank 77824 _ (k .cells-for2 .ensures .1))
+
+free-room : (k : tie.After-cells-for2) {count : ℕ} → count ≤ 65535 → Room count (take (k .cells-for2 .result) (again k))
+free-room k {count} h =
+    subst⁻¹ (λ (l : List ℕ). Room count (take (k .cells-for2 .result) l)) (all-free k)
+    (part-room 77824 _ (k .cells-for2 .ensures .1) h (k .cells-for2 .ensures .0) (omega (arith, k .cells-for2 .ensures .1)))
 
 new-votes-requires : tie.Need-new-votes-requires
 new-votes-requires c κs =
-    let k = c .before .before in
+    let k = c .before .before .before in
     let t = told (allowed k) in
     let T = tables t in
-    let l = lengths t in
-    let h = fitted (admitted (before-votes (asked (allowed k .before)))) .before in
-    let e = header-votes _ (h .header-of .ensures) in (
+    let l = lengths t in (
       ready t .memory .vote-words,
       T .unrepeated,
-      λ z. (
-          let f : start t .args .votes-used + h .header-of .result .votes ≤ 16384 = leb-true _ _ (sym (k .fits3 .ensures) ∙ z) in
-          ((omega (arith, f, e), omega (arith, f, e, l .1)), votes-known _ _ _ (T .votes))
-          ),
+      free-room k (counts t .1),
+      joined.votes-begin _ _ _ (T .votes) (free-blank k) (free-room k (omega arith)),
       omega (arith, ready t .few-votes, counts t .1, l .3),
       subst⁻¹ (VotesSeen _ _ _ 0) (start t .pre .1) (votes-begin _ _ _ 1152),
     )
@@ -241,8 +286,8 @@ new-votes-requires c κs =
 abbrev counted : tie.After-places-in2 → tie.After-new-votes
 counted q = q .before .before .before .before
 
-abbrev noted : tie.After-places-in2 → tie.After-fits3
-noted q = counted q .before .before .before
+abbrev noted : tie.After-places-in2 → tie.After-cells-for2
+noted q = counted q .before .before .before .before
 
 sub-if7 : tie.Need-sub-if7
 sub-if7 q = omega (arith, ready (told (allowed (noted q))) .fit-votes, q .places-in2 .ensures)
@@ -255,7 +300,7 @@ returns-8 c =
     let p = o .before .before in
     let a = allowed k in (
       votes-full _ _ _ _ (ready (told a)) (a .header-allowed .result) (left a) (not-false _ (p .before .if5 .left)) (p .places-in .ensures) (new-blocks a) (o .if6 .left)
-          (q .places-in2 .ensures) (k .before .kept-from .ensures) (counted q .new-votes .ensures .0) (c .if7 .taken),
+          (q .places-in2 .ensures) (k .before .before .before .before .kept-from .ensures) (counted q .new-votes .ensures .0) (c .if7 .taken),
       λ e. absurd (not-passed e),
     )
 
@@ -272,7 +317,7 @@ returns-9 c =
     let b = admitted (before-votes v) in
     let named = v .admit-votes .ensures .1 (omega (arith, a .before .if4 .left, header-votes _ (fitted b .before .header-of .ensures))) in (
       room _ _ _ _ (ready t) (a .header-allowed .result) (left a) (not-false _ (p .before .if5 .left)) (p .places-in .ensures) (new-blocks a) (o .if6 .left)
-          (q .places-in2 .ensures) (k .before .kept-from .ensures) (n .new-votes .ensures .0) (c .if7 .left),
+          (q .places-in2 .ensures) (k .before .before .before .before .kept-from .ensures) (n .new-votes .ensures .0) (c .if7 .left),
       λ e. record {
         blocks-fit = omega (arith, ready t .few-blocks, counts t .0, lengths t .2, b .admit-blocks .kept .1 .1 .1 .1 .1 .1 .0, v .admit-votes .kept .1 .1 .1 .1 .1 .1 .1 .0);
         votes-fit = omega (arith, ready t .few-votes, counts t .1, lengths t .3, n .new-votes .kept .1 .1 .1 .1 .1 .1 .0);
@@ -283,11 +328,23 @@ returns-9 c =
       },
     )
 
+-- the set of blocks has its length
+block-firsts-kept : (q : tie.After-places-in2) → let v = asked (allowed (noted q) .before) in
+    length (v .admit-votes .last .1 .1 .1 .1 .1 .1 .1 .0) ≡ length (now (start (told (allowed (noted q))) .args .block-firsts))
+block-firsts-kept q =
+    let v = asked (allowed (noted q) .before) in
+    v .admit-votes .kept .1 .1 .1 .1 .1 .1 .1 .0 ∙ admitted (before-votes v) .admit-blocks .kept .1 .1 .1 .1 .1 .1 .0
+
+-- where the cells are to be free again
+abbrev full : tie.Else6 → tie.After-admit-blocks
+full o = admitted (before-votes (asked (o .before .before .before .before .before)))
+
 pub receive-verdict-spec : {M : Type 1} → statement M
 receive-verdict-spec {M} =
     let s₁ = tie.spec {M = M} (λ c. search needs) (λ c. search needs) indexed-verdict-requires (λ c. search needs) returns (λ c. search needs) in
-    let s₂ = s₁ (λ c κs. search needs) (λ c κs. search needs) returns-2 returns-3 (λ c κs. search needs) (λ c κs. search needs) (λ c. search needs) admit-blocks-requires in
-    let s₃ = s₂ (λ c. search needs) returns-4 (λ c. search needs) admit-votes-requires (λ c. search needs) returns-5 (λ c κs. search needs) in
-    let s₄ = s₃ (λ c. search needs) returns-6 (λ c κs. search needs) sub-if6 (λ c. search needs) returns-7 (λ c κs. search needs) in
-    let s₅ = s₄ (λ c κs. search needs) (λ c. sym (lengths (told (allowed (c .before))) .1)) new-votes-requires (λ c κs. search needs) sub-if7 in
-    tie.close (s₅ (λ c. search needs) (λ c. search needs) returns-8 (λ c. search needs) (λ c. search needs) returns-9)
+    let s₂ = s₁ (λ c κs. search needs) (λ c κs. search needs) returns-2 returns-3 (λ c κs. search needs) (λ c κs. search needs) in
+    let s₃ = s₂ (λ c. sym (lengths (passed (c .before)) .0)) (λ c. part-fits 77824 _ (cells (c .before) .1)) (λ c. sym (part-length 77824 _ (cells (c .before .before) .1))) admit-blocks-requires (λ c. search needs) returns-4 in
+    let s₄ = s₃ (λ c. sym (lengths (passed (fitted (admitted (c .before)))) .0)) (λ c. filled (admitted (c .before))) (λ c. sym (size (admitted (c .before .before)))) admit-votes-requires (λ c. search needs) returns-5 (λ c κs. search needs) in
+    let s₅ = s₄ (λ c. search needs) returns-6 (λ c κs. search needs) sub-if6 (λ c. search needs) returns-7 (λ c κs. search needs) (λ c. filled (full (c .before))) (λ c. sym (size (full (c .before .before)))) (λ c κs. search needs) (λ c κs. search needs) in
+    let s₆ = s₅ (λ c. sym (lengths (told (allowed (c .before))) .1)) (λ c. free-fits (c .before)) (λ c. sym (free-length (c .before .before))) new-votes-requires (λ c κs. search needs) sub-if7 in
+    tie.close (s₆ (λ c. block-firsts-kept (c .before)) (λ c. counted (c .before) .new-votes .kept .1 .1 .1 .1 .1 .1 .0) returns-8 (λ c. block-firsts-kept (c .before)) (λ c. counted (c .before) .new-votes .kept .1 .1 .1 .1 .1 .1 .0) returns-9)

@@ -1,0 +1,2 @@
+-- The proofs of the functions, and laws of the mix. Assumes nothing.
+pub mod Laws

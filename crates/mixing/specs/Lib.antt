@@ -1,0 +1,2 @@
+-- The mix of four words. Assumes nothing.
+pub mod Mixing

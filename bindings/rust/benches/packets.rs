@@ -27,8 +27,7 @@ const BEAT: u64 = 3 * SLOT + 2;
 const KEPT: u64 = SLOT - SETTINGS.expiry;
 /// Blocks are of lower slots, votes of this one and higher ones.
 const VOTED: u64 = 1 << 17;
-/// Cells for the blocks of the longest packets, and how many numbers are tried for each of the sought ones.
-const CELLS: u64 = 77_824;
+/// How many numbers are tried for each of the sought ones.
 const TRIES: u64 = 1_024;
 /// The number of no block.
 const UNKNOWN: u128 = 0x0bad_b10c_0bad_b10d;
@@ -189,12 +188,9 @@ fn mixed(i: u64) -> u64 {
     i ^ (i >> 31)
 }
 
-/// The cells in which a number is looked for among the blocks of the longest packets: crates/index/specs/Keys has the probes, crates/verdicts the
-/// number of cells.
-fn probes(number: u128) -> impl Iterator<Item = usize> {
+/// The digits by which a number goes its way in an index of blocks, the first in the lowest bit: crates/mixing/specs.
+fn digits(number: u128) -> u64 {
     let (lower, upper) = (number as u64, (number >> 64) as u64);
-    let low = |x: u64| x & 0xffff_ffff;
-    let first = low(low(66 * low(lower) + low(upper)) * 2_654_435_769) << 32;
     let mut v = [
         lower ^ 0x736f_6d65_7073_6575,
         lower ^ 0x646f_7261_6e64_6f6d,
@@ -212,13 +208,7 @@ fn probes(number: u128) -> impl Iterator<Item = usize> {
         v[1] = v[1].rotate_left(17) ^ v[2];
         v[2] = v[2].rotate_left(32);
     }
-    let (start, step) = (v[0] ^ v[2], (v[1] ^ v[3]) | 1);
-    let next = |&(start, step): &(u64, u64)| {
-        let at = start.wrapping_add(step);
-        Some((at, step.rotate_left(21).wrapping_add(at)))
-    };
-    let later = std::iter::successors(Some((start, step)), next).map(|(start, _)| start);
-    std::iter::once(first).chain(later).map(|at| ((at >> 32) * CELLS >> 32) as usize)
+    v[0] ^ v[2]
 }
 
 fn encode(width: Width, blocks: Vec<PacketBlock>, votes: Vec<PacketVote>) -> Vec<u8> {
@@ -390,25 +380,39 @@ impl Case {
         Case { width: Width::Wide, packet, memory: fresh().into_memory(), answer: received(2_047, 8_192) }
     }
 
-    /// As many blocks as a packet can have, and each number the one of so many random ones whose probes meet the most cells that are taken. All stand
-    /// on the one before that takes the most probes.
-    fn sought(width: Width, tries: u64) -> Case {
-        let mut taken = vec![false; CELLS as usize];
-        let mut worst = (0, 0);
+    /// So many blocks that share a root (crates/index/specs/Keys), and each number the one of so many random ones that has the most digits 0 at first.
+    /// Each block stands on the one before it that has the most.
+    fn sought_blocks(width: Width, count: u32, tries: u64) -> Vec<PacketBlock> {
+        let mut most = (0, 0);
         let mut blocks = Vec::new();
-        for slot in 1..=u64::from(u16::MAX) {
+        for slot in 1..=count {
             let draw = |i: u64| {
-                let (lower, upper) = (mixed(2 * (slot * tries + i)), mixed(2 * (slot * tries + i) + 1));
-                u128::from(if width == Width::Wide { upper } else { 0 }) << 64 | u128::from(lower)
+                let i = 2 * (u64::from(slot) * tries + i);
+                let upper = if width == Width::Wide { mixed(i + 1) << 13 } else { 0 };
+                u128::from(upper) << 64 | u128::from(mixed(i) << 17)
             };
-            let met = |number: u128| (probes(number).position(|cell| !taken[cell]).expect("a cell is free"), number);
-            let most = (0..tries).map(|i| met(draw(i))).max().expect("there are some");
-            taken[probes(most.1).nth(most.0).expect("there are more")] = true;
-            blocks.push(PacketBlock { number: most.1, parent: worst.1, slot: slot as u32 });
-            worst = worst.max(most);
+            let best = (0..tries).map(|i| (digits(draw(i)).trailing_zeros(), draw(i))).max().expect("there are some");
+            blocks.push(PacketBlock { number: best.1, parent: most.1, slot });
+            most = most.max(best);
         }
-        let packet = encode(width, blocks, vec![]);
+        blocks
+    }
+
+    /// As many such blocks as have a tree of their own. The answer is by the places.
+    fn sought(width: Width, tries: u64) -> Case {
+        let packet = encode(width, Case::sought_blocks(width, 8_192, tries), vec![]);
         Case { width, packet, memory: fresh().into_memory(), answer: Err(Refusal::TooFewPlaces) }
+    }
+
+    /// Tables that are full of such blocks, and the one that stands deepest again and again.
+    fn sought_before(width: Width, tries: u64) -> Case {
+        let blocks = Case::sought_blocks(width, PLACES.0 as u32 - 1, tries);
+        let deepest = *blocks.iter().max_by_key(|block| digits(block.number).trailing_zeros()).expect("there are some");
+        let mut node = fresh();
+        let stored = node.receive(BEAT, &encode(width, blocks, vec![]));
+        assert_eq!(stored, received(PLACES.0 - 1, 0));
+        let packet = encode(width, vec![deepest; usize::from(u16::MAX)], vec![]);
+        Case { width, packet, memory: node.into_memory(), answer: received(0, 0) }
     }
 
     /// Receives the packet on a copy of the memory.
@@ -543,13 +547,18 @@ fn table(most: (usize, usize), part: &str) {
         }
     }
     for width in [Width::Narrow, Width::Wide] {
-        if "sought numbers".starts_with(part) {
-            let case = Case::sought(width, TRIES);
-            println!(
-                "| sought numbers | Fresh | {width:?} | 65535 | 0 | {} | {}",
-                answer(case.answer),
-                case.measure(9, ROW).row()
-            );
+        for (name, tables, blocks, case) in [
+            ("sought numbers", "Fresh", "8192", Case::sought as fn(Width, u64) -> Case),
+            ("sought numbers before", "Full", "65535 (1)", Case::sought_before),
+        ] {
+            if name.starts_with(part) {
+                let case = case(width, TRIES);
+                println!(
+                    "| {name} | {tables} | {width:?} | {blocks} | 0 | {} | {}",
+                    answer(case.answer),
+                    case.measure(9, ROW).row()
+                );
+            }
         }
     }
 }

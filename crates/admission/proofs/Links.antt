@@ -17,8 +17,8 @@ use Rattle.protocol.proofs.Basics.Members.{any-append}
 use Rattle.protocol.proofs.Store.New.{any-added}
 use Rattle.packets.specs.Header.{noVote}
 use Rattle.rows.proofs.Find.{known-any}
-use Rattle.hash_table.specs.Table.{Points}
-use Rattle.hash_table.proofs.Lists.{any-linked}
+use Rattle.search_tree.specs.Tree.{Points}
+use Rattle.search_tree.proofs.Lists.{any-linked}
 use Rattle.index.specs.declared.Key.{Key}
 use Rattle.index.specs.Keys.{numberKey, voteKey}
 use Rattle.index.specs.Links.{blockKeys, voteKeys, knownBlocks, linkToBlock, linkToVote, lookupAt}

@@ -17,7 +17,7 @@ use Rattle.protocol.proofs.Basics.Members.{any-append}
 use Rattle.packets.specs.Header.{noVote}
 use Rattle.packets.proofs.Turns.{front-entry}
 use Rattle.rows.specs.Rows.{rowAt}
-use Rattle.hash_table.specs.Table.{Points}
+use Rattle.search_tree.specs.Tree.{Points}
 use Rattle.bitset.specs.Bitset.{inserted}
 use Rattle.bitset.proofs.Bitset.{none-in}
 use Rattle.index.specs.declared.Key.{Key}

@@ -1,6 +1,6 @@
 // Which entries of a packet keep the rules, and which are new. Nothing may be changed before that is known, so the packet's entries are looked up
 // in an index of the table and in one of the packet, which they join, and the first row of each is noted in a set, by which they are stored and come
-// into view later. All entries together cost four walks for each block and four for each vote. No function keeps an array.
+// into view later. All entries together cost four lookups for each block and four for each vote. No function keeps an array.
 use protocol::Block;
 use protocol::Number;
 use protocol::Vote;
@@ -16,7 +16,7 @@ ghost use Rattle.protocol.specs.Packet.{packetOf};
 ghost use Rattle.protocol.specs.Lent.{BlocksFit, VotesFit, rowsOf, makeBlock, makeVote};
 ghost use Rattle.protocol.specs.Calls.Receive.{addBlocks, addSince, knownAs, blockAllowed, voteAllowed, headerAllowed, firstBadBlock, firstBadVote};
 ghost use Rattle.packets.specs.Header.{noVote};
-ghost use Rattle.index.specs.Index.{Room};
+ghost use Rattle.index.specs.Index.{PacketRoom};
 ghost use Rattle.index.specs.Links.{knownBlocks, lookupAt, numbersDiffer, votesDiffer, BlocksIndexed, VotesIndexed};
 ghost use Rattle.index.specs.Firsts.{blockNew, voteNew};
 ghost use Rattle.admission.specs.Lookup.{lookupOf, blockPasses, votePasses};
@@ -104,21 +104,31 @@ fn admit_block(
     i: usize,
     links: &[u16],
     packet_links: &mut [u16],
+    salt: u64,
     firsts: &mut [u64],
 ) -> Checked
     requires { ⌜ BlocksFit used (now blocks) × (numbersDiffer (rowsOf makeBlock (now blocks) used) ≡ true) × (i < length (packetOf (now bytes) .blocks))
-        × Room (i + 1) (now «packet_links») × BlocksIndexed (now blocks) used (now bytes) i (now links) (now «packet_links»)
+        × PacketRoom salt (i + 1) (now «packet_links») × BlocksIndexed salt (now blocks) used (now bytes) i (now links) (now «packet_links»)
         × (used + i < 64 * length (now firsts)) × BlocksSeen (now blocks) used (now bytes) i (now firsts) ⌝ }
     ensures { λ r. ⌜ (r .allowed ≡ blockAllowed slot (addBlocks (entries (rowsOf makeBlock (now (blocks .entry)) used)) (take i (packetOf (now (bytes .entry)) .blocks))) (getD (packetOf (now (bytes .entry)) .blocks) i genesis))
         × (r .new ≡ blockNew (now (blocks .entry)) used (now (bytes .entry)) i)
-        × BlocksIndexed (now (blocks .entry)) used (now (bytes .entry)) (i + 1) (now (links .entry)) (now («packet_links» .exit))
+        × BlocksIndexed salt (now (blocks .entry)) used (now (bytes .entry)) (i + 1) (now (links .entry)) (now («packet_links» .exit))
         × BlocksSeen (now (blocks .entry)) used (now (bytes .entry)) (i + 1) (now (firsts .exit)) ⌝ }
 {
     let b = packets::block_at(bytes, i);
     let n = used + i;
-    let parent_link = index::known_block(blocks, used, bytes, i, links, packet_links, b.parent);
+    let parent_link = index::known_block(
+        blocks,
+        used,
+        bytes,
+        i,
+        links,
+        packet_links,
+        salt,
+        b.parent,
+    );
     let parent = block_of(blocks, used, bytes, parent_link);
-    let link = index::join_block(blocks, used, bytes, i, links, packet_links, b.number);
+    let link = index::join_block(blocks, used, bytes, i, links, packet_links, salt, b.number);
     let earlier = block_of(blocks, used, bytes, link);
     index::note_first(firsts, n, link);
     let allowed = block_allowed(slot, b, parent, earlier);
@@ -136,7 +146,7 @@ pub struct Admitted {
 }
 
 // The packet's blocks, in order: the table and the packet's earlier blocks are known. If all are allowed, they have joined the packet's links, and
-// their first rows are noted in the set, which was empty. The cost is four walks for each block.
+// their first rows are noted in the set, which was empty. The cost is four lookups for each block.
 pub fn admit_blocks(
     slot: u64,
     blocks: &[u64],
@@ -144,15 +154,16 @@ pub fn admit_blocks(
     bytes: &[u8],
     links: &[u16],
     packet_links: &mut [u16],
+    salt: u64,
     firsts: &mut [u64],
 ) -> Admitted
     requires { ⌜ BlocksFit used (now blocks) × (numbersDiffer (rowsOf makeBlock (now blocks) used) ≡ true)
-        × Room (length (packetOf (now bytes) .blocks)) (now «packet_links») × BlocksIndexed (now blocks) used (now bytes) 0 (now links) (now «packet_links»)
+        × PacketRoom salt (length (packetOf (now bytes) .blocks)) (now «packet_links») × BlocksIndexed salt (now blocks) used (now bytes) 0 (now links) (now «packet_links»)
         × (used + length (packetOf (now bytes) .blocks) ≤ 64 * length (now firsts)) × BlocksSeen (now blocks) used (now bytes) 0 (now firsts) ⌝ }
     ensures { λ r. ⌜ (r .bad ≡ firstBadBlock slot (entries (rowsOf makeBlock (now (blocks .entry)) used)) (packetOf (now (bytes .entry)) .blocks))
         × (length (packetOf (now (bytes .entry)) .blocks) ≤ r .bad
         → (used + r .new ≡ length (addBlocks (entries (rowsOf makeBlock (now (blocks .entry)) used)) (packetOf (now (bytes .entry)) .blocks)))
-        × BlocksIndexed (now (blocks .entry)) used (now (bytes .entry)) (length (packetOf (now (bytes .entry)) .blocks)) (now (links .entry)) (now («packet_links» .exit))
+        × BlocksIndexed salt (now (blocks .entry)) used (now (bytes .entry)) (length (packetOf (now (bytes .entry)) .blocks)) (now (links .entry)) (now («packet_links» .exit))
         × BlocksSeen (now (blocks .entry)) used (now (bytes .entry)) (length (packetOf (now (bytes .entry)) .blocks)) (now (firsts .exit))) ⌝ }
 {
     let h = packets::header_of(bytes);
@@ -160,7 +171,17 @@ pub fn admit_blocks(
     let mut new: usize = 0;
     let mut i: usize = 0;
     while i < count {
-        let checked = admit_block(slot, blocks, used, bytes, i, links, packet_links, firsts);
+        let checked = admit_block(
+            slot,
+            blocks,
+            used,
+            bytes,
+            i,
+            links,
+            packet_links,
+            salt,
+            firsts,
+        );
         if !checked.allowed {
             return Admitted { bad: i, new: new };
         }
@@ -195,7 +216,7 @@ fn vote_allowed(nodes: u64, slot: u64, vote: Vote, block: Lookup) -> bool
     at_most(block, vote.slot)
 }
 
-// Vote i of the packet, where all blocks of the packet are known. Its block's first row is noted, if it is allowed. The cost is two walks.
+// Vote i of the packet, where all blocks of the packet are known. Its block's first row is noted, if it is allowed. The cost is two lookups.
 fn admit_vote(
     nodes: u64,
     slot: u64,
@@ -206,17 +227,27 @@ fn admit_vote(
     i: usize,
     links: &[u16],
     packet_links: &[u16],
+    salt: u64,
     firsts: &mut [u64],
 ) -> bool
     requires { ⌜ BlocksFit used (now blocks) × (numbersDiffer (rowsOf makeBlock (now blocks) used) ≡ true) × (known ≡ length (packetOf (now bytes) .blocks))
-        × (i < length (packetOf (now bytes) .votes)) × BlocksIndexed (now blocks) used (now bytes) known (now links) (now «packet_links»)
+        × (i < length (packetOf (now bytes) .votes)) × BlocksIndexed salt (now blocks) used (now bytes) known (now links) (now «packet_links»)
         × (used + known ≤ 64 * length (now firsts)) × VotedSeen (now blocks) used (now bytes) i (now firsts) ⌝ }
     ensures { λ r. ⌜ (r ≡ voteAllowed nodes slot (addBlocks (entries (rowsOf makeBlock (now (blocks .entry)) used)) (packetOf (now (bytes .entry)) .blocks)) (getD (packetOf (now (bytes .entry)) .votes) i noVote))
         × (r ≡ true → VotedSeen (now (blocks .entry)) used (now (bytes .entry)) (i + 1) (now (firsts .exit))) ⌝ }
 {
     let vote = packets::vote_at(bytes, i);
     let n = used + known;
-    let link = index::known_block(blocks, used, bytes, known, links, packet_links, vote.number);
+    let link = index::known_block(
+        blocks,
+        used,
+        bytes,
+        known,
+        links,
+        packet_links,
+        salt,
+        vote.number,
+    );
     let block = block_of(blocks, used, bytes, link);
     if !vote_allowed(nodes, slot, vote, block) {
         return false;
@@ -226,7 +257,7 @@ fn admit_vote(
 }
 
 // The index of the first vote that is not allowed, or the number of votes. All blocks of the packet are known. If all votes are allowed, the first
-// rows of their blocks are noted in the set. The cost is two walks for each vote.
+// rows of their blocks are noted in the set. The cost is two lookups for each vote.
 pub fn admit_votes(
     nodes: u64,
     slot: u64,
@@ -235,10 +266,11 @@ pub fn admit_votes(
     bytes: &[u8],
     links: &[u16],
     packet_links: &[u16],
+    salt: u64,
     firsts: &mut [u64],
 ) -> usize
     requires { ⌜ BlocksFit used (now blocks) × (numbersDiffer (rowsOf makeBlock (now blocks) used) ≡ true)
-        × BlocksIndexed (now blocks) used (now bytes) (length (packetOf (now bytes) .blocks)) (now links) (now «packet_links»)
+        × BlocksIndexed salt (now blocks) used (now bytes) (length (packetOf (now bytes) .blocks)) (now links) (now «packet_links»)
         × (used + length (packetOf (now bytes) .blocks) ≤ 64 * length (now firsts))
         × BlocksSeen (now blocks) used (now bytes) (length (packetOf (now bytes) .blocks)) (now firsts) ⌝ }
     ensures { λ r. ⌜ (r ≡ firstBadVote nodes slot (addBlocks (entries (rowsOf makeBlock (now (blocks .entry)) used)) (packetOf (now (bytes .entry)) .blocks)) (packetOf (now (bytes .entry)) .votes))
@@ -259,6 +291,7 @@ pub fn admit_votes(
             i,
             links,
             packet_links,
+            salt,
             firsts,
         ) {
             return i;
@@ -271,7 +304,7 @@ pub fn admit_votes(
 // ---- new votes
 
 // Whether vote i of the packet is new: not old, that is of slot `from` or later, and not known. It joins the packet's links in any case, and its
-// first row is noted. The cost is two walks.
+// first row is noted. The cost is two lookups.
 fn is_new_vote(
     votes: &[u64],
     used: usize,
@@ -280,18 +313,19 @@ fn is_new_vote(
     from: u64,
     links: &[u16],
     packet_links: &mut [u16],
+    salt: u64,
     firsts: &mut [u64],
 ) -> bool
     requires { ⌜ VotesFit used (now votes) × (votesDiffer (rowsOf makeVote (now votes) used) ≡ true) × (i < length (packetOf (now bytes) .votes))
-        × Room (i + 1) (now «packet_links») × VotesIndexed (now votes) used (now bytes) i (now links) (now «packet_links»)
+        × PacketRoom salt (i + 1) (now «packet_links») × VotesIndexed salt (now votes) used (now bytes) i (now links) (now «packet_links»)
         × (used + i < 64 * length (now firsts)) × VotesSeen (now votes) used (now bytes) i (now firsts) ⌝ }
     ensures { λ r. ⌜ (r ≡ (since from (getD (packetOf (now (bytes .entry)) .votes) i noVote) && voteNew (now (votes .entry)) used (now (bytes .entry)) i))
-        × VotesIndexed (now (votes .entry)) used (now (bytes .entry)) (i + 1) (now (links .entry)) (now («packet_links» .exit))
+        × VotesIndexed salt (now (votes .entry)) used (now (bytes .entry)) (i + 1) (now (links .entry)) (now («packet_links» .exit))
         × VotesSeen (now (votes .entry)) used (now (bytes .entry)) (i + 1) (now (firsts .exit)) ⌝ }
 {
     let vote = packets::vote_at(bytes, i);
     let n = used + i;
-    let link = index::join_vote(votes, used, bytes, i, links, packet_links, vote);
+    let link = index::join_vote(votes, used, bytes, i, links, packet_links, salt, vote);
     index::note_first(firsts, n, link);
     if link != 0 {
         return false;
@@ -300,7 +334,7 @@ fn is_new_vote(
 }
 
 // How many votes of the packet are new: those of slot `from` and later that are not known. The first row of each vote is noted in the set, which
-// was empty. The cost is two walks for each vote.
+// was empty. The cost is two lookups for each vote.
 pub fn new_votes(
     votes: &[u64],
     used: usize,
@@ -308,10 +342,11 @@ pub fn new_votes(
     from: u64,
     links: &[u16],
     packet_links: &mut [u16],
+    salt: u64,
     firsts: &mut [u64],
 ) -> usize
     requires { ⌜ VotesFit used (now votes) × (votesDiffer (rowsOf makeVote (now votes) used) ≡ true)
-        × Room (length (packetOf (now bytes) .votes)) (now «packet_links») × VotesIndexed (now votes) used (now bytes) 0 (now links) (now «packet_links»)
+        × PacketRoom salt (length (packetOf (now bytes) .votes)) (now «packet_links») × VotesIndexed salt (now votes) used (now bytes) 0 (now links) (now «packet_links»)
         × (used + length (packetOf (now bytes) .votes) ≤ 64 * length (now firsts)) × VotesSeen (now votes) used (now bytes) 0 (now firsts) ⌝ }
     ensures { λ r. ⌜ (used + r ≡ length (addSince from (entries (rowsOf makeVote (now (votes .entry)) used)) (packetOf (now (bytes .entry)) .votes)))
         × VotesSeen (now (votes .entry)) used (now (bytes .entry)) (length (packetOf (now (bytes .entry)) .votes)) (now (firsts .exit)) ⌝ }
@@ -321,7 +356,17 @@ pub fn new_votes(
     let mut new: usize = 0;
     let mut i: usize = 0;
     while i < count {
-        new += is_new_vote(votes, used, bytes, i, from, links, packet_links, firsts) as usize;
+        new += is_new_vote(
+            votes,
+            used,
+            bytes,
+            i,
+            from,
+            links,
+            packet_links,
+            salt,
+            firsts,
+        ) as usize;
         i += 1;
     }
     new

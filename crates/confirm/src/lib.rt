@@ -36,7 +36,7 @@ fn climb_down(blocks: &[u64], used: usize, parents: &[u16], from: usize, m: u64)
         if row.block.slot <= m {
             break row.block.number;
         }
-        i = hash_table::link_at(parents, i);
+        i = search_tree::link_at(parents, i);
     }
 }
 

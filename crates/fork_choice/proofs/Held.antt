@@ -22,7 +22,7 @@ use Rattle.protocol.proofs.Store.Views.{entries-append}
 use Rattle.protocol.proofs.Lent.Rows.{length-rowsOf}
 use Rattle.rows.specs.Rows.{rowAt}
 use Rattle.rows.proofs.Rows.{getD-rowsOf, drop-rowsOf, rows-front}
-use Rattle.hash_table.proofs.Lists.{link-hit}
+use Rattle.search_tree.proofs.Lists.{link-hit}
 use Rattle.index.specs.Links.{linkToNumber}
 use Rattle.vote_filters.specs.Latest.{selected}
 use Rattle.vote_filters.proofs.Selected.{row-of, entry-in}

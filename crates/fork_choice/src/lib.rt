@@ -80,9 +80,9 @@ fn link_child(parents: &[u16], i: usize, children: &mut [u16], siblings: &mut [u
     ensures { λ r. ⌜ (now (siblings .exit) ≡ set (now (siblings .entry)) i (getD (now (children .entry)) (getD (now (parents .entry)) i 0) 0))
         × (now (children .exit) ≡ set (now (children .entry)) (getD (now (parents .entry)) i 0) i) ⌝ }
 {
-    let p = hash_table::link_at(parents, i);
+    let p = search_tree::link_at(parents, i);
     siblings[i] = children[p];
-    hash_table::put_link(children, p, i);
+    search_tree::put_link(children, p, i);
 }
 
 // The children of each row, linked in the order of their rows. One turn for each row.
@@ -116,10 +116,10 @@ fn best_child(
 {
     let parent = rows::block_at(blocks, a);
     let mut best: usize = 0;
-    let mut c = hash_table::link_at(children, a);
+    let mut c = search_tree::link_at(children, a);
     while c != 0 {
         best = better_row(blocks, weights, whole, lim, parent.block.number, c, best);
-        c = hash_table::link_at(siblings, c);
+        c = search_tree::link_at(siblings, c);
     }
     best
 }

@@ -9,7 +9,7 @@ use borrow.Author.Tests.{eq-eqb, ne-eqb, eqb-true}
 use lib.Dec.{eqb, eqb·suc-zero}
 use lib.ListN.{length, replicate}
 use Rattle.protocol.proofs.Basics.Tests.{same-test, not-passes, clashing}
-use Rattle.hash_table.specs.Table.{First, Points}
+use Rattle.search_tree.specs.Tree.{First, Points}
 use Rattle.bitset.specs.Bitset.{inSet, inserted}
 use Rattle.bitset.proofs.Bitset.{in-inserted, none-in}
 use Rattle.index.specs.declared.Key.{Key}

@@ -20,8 +20,8 @@ use Rattle.rows.specs.Find.{rowOf, rowFrom}
 use Rattle.rows.proofs.Rows.{getD-rowsOf}
 use Rattle.rows.proofs.Find.{row-below, known-any}
 use Rattle.rows.proofs.Views.{any-view}
-use Rattle.hash_table.specs.Lists.{linkFrom, distinct}
-use Rattle.hash_table.proofs.Lists.{link-past}
+use Rattle.search_tree.specs.Lists.{linkFrom, distinct}
+use Rattle.search_tree.proofs.Lists.{link-past}
 use Rattle.index.specs.Links.{numbersDiffer, linkToNumber}
 
 abbrev is : ℕ → Marked Block → Bool

@@ -16,14 +16,15 @@ use Rattle.protocol.specs.Store.{sameVote, inView}
 use Rattle.protocol.specs.Packet.{packetOf}
 use Rattle.protocol.specs.Lent.{rowsOf, makeBlock, makeVote}
 use Rattle.packets.specs.Header.{noVote}
-use Rattle.hash_table.specs.Lists.{linkFrom}
-use Rattle.hash_table.specs.Table.{Blank, Points}
-use Rattle.hash_table.proofs.Table.{index-free}
-use Rattle.hash_table.proofs.Lists.{link-past}
+use Rattle.search_tree.specs.Lists.{linkFrom}
+use Rattle.search_tree.specs.Tree.{Blank, Points}
+use Rattle.search_tree.proofs.Tree.{index-free}
+use Rattle.search_tree.proofs.Lists.{link-past}
 use Rattle.index.specs.declared.Key.{Key}
-use Rattle.index.specs.declared.Kind.the-variants.{Blocks, Votes, PacketBlocks, PacketVotes}
+use Rattle.index.specs.declared.Kind.the-variants.{Blocks, Votes}
+use Rattle.index.specs.declared.Section.the-variants.{PacketBlocks, PacketVotes}
 use Rattle.index.specs.Keys.{numberKey, voteKey}
-use Rattle.index.specs.Index.{keyAt, Room}
+use Rattle.index.specs.Index.{keyAt, entryKey, PacketRoom}
 use Rattle.index.specs.Links.{BlockIndex, VoteIndex, BlocksIndexed, VotesIndexed, blockKeys, voteKeys, linkBehind, numbersDiffer, votesDiffer, knownBlocks, knownVotes, linkToBlock, linkToVote, lookupAt}
 use Rattle.index.proofs.Known.{length-known, known-row, known-next}
 use Rattle.index.proofs.Links.{linked, Differ, keys-differ}
@@ -82,48 +83,48 @@ module _ {key front : ℕ → Key} {used : ℕ} (rows : (j : ℕ) → j < used �
         }
 
 module _ (ws : List ℕ) (used : ℕ) (bytes : List ℕ) where
-  pub block-row : (j : ℕ) → j < used → keyAt Blocks ws [] j ≡ blockKeys ws used bytes j
+  pub block-row : (j : ℕ) → j < used → keyAt Blocks ws j ≡ blockKeys ws used bytes j
   block-row j h = ap (λ (b : Block). numberKey (b .number)) (known-row makeBlock ws used (packetOf bytes .blocks) j (inView genesis) h refl)
 
-  pub vote-row : (j : ℕ) → j < used → keyAt Votes ws [] j ≡ voteKeys ws used bytes j
+  pub vote-row : (j : ℕ) → j < used → keyAt Votes ws j ≡ voteKeys ws used bytes j
   vote-row j h = ap voteKey (known-row makeVote ws used (packetOf bytes .votes) j (inView noVote) h refl)
 
-  pub block-past : (m : ℕ) → keyAt PacketBlocks ws bytes m ≡ blockKeys ws used bytes (used + m)
+  pub block-past : (m : ℕ) → entryKey PacketBlocks bytes m ≡ blockKeys ws used bytes (used + m)
   block-past m = ap (λ (b : Block). numberKey (b .number)) (sym (known-next makeBlock ws used (packetOf bytes .blocks) m genesis))
 
-  pub vote-past : (m : ℕ) → keyAt PacketVotes ws bytes m ≡ voteKeys ws used bytes (used + m)
+  pub vote-past : (m : ℕ) → entryKey PacketVotes bytes m ≡ voteKeys ws used bytes (used + m)
   vote-past m = ap voteKey (sym (known-next makeVote ws used (packetOf bytes .votes) m noVote))
 
-  -- of no entry of the packet there is an index where the cells are free
-  pub blocks-begin : {ls ps : List ℕ} → BlockIndex ws used ls → Blank ps → Room 0 ps → BlocksIndexed ws used bytes 0 ls ps
-  blocks-begin x e h = record { table = x; packet = index-free _ e (h .1) (h .2) }
+  -- of no entry of the packet there is an index where the links are free
+  pub blocks-begin : {salt : ℕ} {ls ps : List ℕ} → BlockIndex ws used ls → Blank ps → PacketRoom salt 0 ps → BlocksIndexed salt ws used bytes 0 ls ps
+  blocks-begin x e h = record { table = x; packet = index-free _ e (h .1) }
 
-  pub votes-begin : {ls ps : List ℕ} → VoteIndex ws used ls → Blank ps → Room 0 ps → VotesIndexed ws used bytes 0 ls ps
-  votes-begin x e h = record { table = x; packet = index-free _ e (h .1) (h .2) }
+  pub votes-begin : {salt : ℕ} {ls ps : List ℕ} → VoteIndex ws used ls → Blank ps → PacketRoom salt 0 ps → VotesIndexed salt ws used bytes 0 ls ps
+  votes-begin x e h = record { table = x; packet = index-free _ e (h .1) }
 
   -- what was found in the table, or else among the packet's first i entries
   module _ (i : ℕ) where
-    pub block-early : {k x : Key} {link : ℕ} → k ≡ x → Points (keyAt Blocks ws []) used k link → (link ≡ 0 → ⊥) → Points (blockKeys ws used bytes) (used + i) x link
+    pub block-early : {k x : Key} {link : ℕ} → k ≡ x → Points (keyAt Blocks ws) used k link → (link ≡ 0 → ⊥) → Points (blockKeys ws used bytes) (used + i) x link
     block-early a s f = rw a at (early block-row i s f)
 
-    pub block-late : {k x y : Key} {link later r : ℕ} → k ≡ x → k ≡ y → Points (keyAt Blocks ws []) used k link → link ≡ 0 → Points (keyAt PacketBlocks ws bytes) i y later
+    pub block-late : {k x y : Key} {link later r : ℕ} → k ≡ x → k ≡ y → Points (keyAt Blocks ws) used k link → link ≡ 0 → Points (entryKey PacketBlocks bytes) i y later
         → r ≡ linkBehind used later → Points (blockKeys ws used bytes) (used + i) x r
     block-late {later = later} a b s e t z = rw z (rw a at (late block-row block-past i {later = later} s e (rw (← b) at t)))
 
-    pub vote-early : {k x : Key} {link : ℕ} → k ≡ x → Points (keyAt Votes ws []) used k link → (link ≡ 0 → ⊥) → Points (voteKeys ws used bytes) (used + i) x link
+    pub vote-early : {k x : Key} {link : ℕ} → k ≡ x → Points (keyAt Votes ws) used k link → (link ≡ 0 → ⊥) → Points (voteKeys ws used bytes) (used + i) x link
     vote-early a s f = rw a at (early vote-row i s f)
 
-    pub vote-late : {k x y : Key} {link later r : ℕ} → k ≡ x → k ≡ y → Points (keyAt Votes ws []) used k link → link ≡ 0 → Points (keyAt PacketVotes ws bytes) i y later
+    pub vote-late : {k x y : Key} {link later r : ℕ} → k ≡ x → k ≡ y → Points (keyAt Votes ws) used k link → link ≡ 0 → Points (entryKey PacketVotes bytes) i y later
         → r ≡ linkBehind used later → Points (voteKeys ws used bytes) (used + i) x r
     vote-late {later = later} a b s e t z = rw z (rw a at (late vote-row vote-past i {later = later} s e (rw (← b) at t)))
 
   pub blocks-apart : numbersDiffer (rowsOf makeBlock ws used) ≡ true → Differ (blockKeys ws used bytes) used
   blocks-apart e i j h l q =
-      keys-differ (keyAt Blocks ws []) used (numbers-differ ws used ∙ e) i j h l (block-row i (omega arith) ∙ q ∙ sym (block-row j l))
+      keys-differ (keyAt Blocks ws) used (numbers-differ ws used ∙ e) i j h l (block-row i (omega arith) ∙ q ∙ sym (block-row j l))
 
   pub votes-apart : votesDiffer (rowsOf makeVote ws used) ≡ true → Differ (voteKeys ws used bytes) used
   votes-apart e i j h l q =
-      keys-differ (keyAt Votes ws []) used (votes-differ ws used ∙ e) i j h l (vote-row i (omega arith) ∙ q ∙ sym (vote-row j l))
+      keys-differ (keyAt Votes ws) used (votes-differ ws used ∙ e) i j h l (vote-row i (omega arith) ∙ q ∙ sym (vote-row j l))
 
 -- a vote is there if it has a row
 pub vote-among : (vs : List Vote) (a : Vote) {link : ℕ} → link ≡ linkToVote vs a → not (eqb link 0) ≡ anyPass (sameVote a) vs

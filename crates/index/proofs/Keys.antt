@@ -1,6 +1,6 @@
 -- Keys that are compared, and what can be read. Assumes nothing.
 use Prim.Native.Nat.{ℕ, _+_, _*_, _/_, _%_, _^_, _-_, _≤_, _<_}
-use mathlib.Core.Bool.{Bool, true, false}
+use mathlib.Core.Bool.{true}
 use mathlib.Core.List.{List}
 use mathlib.Core.Path.{_≡_, refl, ap, sym, _∙_}
 use native.Mathlib.Omega.{arith}
@@ -8,16 +8,15 @@ use borrow.Author.Tests.{eqb-true, eq-eqb}
 use lib.Dec.{eqb}
 use lib.ListN.{length, getD, drop}
 use lib.Seq.{getD-drop}
-use Rattle.protocol.specs.Packet.{packetOf}
 use Rattle.protocol.specs.Lent.{blockWords, voteWords, makeBlock, makeVote}
 use Rattle.rows.specs.Rows.{rowAt}
 use Rattle.protocol.proofs.Words.{lower-join, upper-join}
-use Rattle.protocol.proofs.Basics.Tests.{both, and-left, and-right, clashing}
+use Rattle.protocol.proofs.Basics.Tests.{both, and-left, and-right}
 use Rattle.index.specs.declared.Key.{Key}
 use Rattle.index.specs.declared.Kind.{Kind}
-use Rattle.index.specs.declared.Kind.the-variants.{Blocks, Votes, Slots, View, PacketBlocks, PacketVotes}
+use Rattle.index.specs.declared.Kind.the-variants.{Blocks, Votes, Slots, View}
 use Rattle.index.specs.Keys.{numberKey, voteKey, sameKey}
-use Rattle.index.specs.Index.{offsetsOf, rowKey, packetKey, keyAt, inTable, InPacket, Readable}
+use Rattle.index.specs.Index.{offsetsOf, rowKey, keyAt, Readable}
 
 pub key-same : (x y : Key) → sameKey x y ≡ true → x ≡ y
 unfolding sameKey
@@ -42,34 +41,18 @@ unfolding sameKey
 last-words x y p q r = rw (eq-eqb (x .a) (y .a) p, eq-eqb (x .b) (y .b) q, eq-eqb (x .c) (y .c) r)
 
 -- fewer rows can be read
-pub readable-less : (kind : Kind) (ws bytes : List ℕ) (n m : ℕ) → m ≤ n → Readable kind ws bytes n → Readable kind ws bytes m
-readable-less Blocks ws bytes n m h r = omega arith
-readable-less Votes ws bytes n m h r = omega arith
-readable-less Slots ws bytes n m h r = omega arith
-readable-less View ws bytes n m h r = omega arith
-readable-less PacketBlocks ws bytes n m h r = omega arith
-readable-less PacketVotes ws bytes n m h r = omega arith
+pub readable-less : (kind : Kind) (ws : List ℕ) (n m : ℕ) → m ≤ n → Readable kind ws n → Readable kind ws m
+readable-less Blocks ws n m h r = omega arith
+readable-less Votes ws n m h r = omega arith
+readable-less Slots ws n m h r = omega arith
+readable-less View ws n m h r = omega arith
 
-no-flag : {b : Bool} → b ≡ true → b ≡ false → ⊥
-no-flag e f = clashing e f
-
-module _ (ws bytes : List ℕ) (j : ℕ) where
-  -- a row is read, or an entry of the packet
-  pub row-fits : (kind : Kind) → Readable kind ws bytes (j + 1) → inTable kind ≡ true → offsetsOf kind .words * (j + 1) ≤ length ws
-  row-fits Blocks r h = omega arith
-  row-fits Votes r h = omega arith
-  row-fits Slots r h = omega arith
-  row-fits View r h = omega arith
-  row-fits PacketBlocks r h = absurd (no-flag h refl)
-  row-fits PacketVotes r h = absurd (no-flag h refl)
-
-  pub in-packet : (kind : Kind) → Readable kind ws bytes (j + 1) → inTable kind ≡ false → InPacket kind bytes j
-  in-packet Blocks r h = no-flag refl h
-  in-packet Votes r h = no-flag refl h
-  in-packet Slots r h = no-flag refl h
-  in-packet View r h = no-flag refl h
-  in-packet PacketBlocks r h = omega arith
-  in-packet PacketVotes r h = omega arith
+module _ (ws : List ℕ) (j : ℕ) where
+  pub row-fits : (kind : Kind) → Readable kind ws (j + 1) → offsetsOf kind .words * (j + 1) ≤ length ws
+  row-fits Blocks r = omega arith
+  row-fits Votes r = omega arith
+  row-fits Slots r = omega arith
+  row-fits View r = omega arith
 
   -- the words of lent memory have 64 bits
   module _ (words : (i : ℕ) → getD ws i 0 < 2 ^ 64) where
@@ -90,18 +73,8 @@ module _ (ws bytes : List ℕ) (j : ℕ) where
         let u = sym (upper-join (getD row 2 0) (getD row 3 0) (word (voteWords * j) 2)) in
         λ i. record { a = l i; b = getD row 1 0; c = getD row 0 0; d = u i }
 
-    pub row-keyed : (kind : Kind) → inTable kind ≡ true → rowKey (offsetsOf kind) ws j ≡ keyAt kind ws bytes j
-    row-keyed Blocks h = number-row
-    row-keyed Votes h = vote-row
-    row-keyed Slots h = refl
-    row-keyed View h = refl
-    row-keyed PacketBlocks h = absurd (no-flag h refl)
-    row-keyed PacketVotes h = absurd (no-flag h refl)
-
-  pub packet-keyed : (kind : Kind) → inTable kind ≡ false → packetKey kind bytes j ≡ keyAt kind ws bytes j
-  packet-keyed Blocks h = absurd (no-flag refl h)
-  packet-keyed Votes h = absurd (no-flag refl h)
-  packet-keyed Slots h = absurd (no-flag refl h)
-  packet-keyed View h = absurd (no-flag refl h)
-  packet-keyed PacketBlocks h = refl
-  packet-keyed PacketVotes h = refl
+    pub row-keyed : (kind : Kind) → rowKey (offsetsOf kind) ws j ≡ keyAt kind ws j
+    row-keyed Blocks = number-row
+    row-keyed Votes = vote-row
+    row-keyed Slots = refl
+    row-keyed View = refl

@@ -8,3 +8,4 @@ pub mod Joined
 pub mod Slots
 pub mod Firsts
 pub mod Added
+pub mod Shapes

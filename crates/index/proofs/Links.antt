@@ -7,13 +7,13 @@ use native.Mathlib.Omega.{arith}
 use native.Mathlib.Decide.{decLt}
 use lib.ListN.{length, getD, length-append, List·getD-append}
 use lib.Seq.{getD-append-add}
-use Rattle.hash_table.specs.Lists.{linkTo, distinct}
-use Rattle.hash_table.specs.Table.{Points}
+use Rattle.search_tree.specs.Lists.{linkTo, distinct}
+use Rattle.search_tree.specs.Tree.{Points}
 use borrow.Author.Tests.{not-true}
 use Rattle.protocol.specs.Lists.{anyPass}
 use Rattle.protocol.proofs.Basics.Members.{any-append}
 use Rattle.protocol.proofs.Basics.Tests.{not-passes, clashing, and-left, and-right, or-left, or-right}
-use Rattle.hash_table.proofs.Lists.{link-hit, link-none, distinct-end, distinct-new, distinct-old}
+use Rattle.search_tree.proofs.Lists.{link-hit, link-none, distinct-end, distinct-new, distinct-old}
 use Rattle.index.specs.declared.Key.{Key}
 use Rattle.index.specs.Keys.{sameKey}
 use Rattle.index.specs.Index.{listed, keysDiffer}

@@ -20,9 +20,9 @@ use Rattle.protocol.proofs.Store.Views.{vote-same, same-vote}
 use Rattle.packets.specs.Header.{noVote}
 use Rattle.rows.specs.Rows.{rowAt}
 use Rattle.rows.proofs.Rows.{getD-rowsOf, rows-front, rows-more}
-use Rattle.hash_table.specs.Lists.{linkTo, distinct}
-use Rattle.hash_table.specs.Table.{Points}
-use Rattle.hash_table.proofs.Lists.{link-front, any-linked, distinct-front}
+use Rattle.search_tree.specs.Lists.{linkTo, distinct}
+use Rattle.search_tree.specs.Tree.{Points}
+use Rattle.search_tree.proofs.Lists.{link-front, any-linked, distinct-front}
 use Rattle.index.specs.declared.Key.{Key}
 use Rattle.index.specs.declared.Kind.the-variants.{Blocks, Votes}
 use Rattle.index.specs.Keys.{numberKey, voteKey, sameKey}
@@ -54,13 +54,13 @@ abbrev sameNumber : Marked Block → Marked Block → Bool
 sameNumber a b = eqb (a .entry .number) (b .entry .number)
 
 module _ (ws : List ℕ) where
-  pub number-linked : (n x : ℕ) {k : Key} {link : ℕ} → k ≡ numberKey x → Points (keyAt Blocks ws []) n k link → link ≡ linkToNumber (rowsOf makeBlock ws n) x
+  pub number-linked : (n x : ℕ) {k : Key} {link : ℕ} → k ≡ numberKey x → Points (keyAt Blocks ws) n k link → link ≡ linkToNumber (rowsOf makeBlock ws n) x
   unfolding linkToNumber
   number-linked n x e s =
       let T = table makeBlock (inView genesis) ws in
       linked (inView genesis) (number-tells (λ m. m .entry .number) x) (rw e at s) (rowsOf makeBlock ws n) (T .size n) (λ j l. ap (λ m. numberKey (m .entry .number)) (T .read n j l))
 
-  pub numbers-differ : (n : ℕ) → keysDiffer (keyAt Blocks ws []) n ≡ numbersDiffer (rowsOf makeBlock ws n)
+  pub numbers-differ : (n : ℕ) → keysDiffer (keyAt Blocks ws) n ≡ numbersDiffer (rowsOf makeBlock ws n)
   unfolding numbersDiffer
   numbers-differ n = rows-differ (λ m. numberKey (m .entry .number)) sameNumber (λ a b. number-keys (a .entry .number) (b .entry .number)) (table makeBlock (inView genesis) ws) (none makeBlock ws) n
 
@@ -96,7 +96,7 @@ abbrev sameEntry : Marked Vote → Marked Vote → Bool
 sameEntry a b = sameVote (a .entry) (b .entry)
 
 module _ (ws : List ℕ) where
-  pub votes-differ : (n : ℕ) → keysDiffer (keyAt Votes ws []) n ≡ votesDiffer (rowsOf makeVote ws n)
+  pub votes-differ : (n : ℕ) → keysDiffer (keyAt Votes ws) n ≡ votesDiffer (rowsOf makeVote ws n)
   unfolding votesDiffer
   votes-differ n = rows-differ (λ m. voteKey (m .entry)) sameEntry (λ a b. vote-keys (a .entry) (b .entry)) (table makeVote (inView noVote) ws) (none makeVote ws) n
 

@@ -1,12 +1,11 @@
--- Keys, and the probes by which they are looked for. Assumes nothing.
+-- Keys, and the trees that they branch in. Assumes nothing.
 use Prim.Native.Nat.{ℕ, _+_, _*_, _/_, _%_, _^_}
 use mathlib.Core.Bool.{Bool, _&&_, cond}
 use lib.Dec.{eqb}
 use Rattle.protocol.specs.Entry.{Vote}
 use Rattle.protocol.specs.Words.{lowerOf, upperOf}
-use Rattle.hash_table.specs.Table.{Probing}
-use Rattle.mixing.specs.declared.Probes.{Probes}
-use Rattle.mixing.specs.Mixing.{further, mix}
+use Rattle.search_tree.specs.Tree.{Shape}
+use Rattle.mixing.specs.Mixing.{mix}
 use Rattle.index.specs.declared.Key.{Key}
 
 -- a block's number
@@ -19,22 +18,28 @@ voteKey v = record { a = lowerOf (v .number); b = v .slot; c = v .voter; d = upp
 unfoldable pub sameKey : Key → Key → Bool
 sameKey x y = eqb (x .a) (y .a) && (eqb (x .b) (y .b) && (eqb (x .c) (y .c) && eqb (x .d) (y .d)))
 
--- The first probe is by a product of the lowest bits of all words: numbers, or voters and slots, that follow each other have cells of their own. Where it
--- meets another key, the words are mixed, and the next probes go on from there. Somebody who looks for keys whose probes meet has to try so many more keys
--- for each further probe.
-abbrev pub firstOf : Key → Probes
-firstOf k =
+-- all words of a key, mixed
+unfoldable pub mixOf : ℕ → Key → ℕ
+mixOf salt k = mix salt (k .a) (k .b) (k .c) (k .d)
+
+-- A table has 8192 roots, and one is chosen by the lowest bits of b, c and d: a voter and slot have one of their own among 128 slots, and so have
+-- numbers that follow each other; where there are few voters, slots that are 128 apart have roots beside each other. Each row has two links, and keys that
+-- share a root part by the digits of their words, mixed.
+unfoldable pub lowRoot : Key → ℕ
+lowRoot k = (k .b % 128 * 64 + k .b / 128 % 1024 * 8 + k .c % 8192 + k .d % 8192) % 8192
+
+abbrev pub tableShape : Shape Key ℕ
+tableShape = record { roots = 8192; radix = 2; root = lowRoot; first = mixOf 0; digit = λ s. s % 2; rest = λ s. s / 2 }
+
+-- A packet's section has 16384 roots. If the salt is 0 it is a tree like that of a table. Else, for more entries than there is room for so, the root is
+-- chosen by all words of a key, mixed with the salt, and each entry has one link: those that share a root are a chain.
+abbrev pub packetShape : ℕ → Shape Key ℕ
+packetShape salt =
     record {
-      start = (k .a % 2 ^ 32 + k .b % 2 ^ 32 * 64 + k .c % 2 ^ 32 + k .d % 2 ^ 32) % 2 ^ 32 * 2654435769 % 2 ^ 32 * 2 ^ 32;
-      step = 0;
+      roots = 16384;
+      radix = cond (eqb salt 0) 2 1;
+      root = λ k. cond (eqb salt 0) (lowRoot k) (mixOf salt k % 16384);
+      first = λ k. cond (eqb salt 0) (mixOf 0 k) 0;
+      digit = λ s. cond (eqb salt 0) (s % 2) 0;
+      rest = λ s. s / 2;
     }
-
-unfoldable pub nextOf : Key → Probes → Probes
-nextOf k s = cond (eqb (s .step) 0) (mix (k .a) (k .b) (k .c) (k .d)) (further s)
-
--- the upper half of where a probe stands, as a part of the cells
-abbrev pub cellOf : ℕ → Probes → ℕ
-cellOf size s = s .start / 2 ^ 32 * size / 2 ^ 32
-
-abbrev pub probing : Probing Key Probes
-probing = record { limit = 512; first = firstOf; next = nextOf; cell = cellOf }

@@ -1,15 +1,15 @@
 // One index for every kind of entry, in links that a caller lends: blocks by number, votes, and votes by voter and slot, of a table; and the blocks
-// or votes of a packet. What differs between the kinds is the key of a row. The walk, adding and building are the same.
-// A key's first cell is chosen by its lowest bits, the next ones by all of its words, mixed. Honest entries meet one or two cells; entries whose
-// probes meet have to be sought, one key after another, and the harder the more probes are to meet.
+// or votes of a packet. Each is a search tree, and one law tells of both that a descent finds the first row of a key.
+// In a table the root is chosen by a key's lowest bits, and each row has two links, between which the digits of the key decide, mixed. Honest entries
+// meet one row or two. Keys with the same first digits have to be sought, one after another, and each further digit doubles the search.
+// In a packet, which may have 65,535 entries and comes from anybody, the root is chosen by all words of a key, mixed with a salt of all its bytes, and
+// each entry has one link: a chain has four entries, on the average, in the longest packet, and nobody can tell which before the packet is whole.
 // No function keeps an array: the largest call takes less than 1 KB of stack.
-use hash_table::Spot;
-use mixing::Probes;
 use protocol::Block;
 use protocol::Number;
 use protocol::Vote;
+use search_tree::Spot;
 ghost use mathlib.Core.Bool.{cond};
-ghost use mathlib.Core.List.{[]};
 ghost use mathlib.Core.Path.{_≡_};
 ghost use Prim.Native.Nat.{_+_, _*_, _<_, _≤_};
 ghost use lib.ListN.{length, getD};
@@ -19,19 +19,23 @@ ghost use Rattle.protocol.specs.Packet.{packetOf};
 ghost use Rattle.packets.specs.Header.{noVote};
 ghost use Rattle.protocol.specs.Lent.{BlocksFit, VotesFit, rowsOf, makeBlock, makeVote};
 ghost use Rattle.bitset.specs.Bitset.{inserted};
-ghost use Rattle.hash_table.specs.Table.{Points, Walk, Sought, Blank};
-ghost use Rattle.index.specs.Keys.{numberKey, voteKey, sameKey, firstOf, nextOf, cellOf, probing};
-ghost use Rattle.index.specs.Index.{offsetsOf, rowKey, packetKey, keyAt, inTable, InPacket, Readable, IndexOf, IndexFor, Room, Added, Probed, keysDiffer};
+ghost use Rattle.search_tree.specs.Tree.{linksOf, child, Points, Descent, Sought, Blank};
+ghost use Rattle.index.specs.Keys.{numberKey, voteKey, sameKey, mixOf, lowRoot, tableShape, packetShape};
+ghost use Rattle.index.specs.Index.{offsetsOf, rowKey, keyAt, entriesIn, entryKey, Readable, IndexOf, IndexFor, TableRoom, PacketRoom, Added, keysDiffer};
 ghost use Rattle.index.specs.Links.{linkToNumber, numbersDiffer, votesDiffer, BlockIndex, VoteIndex, SlotIndex, slotKey, knownBlocks, linkBehind, blockKeys, voteKeys, BlocksIndexed, VotesIndexed};
 ghost use Rattle.index.specs.Firsts.{firstRow};
 
-// The cells of an index of the largest tables: four for each row.
-pub const BLOCK_LINKS: usize = 4 * limits::LOOM_BLOCKS;
+// The links of an index of a table: its roots, and two for each row. Those of the largest tables.
+const ROOTS: usize = 8192;
 
-pub const VOTE_LINKS: usize = 4 * limits::LOOM_VOTES;
+pub const BLOCK_LINKS: usize = ROOTS + 2 * limits::LOOM_BLOCKS;
 
-// After so many probes a walk gives up, and the rows are searched. No table of ours is so full that this happens.
-const PROBES: usize = 512;
+pub const VOTE_LINKS: usize = ROOTS + 2 * limits::LOOM_VOTES;
+
+// The links of an index of a packet's section: its roots, and two for each entry, or one where there are more than 8,192. Those of the longest.
+const PACKET_ROOTS: usize = 16384;
+
+pub const PACKET_LINKS: usize = PACKET_ROOTS + 65535;
 
 // What an index goes by: four words, of which d is the upper half of a number.
 pub struct Key {
@@ -41,13 +45,17 @@ pub struct Key {
     pub d: u64,
 }
 
-// What is indexed, and by what: the rows of a table, or the entries of a packet.
+// What is indexed of a table, and by what.
 pub enum Kind {
     Blocks,
     Votes,
     // by voter and slot: the whole store, or those in view apart from those that wait
     Slots,
     View,
+}
+
+// Which entries of a packet.
+pub enum Section {
     PacketBlocks,
     PacketVotes,
 }
@@ -102,40 +110,6 @@ fn same_key(x: Key, y: Key) -> bool
     false
 }
 
-// ---- probes
-
-// The first probe of a key.
-fn first(key: Key) -> Probes
-    ensures { λ r. ⌜ r ≡ firstOf key ⌝ }
-{
-    let low = key.a % 4294967296
-        + key.b % 4294967296 * 64
-        + key.c % 4294967296
-        + key.d % 4294967296;
-    Probes {
-        start: low % 4294967296 * 2654435769 % 4294967296 * 4294967296,
-        step: 0,
-    }
-}
-
-// The probe after another.
-fn next(key: Key, probe: Probes) -> Probes
-    ensures { λ r. ⌜ r ≡ nextOf key probe ⌝ }
-{
-    if probe.step == 0 {
-        return mixing::mixed(key.a, key.b, key.c, key.d);
-    }
-    mixing::stepped(probe)
-}
-
-// The cell of a probe, among so many.
-fn cell(size: usize, probe: Probes) -> usize
-    requires { ⌜ (0 < size) × (size < 4294967296) ⌝ }
-    ensures { λ r. ⌜ (r ≡ cellOf size probe) × (r < size) ⌝ }
-{
-    (probe.start / 4294967296 * (size as u64) / 4294967296) as usize
-}
-
 // ---- rows
 
 // Where a row of the kind has its key.
@@ -151,23 +125,7 @@ fn offsets_of(kind: Kind) -> Offsets
             d: 1,
             wide: true,
         },
-        Kind::PacketBlocks => Offsets {
-            words: 6,
-            a: 0,
-            b: 0,
-            c: 0,
-            d: 1,
-            wide: true,
-        },
         Kind::Votes => Offsets {
-            words: 5,
-            a: 2,
-            b: 1,
-            c: 0,
-            d: 3,
-            wide: true,
-        },
-        Kind::PacketVotes => Offsets {
             words: 5,
             a: 2,
             b: 1,
@@ -224,211 +182,134 @@ fn row_key(kind: Kind, words: &[u64], j: usize) -> Key
     }
 }
 
-// The key of entry i of a packet.
-fn packet_key(kind: Kind, bytes: &[u8], i: usize) -> Key
-    requires { ⌜ InPacket kind (now bytes) i ⌝ }
-    ensures { λ r. ⌜ r ≡ packetKey kind (now (bytes .entry)) i ⌝ }
+// The same by the entry that stands there.
+fn key_at(kind: Kind, words: &[u64], j: usize) -> Key
+    requires { ⌜ Readable kind (now words) (j + 1) ⌝ }
+    ensures { λ r. ⌜ r ≡ keyAt kind (now (words .entry)) j ⌝ }
 {
-    match kind {
-        Kind::PacketBlocks => {
+    row_key(kind, words, j)
+}
+
+// The key of entry i of a packet.
+fn entry_key(section: Section, bytes: &[u8], i: usize) -> Key
+    requires { ⌜ i < entriesIn section (now bytes) ⌝ }
+    ensures { λ r. ⌜ r ≡ entryKey section (now (bytes .entry)) i ⌝ }
+{
+    match section {
+        Section::PacketBlocks => {
             let block = packets::block_at(bytes, i);
             number_key(block.number)
         }
-        Kind::PacketVotes => {
+        Section::PacketVotes => {
             let vote = packets::vote_at(bytes, i);
             vote_key(vote)
         }
-        Kind::Blocks => Key {
-            a: 0,
-            b: 0,
-            c: 0,
-            d: 0,
-        },
-        Kind::Votes => Key {
-            a: 0,
-            b: 0,
-            c: 0,
-            d: 0,
-        },
-        Kind::Slots => Key {
-            a: 0,
-            b: 0,
-            c: 0,
-            d: 0,
-        },
-        Kind::View => Key {
-            a: 0,
-            b: 0,
-            c: 0,
-            d: 0,
-        },
     }
 }
 
-// Whether the rows are those of a table.
-fn in_table(kind: Kind) -> bool
-    ensures { λ r. ⌜ r ≡ inTable kind ⌝ }
+// ---- the index of a table
+
+// The root of a key.
+fn root(key: Key) -> usize
+    ensures { λ r. ⌜ (r ≡ lowRoot key) × (r < 8192) ⌝ }
 {
-    match kind {
-        Kind::PacketBlocks => false,
-        Kind::PacketVotes => false,
-        Kind::Blocks => true,
-        Kind::Votes => true,
-        Kind::Slots => true,
-        Kind::View => true,
-    }
+    let slot = key.b % 128 * 64 + key.b / 128 % 1024 * 8;
+    ((slot + key.c % 8192 + key.d % 8192) % 8192) as usize
 }
 
-// The key of row j.
-fn key_at(kind: Kind, words: &[u64], bytes: &[u8], j: usize) -> Key
-    requires { ⌜ Readable kind (now words) (now bytes) (j + 1) ⌝ }
-    ensures { λ r. ⌜ r ≡ keyAt kind (now (words .entry)) (now (bytes .entry)) j ⌝ }
+// The descent for a key from its root, where a link stands, among the first n rows. The cost is one step for each row that it meets. It is apart from
+// the look at the root, so that this is compiled anew wherever it is asked for: honest entries seldom come here.
+fn descend(
+    kind: Kind,
+    words: &[u64],
+    n: usize,
+    links: &[u16],
+    key: Key,
+    from: usize,
+    first: usize,
+) -> Spot
+    requires { ⌜ Readable kind (now words) n × IndexOf kind (now words) n (now links)
+        × Descent tableShape (keyAt kind (now words)) n (now links) key from (mixOf 0 key) first ⌝ }
+    ensures { λ r. ⌜ Sought tableShape (keyAt kind (now (words .entry))) n (now (links .entry)) key (r .at) (r .link) ⌝ }
 {
-    if in_table(kind) {
-        return row_key(kind, words, j);
-    }
-    packet_key(kind, bytes, j)
-}
-
-// ---- the index
-
-// One more than the first row that has the key among the first n, or 0, with no index. The cost is a step for each row.
-fn search(kind: Kind, words: &[u64], bytes: &[u8], n: usize, key: Key) -> usize
-    requires { ⌜ Readable kind (now words) (now bytes) n ⌝ }
-    ensures { λ r. ⌜ Points (keyAt kind (now (words .entry)) (now (bytes .entry))) n key r ⌝ }
-{
-    let mut j: usize = 0;
-    while j < n {
-        let met = key_at(kind, words, bytes, j);
+    let mut at = from;
+    let mut link = first;
+    let mut digits = mixing::mixed(0, key.a, key.b, key.c, key.d);
+    while link != 0 {
+        let row = link - 1;
+        let met = key_at(kind, words, row);
         if same_key(met, key) {
-            return j + 1;
+            return Spot { at: at, link: link };
         }
-        j += 1;
+        at = ROOTS + 2 * row + (digits % 2) as usize;
+        digits = digits / 2;
+        link = search_tree::link_at(links, at);
     }
-    0
+    Spot { at: at, link: 0 }
 }
 
-// The walk for a key after its first probe, among the first n rows. The cost is one step for each probe.
-fn walk_on(kind: Kind, words: &[u64], bytes: &[u8], n: usize, links: &[u16], key: Key) -> Spot
-    requires { ⌜ Readable kind (now words) (now bytes) n × IndexFor key kind (now words) (now bytes) n (now links)
-        × Walk probing (keyAt kind (now words) (now bytes)) n (now links) key 511 (nextOf key (firstOf key)) ⌝ }
-    ensures { λ r. ⌜ Sought probing (keyAt kind (now (words .entry)) (now (bytes .entry))) n (now (links .entry)) key (r .at) (r .link) (r .vacant) ⌝ }
+// One more than the first row that has the key among the first n, or 0. The cost is a descent.
+fn find(kind: Kind, words: &[u64], n: usize, links: &[u16], key: Key) -> usize
+    requires { ⌜ Readable kind (now words) n × IndexOf kind (now words) n (now links) ⌝ }
+    ensures { λ r. ⌜ Points (keyAt kind (now (words .entry))) n key r ⌝ }
 {
-    let size = links.len();
-    let begin = first(key);
-    let mut probe = next(key, begin);
-    let mut left: usize = PROBES - 1;
-    while left != 0 {
-        let at = cell(size, probe);
-        let link = hash_table::link_at(links, at);
-        if link == 0 {
-            return Spot {
-                at: at,
-                link: 0,
-                vacant: true,
-            };
-        }
-        let met = key_at(kind, words, bytes, link - 1);
-        if same_key(met, key) {
-            return Spot {
-                at: at,
-                link: link,
-                vacant: false,
-            };
-        }
-        probe = next(key, probe);
-        left -= 1;
-    }
-    let link = search(kind, words, bytes, n, key);
-    Spot {
-        at: 0,
-        link: link,
-        vacant: false,
-    }
-}
-
-// The first probe of a key, among the first n rows: a free cell, a row with the key, or neither, and then the walk goes on. It is apart, so that the
-// compiler makes it anew for each kind: honest entries seldom take another probe.
-fn first_spot(kind: Kind, words: &[u64], bytes: &[u8], n: usize, links: &[u16], key: Key) -> Spot
-    requires { ⌜ Readable kind (now words) (now bytes) n × IndexFor key kind (now words) (now bytes) n (now links) ⌝ }
-    ensures { λ r. ⌜ Probed (keyAt kind (now (words .entry)) (now (bytes .entry))) n (now (links .entry)) key r ⌝ }
-{
-    let begin = first(key);
-    let at = cell(links.len(), begin);
-    let link = hash_table::link_at(links, at);
+    let at = root(key);
+    let link = search_tree::link_at(links, at);
     if link == 0 {
-        return Spot {
-            at: at,
-            link: 0,
-            vacant: true,
-        };
+        return 0;
     }
-    let met = key_at(kind, words, bytes, link - 1);
+    let met = key_at(kind, words, link - 1);
     if same_key(met, key) {
-        return Spot {
-            at: at,
-            link: link,
-            vacant: false,
-        };
+        return link;
     }
-    Spot {
-        at: at,
-        link: 0,
-        vacant: false,
-    }
+    let spot = descend(kind, words, n, links, key, at, link);
+    spot.link
 }
 
-// One more than the first row that has the key among the first n, or 0. The cost is a walk.
-fn find(kind: Kind, words: &[u64], bytes: &[u8], n: usize, links: &[u16], key: Key) -> usize
-    requires { ⌜ Readable kind (now words) (now bytes) n × IndexFor key kind (now words) (now bytes) n (now links) ⌝ }
-    ensures { λ r. ⌜ Points (keyAt kind (now (words .entry)) (now (bytes .entry))) n key r ⌝ }
+// Row n, which has this key, joins those before it, where a link stands at its root; the answer is one more than the first of these that has the key,
+// or 0. The cost is a descent.
+fn add_below(
+    kind: Kind,
+    words: &[u64],
+    n: usize,
+    links: &mut [u16],
+    key: Key,
+    from: usize,
+    first: usize,
+) -> usize
+    requires { ⌜ Readable kind (now words) n × TableRoom (n + 1) (now links) × IndexOf kind (now words) n (now links)
+        × Descent tableShape (keyAt kind (now words)) n (now links) key from (mixOf 0 key) first × (key ≡ keyAt kind (now words) n) ⌝ }
+    ensures { λ r. ⌜ Points (keyAt kind (now (words .entry))) n (keyAt kind (now (words .entry)) n) r
+        × IndexOf kind (now (words .entry)) (n + 1) (now (links .exit)) ⌝ }
 {
-    let spot = first_spot(kind, words, bytes, n, links, key);
-    if spot.vacant {
-        return 0;
+    let spot = descend(kind, words, n, links, key, from, first);
+    let link = spot.link;
+    if link == 0 {
+        search_tree::put_link(links, spot.at, n + 1);
     }
-    if spot.link != 0 {
-        return spot.link;
-    }
-    let later = walk_on(kind, words, bytes, n, links, key);
-    later.link
+    link
 }
 
-// Row n, which has this key, joins those before it; the answer is one more than the first of these that has the key, or 0. The cost is a walk.
-fn add_key(kind: Kind, words: &[u64], bytes: &[u8], n: usize, links: &mut [u16], key: Key) -> usize
-    requires { ⌜ Readable kind (now words) (now bytes) n × Room (n + 1) (now links) × IndexFor key kind (now words) (now bytes) n (now links)
-        × (key ≡ keyAt kind (now words) (now bytes) n) ⌝ }
-    ensures { λ r. ⌜ Added (keyAt kind (now (words .entry)) (now (bytes .entry))) n (now (links .entry)) (now (links .exit)) r ⌝ }
-{
-    let spot = first_spot(kind, words, bytes, n, links, key);
-    if spot.vacant {
-        hash_table::put_link(links, spot.at, n + 1);
-        return 0;
-    }
-    if spot.link != 0 {
-        return spot.link;
-    }
-    let later = walk_on(kind, words, bytes, n, links, key);
-    if later.vacant {
-        hash_table::put_link(links, later.at, n + 1);
-    }
-    later.link
-}
-
-// The same for a row of a table, with the key that is read there.
+// Row n joins those before it; the answer is one more than the first of these that has its key, or 0. The cost is a descent.
 fn add(kind: Kind, words: &[u64], n: usize, links: &mut [u16]) -> usize
-    requires { ⌜ Readable kind (now words) [] (n + 1) × Room (n + 1) (now links) × IndexOf kind (now words) [] n (now links) ⌝ }
-    ensures { λ r. ⌜ Points (keyAt kind (now (words .entry)) []) n (keyAt kind (now (words .entry)) [] n) r
-        × IndexOf kind (now (words .entry)) [] (n + 1) (now (links .exit)) ⌝ }
+    requires { ⌜ Readable kind (now words) (n + 1) × TableRoom (n + 1) (now links) × IndexOf kind (now words) n (now links) ⌝ }
+    ensures { λ r. ⌜ Points (keyAt kind (now (words .entry))) n (keyAt kind (now (words .entry)) n) r
+        × IndexOf kind (now (words .entry)) (n + 1) (now (links .exit)) ⌝ }
 {
-    let key = key_at(kind, words, b"", n);
-    add_key(kind, words, b"", n, links, key)
+    let key = key_at(kind, words, n);
+    let at = root(key);
+    let link = search_tree::link_at(links, at);
+    if link == 0 {
+        search_tree::put_link(links, at, n + 1);
+        return 0;
+    }
+    add_below(kind, words, n, links, key, at, link)
 }
 
-// The index of the first n rows of a table, in links that are all free; and whether their keys differ. The cost is a walk for each row.
+// The index of the first n rows of a table, in links that are all free; and whether their keys differ. The cost is a lookup for each row.
 fn build(kind: Kind, words: &[u64], n: usize, links: &mut [u16]) -> bool
-    requires { ⌜ Readable kind (now words) [] n × Room n (now links) × Blank (now links) ⌝ }
-    ensures { λ r. ⌜ (r ≡ keysDiffer (keyAt kind (now (words .entry)) []) n) × IndexOf kind (now (words .entry)) [] n (now (links .exit)) ⌝ }
+    requires { ⌜ Readable kind (now words) n × TableRoom n (now links) × Blank (now links) ⌝ }
+    ensures { λ r. ⌜ (r ≡ keysDiffer (keyAt kind (now (words .entry))) n) × IndexOf kind (now (words .entry)) n (now (links .exit)) ⌝ }
 {
     let mut differ = true;
     let mut i: usize = 0;
@@ -441,47 +322,45 @@ fn build(kind: Kind, words: &[u64], n: usize, links: &mut [u16]) -> bool
     differ
 }
 
-// ---- of a table
-
-// The index of the first `used` blocks, in links that are all free; and whether they differ. The cost is a walk for each row.
+// The index of the first `used` blocks, in links that are all free; and whether they differ. The cost is a lookup for each row.
 pub fn build_blocks(blocks: &[u64], used: usize, links: &mut [u16]) -> bool
-    requires { ⌜ BlocksFit used (now blocks) × Room used (now links) × Blank (now links) ⌝ }
+    requires { ⌜ BlocksFit used (now blocks) × TableRoom used (now links) × Blank (now links) ⌝ }
     ensures { λ r. ⌜ (r ≡ numbersDiffer (rowsOf makeBlock (now (blocks .entry)) used))
         × BlockIndex (now (blocks .entry)) used (now (links .exit)) ⌝ }
 {
     build(Kind::Blocks, blocks, used, links)
 }
 
-// The index of the first `used` votes, in links that are all free; and whether they differ. The cost is a walk for each row.
+// The index of the first `used` votes, in links that are all free; and whether they differ. The cost is a lookup for each row.
 pub fn build_votes(votes: &[u64], used: usize, links: &mut [u16]) -> bool
-    requires { ⌜ VotesFit used (now votes) × Room used (now links) × Blank (now links) ⌝ }
+    requires { ⌜ VotesFit used (now votes) × TableRoom used (now links) × Blank (now links) ⌝ }
     ensures { λ r. ⌜ (r ≡ votesDiffer (rowsOf makeVote (now (votes .entry)) used))
         × VoteIndex (now (votes .entry)) used (now (links .exit)) ⌝ }
 {
     build(Kind::Votes, votes, used, links)
 }
 
-// One more than the row of the first block with the number among the first n, or 0. The cost is a walk.
+// One more than the row of the first block with the number among the first n, or 0. The cost is a lookup.
 pub fn link(blocks: &[u64], n: usize, links: &[u16], number: Number) -> usize
     requires { ⌜ BlocksFit n (now blocks) × BlockIndex (now blocks) n (now links) ⌝ }
     ensures { λ r. ⌜ r ≡ linkToNumber (rowsOf makeBlock (now (blocks .entry)) n) (value number) ⌝ }
 {
     let key = number_key(number);
-    find(Kind::Blocks, blocks, b"", n, links, key)
+    find(Kind::Blocks, blocks, n, links, key)
 }
 
-// Row n joins the index of the blocks before it. The cost is a walk.
+// Row n joins the index of the blocks before it. The cost is a lookup.
 pub fn add_block(blocks: &[u64], n: usize, links: &mut [u16])
-    requires { ⌜ BlocksFit (n + 1) (now blocks) × Room (n + 1) (now links) × BlockIndex (now blocks) n (now links) ⌝ }
+    requires { ⌜ BlocksFit (n + 1) (now blocks) × TableRoom (n + 1) (now links) × BlockIndex (now blocks) n (now links) ⌝ }
     ensures { λ r. ⌜ BlockIndex (now (blocks .entry)) (n + 1) (now (links .exit)) ⌝ }
 {
     add(Kind::Blocks, blocks, n, links);
 }
 
 // Row n joins the index by voter and slot of the rows before it; the answer is one more than the row of the first of these with its voter
-// and slot, or 0. Of the view, rows that wait are kept apart. The cost is a walk.
+// and slot, or 0. Of the view, rows that wait are kept apart. The cost is a lookup.
 pub fn slot_add(votes: &[u64], n: usize, whole: bool, links: &mut [u16]) -> usize
-    requires { ⌜ VotesFit (n + 1) (now votes) × Room (n + 1) (now links) × SlotIndex whole (now votes) n (now links) ⌝ }
+    requires { ⌜ VotesFit (n + 1) (now votes) × TableRoom (n + 1) (now links) × SlotIndex whole (now votes) n (now links) ⌝ }
     ensures { λ r. ⌜ Points (slotKey whole (now (votes .entry))) n (slotKey whole (now (votes .entry)) n) r
         × SlotIndex whole (now (votes .entry)) (n + 1) (now (links .exit)) ⌝ }
 {
@@ -489,6 +368,122 @@ pub fn slot_add(votes: &[u64], n: usize, whole: bool, links: &mut [u16]) -> usiz
         return add(Kind::Slots, votes, n, links);
     }
     add(Kind::View, votes, n, links)
+}
+
+// ---- the index of a packet's blocks, or of its votes
+
+// How many links an index of so many entries has.
+pub fn packet_span(salt: u64, count: usize) -> usize
+    requires { ⌜ (count ≤ 65535) × (salt ≡ 0 → count ≤ 8192) ⌝ }
+    ensures { λ r. ⌜ (r ≡ linksOf (packetShape salt) count) × (r ≤ 81919) ⌝ }
+{
+    if salt == 0 {
+        return PACKET_ROOTS + 2 * count;
+    }
+    PACKET_ROOTS + count
+}
+
+// The root of a key.
+fn entry_root(salt: u64, key: Key) -> usize
+    ensures { λ r. ⌜ (r ≡ packetShape salt .root key) × (r < 16384) ⌝ }
+{
+    if salt == 0 {
+        return root(key);
+    }
+    (mixing::mixed(salt, key.a, key.b, key.c, key.d) % 16384) as usize
+}
+
+// The digits of a key.
+fn entry_digits(salt: u64, key: Key) -> u64
+    ensures { λ r. ⌜ r ≡ packetShape salt .first key ⌝ }
+{
+    if salt == 0 {
+        return mixing::mixed(0, key.a, key.b, key.c, key.d);
+    }
+    0
+}
+
+// The link by which a descent goes on from an entry.
+fn entry_child(salt: u64, i: usize, digits: u64) -> usize
+    requires { ⌜ linksOf (packetShape salt) (i + 1) < 18446744073709551616 ⌝ }
+    ensures { λ r. ⌜ r ≡ child (packetShape salt) i digits ⌝ }
+{
+    if salt == 0 {
+        return PACKET_ROOTS + 2 * i + (digits % 2) as usize;
+    }
+    PACKET_ROOTS + i
+}
+
+// The descent for a key from its root, where a link stands, among the first n entries. The cost is one step for each entry that it meets.
+fn descend_entries(
+    section: Section,
+    bytes: &[u8],
+    n: usize,
+    links: &[u16],
+    salt: u64,
+    key: Key,
+    from: usize,
+    first: usize,
+) -> Spot
+    requires { ⌜ (n ≤ entriesIn section (now bytes)) × IndexFor key section salt (now bytes) n (now links)
+        × Descent (packetShape salt) (entryKey section (now bytes)) n (now links) key from (packetShape salt .first key) first ⌝ }
+    ensures { λ r. ⌜ Sought (packetShape salt) (entryKey section (now (bytes .entry))) n (now (links .entry)) key (r .at) (r .link) ⌝ }
+{
+    let mut at = from;
+    let mut link = first;
+    let mut digits = entry_digits(salt, key);
+    while link != 0 {
+        let i = link - 1;
+        let met = entry_key(section, bytes, i);
+        if same_key(met, key) {
+            return Spot { at: at, link: link };
+        }
+        at = entry_child(salt, i, digits);
+        digits = digits / 2;
+        link = search_tree::link_at(links, at);
+    }
+    Spot { at: at, link: 0 }
+}
+
+// One more than the first entry that has the key among the first n, or 0. The cost is a descent.
+fn find_entry(section: Section, bytes: &[u8], n: usize, links: &[u16], salt: u64, key: Key) -> usize
+    requires { ⌜ (n ≤ entriesIn section (now bytes)) × IndexFor key section salt (now bytes) n (now links) ⌝ }
+    ensures { λ r. ⌜ Points (entryKey section (now (bytes .entry))) n key r ⌝ }
+{
+    let at = entry_root(salt, key);
+    let link = search_tree::link_at(links, at);
+    if link == 0 {
+        return 0;
+    }
+    let spot = descend_entries(section, bytes, n, links, salt, key, at, link);
+    spot.link
+}
+
+// Entry n, which has this key, joins those before it; the answer is one more than the first of these that has the key, or 0. The cost is a descent.
+fn add_entry(
+    section: Section,
+    bytes: &[u8],
+    n: usize,
+    links: &mut [u16],
+    salt: u64,
+    key: Key,
+) -> usize
+    requires { ⌜ (n ≤ entriesIn section (now bytes)) × PacketRoom salt (n + 1) (now links) × IndexFor key section salt (now bytes) n (now links)
+        × (key ≡ entryKey section (now bytes) n) ⌝ }
+    ensures { λ r. ⌜ Added (packetShape salt) (entryKey section (now (bytes .entry))) n (now (links .entry)) (now (links .exit)) r ⌝ }
+{
+    let at = entry_root(salt, key);
+    let link = search_tree::link_at(links, at);
+    if link == 0 {
+        search_tree::put_link(links, at, n + 1);
+        return 0;
+    }
+    let spot = descend_entries(section, bytes, n, links, salt, key, at, link);
+    let found = spot.link;
+    if found == 0 {
+        search_tree::put_link(links, spot.at, n + 1);
+    }
+    found
 }
 
 // ---- of a table and then a packet
@@ -505,7 +500,7 @@ pub fn block_at(blocks: &[u64], used: usize, bytes: &[u8], j: usize) -> Block
     packets::block_at(bytes, j - used)
 }
 
-// One more than the first row that has the number among the table's and the packet's first i, or 0. The cost is two walks.
+// One more than the first row that has the number among the table's and the packet's first i, or 0. The cost is two lookups.
 pub fn known_block(
     blocks: &[u64],
     used: usize,
@@ -513,18 +508,19 @@ pub fn known_block(
     i: usize,
     links: &[u16],
     packet_links: &[u16],
+    salt: u64,
     number: Number,
 ) -> usize
     requires { ⌜ BlocksFit used (now blocks) × (i ≤ length (packetOf (now bytes) .blocks)) × (i ≤ 65535)
-        × BlocksIndexed (now blocks) used (now bytes) i (now links) (now «packet_links») ⌝ }
+        × BlocksIndexed salt (now blocks) used (now bytes) i (now links) (now «packet_links») ⌝ }
     ensures { λ r. ⌜ Points (blockKeys (now (blocks .entry)) used (now (bytes .entry))) (used + i) (numberKey (value number)) r ⌝ }
 {
     let key = number_key(number);
-    let link = find(Kind::Blocks, blocks, b"", used, links, key);
+    let link = find(Kind::Blocks, blocks, used, links, key);
     if link != 0 {
         return link;
     }
-    let later = find(Kind::PacketBlocks, blocks, bytes, i, packet_links, key);
+    let later = find_entry(Section::PacketBlocks, bytes, i, packet_links, salt, key);
     behind(used, later)
 }
 
@@ -540,7 +536,7 @@ fn behind(used: usize, link: usize) -> usize
 }
 
 // Block i of the packet, which has this number, joins those before it; the answer is one more than the first row that has the number among the
-// table's and the packet's first i, or 0. The cost is two walks.
+// table's and the packet's first i, or 0. The cost is two lookups.
 pub fn join_block(
     blocks: &[u64],
     used: usize,
@@ -548,20 +544,21 @@ pub fn join_block(
     i: usize,
     links: &[u16],
     packet_links: &mut [u16],
+    salt: u64,
     number: Number,
 ) -> usize
-    requires { ⌜ BlocksFit used (now blocks) × (i < length (packetOf (now bytes) .blocks)) × Room (i + 1) (now «packet_links»)
-        × BlocksIndexed (now blocks) used (now bytes) i (now links) (now «packet_links»)
+    requires { ⌜ BlocksFit used (now blocks) × (i < length (packetOf (now bytes) .blocks)) × PacketRoom salt (i + 1) (now «packet_links»)
+        × BlocksIndexed salt (now blocks) used (now bytes) i (now links) (now «packet_links»)
         × (value number ≡ getD (packetOf (now bytes) .blocks) i genesis .number) ⌝ }
     ensures { λ r. ⌜ Points (blockKeys (now (blocks .entry)) used (now (bytes .entry))) (used + i) (blockKeys (now (blocks .entry)) used (now (bytes .entry)) (used + i)) r
-        × BlocksIndexed (now (blocks .entry)) used (now (bytes .entry)) (i + 1) (now (links .entry)) (now («packet_links» .exit)) ⌝ }
+        × BlocksIndexed salt (now (blocks .entry)) used (now (bytes .entry)) (i + 1) (now (links .entry)) (now («packet_links» .exit)) ⌝ }
 {
     let key = number_key(number);
-    let link = find(Kind::Blocks, blocks, b"", used, links, key);
+    let link = find(Kind::Blocks, blocks, used, links, key);
     if link != 0 {
         return link;
     }
-    let later = add_key(Kind::PacketBlocks, blocks, bytes, i, packet_links, key);
+    let later = add_entry(Section::PacketBlocks, bytes, i, packet_links, salt, key);
     behind(used, later)
 }
 
@@ -573,20 +570,21 @@ pub fn join_vote(
     i: usize,
     links: &[u16],
     packet_links: &mut [u16],
+    salt: u64,
     vote: Vote,
 ) -> usize
-    requires { ⌜ VotesFit used (now votes) × (i < length (packetOf (now bytes) .votes)) × Room (i + 1) (now «packet_links»)
-        × VotesIndexed (now votes) used (now bytes) i (now links) (now «packet_links»)
+    requires { ⌜ VotesFit used (now votes) × (i < length (packetOf (now bytes) .votes)) × PacketRoom salt (i + 1) (now «packet_links»)
+        × VotesIndexed salt (now votes) used (now bytes) i (now links) (now «packet_links»)
         × (voteOf vote ≡ getD (packetOf (now bytes) .votes) i noVote) ⌝ }
     ensures { λ r. ⌜ Points (voteKeys (now (votes .entry)) used (now (bytes .entry))) (used + i) (voteKeys (now (votes .entry)) used (now (bytes .entry)) (used + i)) r
-        × VotesIndexed (now (votes .entry)) used (now (bytes .entry)) (i + 1) (now (links .entry)) (now («packet_links» .exit)) ⌝ }
+        × VotesIndexed salt (now (votes .entry)) used (now (bytes .entry)) (i + 1) (now (links .entry)) (now («packet_links» .exit)) ⌝ }
 {
     let key = vote_key(vote);
-    let link = find(Kind::Votes, votes, b"", used, links, key);
+    let link = find(Kind::Votes, votes, used, links, key);
     if link != 0 {
         return link;
     }
-    let later = add_key(Kind::PacketVotes, votes, bytes, i, packet_links, key);
+    let later = add_entry(Section::PacketVotes, bytes, i, packet_links, salt, key);
     behind(used, later)
 }
 

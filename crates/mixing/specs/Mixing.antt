@@ -1,7 +1,6 @@
--- Four words mixed by four rounds of SipHash, with its constants. Assumes nothing.
+-- Four words mixed with a salt by four rounds of SipHash, with its constants. Assumes nothing.
 use Prim.Native.Nat.{ℕ, _+_, _-_, _*_, _/_, _%_, _^_}
 use lib.Bits.{bitOr, bitXor}
-use Rattle.mixing.specs.declared.Probes.{Probes}
 use Rattle.mixing.specs.declared.Words.{Words}
 
 -- a word turned to the left by k bits
@@ -21,23 +20,15 @@ stir w =
     let b = bitXor (rotated 17 f) t in
     record { a = a; b = b; c = rotated 32 t; d = d }
 
--- what the rounds start from
-unfoldable pub seeded : ℕ → ℕ → ℕ → ℕ → Words
-seeded a b c d =
+-- what the rounds start from: the key's words, with a salt
+unfoldable pub seeded : ℕ → ℕ → ℕ → ℕ → ℕ → Words
+seeded salt a b c d =
     record {
-      a = bitXor a 8317987319222330741;
+      a = bitXor (bitXor a salt) 8317987319222330741;
       b = bitXor b 7237128888997146477;
-      c = bitXor c 7816392313619706465;
+      c = bitXor (bitXor c salt) 7816392313619706465;
       d = bitXor d 8387220255154660723;
     }
 
--- the first probe, and what the next ones go on by
-unfoldable pub probesOf : Words → Probes
-probesOf w = record { start = bitXor (w .a) (w .c); step = bitXor (w .b) (w .d) / 2 * 2 + 1 }
-
--- the next probe: a step on, and the step is turned and moved on too, so that no step leads back to cells soon
-unfoldable pub further : Probes → Probes
-further p = let e = (p .start + p .step) % 2 ^ 64 in record { start = e; step = (rotated 21 (p .step) + e) % 2 ^ 64 }
-
-unfoldable pub mix : ℕ → ℕ → ℕ → ℕ → Probes
-mix a b c d = probesOf (stir (stir (stir (stir (seeded a b c d)))))
+unfoldable pub mix : ℕ → ℕ → ℕ → ℕ → ℕ → ℕ
+mix salt a b c d = let w = stir (stir (stir (stir (seeded salt a b c d)))) in bitXor (w .a) (w .c)

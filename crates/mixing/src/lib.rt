@@ -1,13 +1,8 @@
-// Four words mixed into the probes of a hash table: four rounds of SipHash, with its constants. There is no secret in it. Each round can be undone, so
-// who chooses all four words can compute keys whose probes meet; of our keys nobody chooses more than two.
+// Four words mixed by four rounds of SipHash, with its constants and a salt. There is no secret in it. A packet's salt is made from all of its bytes, so
+// whoever writes a packet learns how its keys are mixed when it is whole, and with every change of it they are mixed in another way.
 ghost use mathlib.Core.Path.{_≡_};
-ghost use Rattle.mixing.specs.Mixing.{rotated, stir, further, mix};
-
-// Where a probe is, and what the next ones go on by.
-pub struct Probes {
-    pub start: u64,
-    pub step: u64,
-}
+ghost use Prim.Native.Nat.{_<_};
+ghost use Rattle.mixing.specs.Mixing.{rotated, stir, mix};
 
 // What a round works on.
 struct Words {
@@ -69,31 +64,55 @@ fn stirred(w: Words) -> Words
     }
 }
 
-// The probes of a key's four words. The step is odd.
-pub fn mixed(a: u64, b: u64, c: u64, d: u64) -> Probes
-    ensures { λ r. ⌜ r ≡ mix a b c d ⌝ }
+// A key's four words, mixed with a salt.
+pub fn mixed(salt: u64, a: u64, b: u64, c: u64, d: u64) -> u64
+    ensures { λ r. ⌜ r ≡ mix salt a b c d ⌝ }
 {
     let w = Words {
-        a: a ^ 8317987319222330741,
+        a: a ^ salt ^ 8317987319222330741,
         b: b ^ 7237128888997146477,
-        c: c ^ 7816392313619706465,
+        c: c ^ salt ^ 7816392313619706465,
         d: d ^ 8387220255154660723,
     };
     let v = stirred(stirred(stirred(stirred(w))));
-    Probes {
-        start: v.a ^ v.c,
-        step: (v.b ^ v.d) / 2 * 2 + 1,
+    v.a ^ v.c
+}
+
+// One more word taken in, as SipHash does.
+fn absorbed(w: Words, word: u64) -> Words {
+    let v = stirred(Words {
+        a: w.a,
+        b: w.b,
+        c: w.c,
+        d: w.d ^ word,
+    });
+    Words {
+        a: v.a ^ word,
+        b: v.b,
+        c: v.c,
+        d: v.d,
     }
 }
 
-// The next probe.
-pub fn stepped(probe: Probes) -> Probes
-    ensures { λ r. ⌜ r ≡ further probe ⌝ }
+// A salt for the keys of a packet, made from all of its bytes. The cost is one round for every eight bytes. It is not 0; no
+// promise rests on more.
+pub fn salt_of(bytes: &[u8]) -> u64
+    ensures { λ r. ⌜ 0 < r ⌝ }
 {
-    let start = std::num::wrapping_add_u64(probe.start, probe.step);
-    let step = std::num::wrapping_add_u64(turned_21(probe.step), start);
-    Probes {
-        start: start,
-        step: step,
+    let mut w = Words {
+        a: 8317987319222330741,
+        b: 7237128888997146477,
+        c: 7816392313619706465,
+        d: 8387220255154660723,
+    };
+    let count = bytes.len() / 8;
+    let mut i: usize = 0;
+    while i < count {
+        let word = packets::number_at(bytes, 8 * i, 8);
+        w = absorbed(w, word);
+        i += 1;
     }
+    let rest = packets::number_at(bytes, 8 * count, 8);
+    let v = stirred(stirred(stirred(stirred(absorbed(w, rest)))));
+    (v.a ^ v.b ^ v.c ^ v.d) % 9223372036854775808 + 1
 }

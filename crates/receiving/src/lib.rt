@@ -1,7 +1,7 @@
 // A packet that was accepted is received: its new entries are stored, and those of a slot's first proposal come into view
 // with all that they stand on. Which entries are new, and which rows the packet names, was found when it was tested, and is in the set `firsts`.
-// So storing costs one step for each entry of the packet, and coming into view one for each row; for blocks the rows are then indexed, a walk
-// for each, and the parents of those in view looked up, a walk for each.
+// So storing costs one step for each entry of the packet, and coming into view one for each row; for blocks the rows are then indexed, a lookup
+// for each, and the parents of those in view looked up, a lookup for each.
 // Stack: 16 KiB of links for the blocks of a packet that comes into view, else less than 1 KB.
 use protocol::Clock;
 ghost use mathlib.Core.Bool.{true};
@@ -53,7 +53,7 @@ fn view_stood_on(blocks: &mut [u64], before: usize, used: usize, bytes: &[u8], f
 
 // The blocks of an accepted packet, which comes into view or not. The set holds the rows of blocks that are new and of rows that the packet
 // names, and there are at most 2,048 rows afterwards. The cost is one step for each block of the packet, and if it comes into view one for each
-// row, a walk to index it, and a walk for each row in view.
+// row, a lookup to index it, and a lookup for each row in view.
 pub fn receive_blocks(
     blocks: &mut [u64],
     used: &mut usize,

@@ -15,8 +15,8 @@ use Rattle.protocol.proofs.Store.Views.{block-same}
 use Rattle.rows.proofs.Find.{known-any}
 use Rattle.rows.proofs.Views.{any-entries}
 use Rattle.ranges.specs.Rows.{blockInRange, voteInRange}
-use Rattle.hash_table.specs.Lists.{distinct}
-use Rattle.hash_table.proofs.Lists.{distinct-end}
+use Rattle.search_tree.specs.Lists.{distinct}
+use Rattle.search_tree.proofs.Lists.{distinct-end}
 use Rattle.index.specs.Links.{numbersDiffer, votesDiffer}
 use Rattle.soundness.specs.Parts.{parentSound, parentsSound, chainSound, votedSound, tablesSound}
 

@@ -2,7 +2,7 @@
 // Lengths and counts are tested first, so nothing is read outside the slices; then marks, voters and slots, in one pass over each
 // table. Then one pass over the blocks builds an index of their numbers, one looks each parent up and one each vote's block, and one
 // over the votes builds an index of them, by which no vote stands twice.
-// The whole test costs two walks for each block and two for each vote. Most numbers make a walk a probe or two, chosen ones three or four.
+// The whole test costs two lookups for each block and two for each vote. Honest entries meet a row or two in a lookup.
 // Stack: 16 KiB for the links of 2,048 blocks and 64 KiB for those of 8,192 votes.
 use protocol::Clock;
 use protocol::Number;
@@ -20,8 +20,8 @@ ghost use Rattle.protocol.specs.Chain.{genesis, known};
 ghost use Rattle.protocol.specs.Store.{entries, sameBlock};
 ghost use Rattle.protocol.specs.Lent.{BlocksFit, VotesFit, rowsOf, makeBlock, makeVote, lentSound};
 ghost use Rattle.rows.specs.Rows.{markedBlock, markedVote};
-ghost use Rattle.hash_table.specs.Table.{Blank};
-ghost use Rattle.index.specs.Index.{Room};
+ghost use Rattle.search_tree.specs.Tree.{Blank};
+ghost use Rattle.index.specs.Index.{TableRoom};
 ghost use Rattle.soundness.specs.Parts.{parentSound, chainSound, votedSound, tablesSound, Indexed, TablesIndexed};
 
 // Whether the number is a block's. The cost is one step for each block before it.
@@ -50,7 +50,7 @@ fn first_sound(row: BlockRow) -> bool
     false
 }
 
-// Whether the parent of row i stands before it with a lower slot, in view if the row is. The cost is a walk.
+// Whether the parent of row i stands before it with a lower slot, in view if the row is. The cost is a lookup.
 fn parent_sound(blocks: &[u64], used: usize, links: &[u16], i: usize, row: BlockRow) -> bool
     requires { ⌜ (i ≤ used) × Indexed (now blocks) used (now links) ⌝ }
     ensures { λ r. ⌜ r ≡ parentSound (rowsOf makeBlock (now (blocks .entry)) i) (markedBlock row) ⌝ }
@@ -72,7 +72,7 @@ fn parent_sound(blocks: &[u64], used: usize, links: &[u16], i: usize, row: Block
     true
 }
 
-// Whether block 0 stands first, in view, and each other block's parent is sound. The cost is a walk for each block.
+// Whether block 0 stands first, in view, and each other block's parent is sound. The cost is a lookup for each block.
 fn chain_sound(blocks: &[u64], used: usize, links: &[u16]) -> bool
     requires { ⌜ Indexed (now blocks) used (now links) ⌝ }
     ensures { λ r. ⌜ r ≡ chainSound (rowsOf makeBlock (now (blocks .entry)) used) ⌝ }
@@ -95,7 +95,7 @@ fn chain_sound(blocks: &[u64], used: usize, links: &[u16]) -> bool
     true
 }
 
-// Whether the vote's block is there with no later slot, in view if the vote is. The cost is a walk.
+// Whether the vote's block is there with no later slot, in view if the vote is. The cost is a lookup.
 fn voted_sound(blocks: &[u64], used: usize, links: &[u16], row: VoteRow) -> bool
     requires { ⌜ Indexed (now blocks) used (now links) ⌝ }
     ensures { λ r. ⌜ r ≡ votedSound (rowsOf makeBlock (now (blocks .entry)) used) (markedVote row) ⌝ }
@@ -114,7 +114,7 @@ fn voted_sound(blocks: &[u64], used: usize, links: &[u16], row: VoteRow) -> bool
     true
 }
 
-// Whether the block of each vote is sound. The cost is a walk for each vote.
+// Whether the block of each vote is sound. The cost is a lookup for each vote.
 fn all_voted_sound(
     blocks: &[u64],
     blocks_used: usize,
@@ -137,7 +137,7 @@ fn all_voted_sound(
 }
 
 // The rules that look at several rows; and the links, all free before, are indices of both tables if these keep them. The cost is two
-// walks for each row.
+// lookups for each row.
 fn tables_sound(
     blocks: &[u64],
     blocks_used: usize,
@@ -147,7 +147,7 @@ fn tables_sound(
     vote_links: &mut [u16],
 ) -> bool
     requires { ⌜ BlocksFit «blocks_used» (now blocks) × VotesFit «votes_used» (now votes)
-        × Room «blocks_used» (now «block_links») × Blank (now «block_links») × Room «votes_used» (now «vote_links») × Blank (now «vote_links») ⌝ }
+        × TableRoom «blocks_used» (now «block_links») × Blank (now «block_links») × TableRoom «votes_used» (now «vote_links») × Blank (now «vote_links») ⌝ }
     ensures { λ r. ⌜ (r ≡ tablesSound (rowsOf makeBlock (now (blocks .entry)) «blocks_used») (rowsOf makeVote (now (votes .entry)) «votes_used»))
         × (r ≡ true → TablesIndexed (now (blocks .entry)) «blocks_used» (now («block_links» .exit)) (now (votes .entry)) «votes_used» (now («vote_links» .exit))) ⌝ }
 {
@@ -174,7 +174,7 @@ pub fn sound_indexed(
     block_links: &mut [u16],
     vote_links: &mut [u16],
 ) -> bool
-    requires { ⌜ Room (loom .blocks) (now «block_links») × Blank (now «block_links») × Room (loom .votes) (now «vote_links») × Blank (now «vote_links») ⌝ }
+    requires { ⌜ TableRoom (loom .blocks) (now «block_links») × Blank (now «block_links») × TableRoom (loom .votes) (now «vote_links») × Blank (now «vote_links») ⌝ }
     ensures { λ r. ⌜ (r ≡ lentSound settings (record {
       blocks = now (blocks .entry);
       votes = now (votes .entry);

@@ -7,7 +7,7 @@ use Rattle.protocol.specs.Entry.{Block}
 use Rattle.protocol.specs.Store.{Marked}
 use Rattle.protocol.specs.Lent.{rowsOf, makeBlock}
 use Rattle.protocol.proofs.Lent.Rows.{length-rowsOf}
-use Rattle.hash_table.proofs.Lists.{link-within}
+use Rattle.search_tree.proofs.Lists.{link-within}
 use Rattle.index.specs.Links.{linkToNumber}
 use Rattle.subtree_voters.specs.BlockRows.{blockAt, rowIn, parentRow}
 

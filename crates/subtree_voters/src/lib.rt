@@ -10,13 +10,13 @@ ghost use Rattle.protocol.specs.Words.{value};
 ghost use Rattle.protocol.specs.Lent.{BlocksFit};
 ghost use Rattle.numbers.specs.NumberWords.{NumbersFit, numberIn};
 ghost use Rattle.masks.specs.Masks.{maskOf, bitOf, added};
-ghost use Rattle.hash_table.specs.Table.{Blank};
-ghost use Rattle.index.specs.Index.{Room};
+ghost use Rattle.search_tree.specs.Tree.{Blank};
+ghost use Rattle.index.specs.Index.{TableRoom};
 ghost use Rattle.index.specs.Links.{BlockIndex};
 ghost use Rattle.subtree_voters.specs.BlockRows.{rowIn, Parents};
 ghost use Rattle.subtree_voters.specs.Subtrees.{voted, Subtrees};
 
-// The row of block x among the first n rows; row 0 if none has that number. The cost is a walk.
+// The row of block x among the first n rows; row 0 if none has that number. The cost is a lookup.
 fn row_in(blocks: &[u64], n: usize, links: &[u16], x: Number) -> usize
     requires { ⌜ BlocksFit n (now blocks) × BlockIndex (now blocks) n (now links) ⌝ }
     ensures { λ r. ⌜ r ≡ rowIn (now (blocks .entry)) n (value x) ⌝ }
@@ -28,22 +28,22 @@ fn row_in(blocks: &[u64], n: usize, links: &[u16], x: Number) -> usize
     link - 1
 }
 
-// The row of each row's parent, each looked up once among the rows before it; and the index of all rows. The cost is two walks for each row.
+// The row of each row's parent, each looked up once among the rows before it; and the index of all rows. The cost is two lookups for each row.
 fn parent_rows(blocks: &[u64], used: usize, links: &mut [u16], parents: &mut [u16])
-    requires { ⌜ BlocksFit used (now blocks) × (used ≤ loom .blocks) × Room used (now links) × Blank (now links) × (length (now parents) ≡ loom .blocks) ⌝ }
+    requires { ⌜ BlocksFit used (now blocks) × (used ≤ loom .blocks) × TableRoom used (now links) × Blank (now links) × (length (now parents) ≡ loom .blocks) ⌝ }
     ensures { λ r. ⌜ BlockIndex (now (blocks .entry)) used (now (links .exit)) × Parents (now (blocks .entry)) used (now (parents .exit)) ⌝ }
 {
     let mut i: usize = 0;
     while i < used {
         let row = rows::block_at(blocks, i);
         let p = row_in(blocks, i, links, row.block.parent);
-        hash_table::put_link(parents, i, p);
+        search_tree::put_link(parents, i, p);
         index::add_block(blocks, i, links);
         i += 1;
     }
 }
 
-// Voter v is set at the row of its vote's block, if it has a vote. The cost is a walk.
+// Voter v is set at the row of its vote's block, if it has a vote. The cost is a lookup.
 fn add_voter(
     blocks: &[u64],
     used: usize,
@@ -93,12 +93,12 @@ fn hand_on(parents: &[u16], i: usize, masks: &mut [u64])
     ensures { λ r. ⌜ now (masks .exit) ≡ set (now (masks .entry)) (getD (now (parents .entry)) i 0)
         (bitOr (getD (now (masks .entry)) (getD (now (parents .entry)) i 0) 0) (getD (now (masks .entry)) i 0)) ⌝ }
 {
-    let p = hash_table::link_at(parents, i);
+    let p = search_tree::link_at(parents, i);
     masks[p] = masks[p] | masks[i];
 }
 
 // The voters of each subtree, in one pass from the last row to the first: a row has all its voters when it hands them to its parent's row.
-// The cost is two walks for each row, one for each voter with a vote, and one step for each row. Stack: 16 KiB for the links of 2,048 blocks.
+// The cost is two lookups for each row, one for each voter with a vote, and one step for each row. Stack: 16 KiB for the links of 2,048 blocks.
 pub fn supporters(
     blocks: &[u64],
     used: usize,

@@ -1,12 +1,12 @@
 // The verdict of each call: its tests in document 01's order, for any memory that a caller may lend. Nothing is changed here.
-// The first test, whether the memory is sound, takes two walks in an index for each entry; Receive takes four more for each entry of the packet.
+// The first test, whether the memory is sound, takes two lookups in an index for each entry; Receive takes four more for each entry of the packet.
 // The other tests look through one table at most.
 use protocol::Clock;
 use protocol::Number;
 use protocol::Settings;
 use protocol::Width;
 ghost use mathlib.Core.Path.{_≡_};
-ghost use Prim.Native.Nat.{_<_, _≤_};
+ghost use Prim.Native.Nat.{_+_, _≤_};
 ghost use lib.ListN.{replicate};
 ghost use Rattle.protocol.specs.Limits.{loom};
 ghost use Rattle.protocol.specs.Words.{value};
@@ -19,16 +19,13 @@ ghost use Rattle.protocol.specs.Calls.Vote.{voteTests};
 ghost use Rattle.protocol.specs.Calls.Merge.{mergeTests};
 ghost use Rattle.protocol.specs.Calls.Query.{queryTests};
 ghost use Rattle.protocol.specs.Calls.Write.{writeTests};
-ghost use Rattle.hash_table.specs.Table.{Blank};
-ghost use Rattle.index.specs.Index.{Room};
+ghost use Rattle.search_tree.specs.Tree.{Blank};
+ghost use Rattle.index.specs.Index.{TableRoom};
 ghost use Rattle.soundness.specs.Parts.{TablesIndexed};
 ghost use Rattle.verdicts.specs.declared.Verdict.the-variants.{Pass};
 ghost use Rattle.verdicts.specs.Firsts.{FirstsNoted};
 ghost use Rattle.verdicts.specs.Verdict.{refusalNumberOf, refusalIndexOf, verdictOf};
 ghost use Rattle.verdicts.specs.Lent.{lent, lentVerdict, beatTests, dueTests};
-
-// The cells of an index of a packet's blocks, or of its votes: a sixth more than a packet can have. As many are used as the packet needs.
-const PACKET_LINKS: usize = 77824;
 
 // The words of a set with a bit for each row of the largest table and each entry of a packet, whose counts have two bytes.
 pub const BLOCK_FIRSTS: usize = (limits::LOOM_BLOCKS + 65536) / 64;
@@ -184,7 +181,7 @@ fn indexed_verdict(
     block_links: &mut [u16],
     vote_links: &mut [u16],
 ) -> Verdict
-    requires { ⌜ Room (loom .blocks) (now «block_links») × Blank (now «block_links») × Room (loom .votes) (now «vote_links») × Blank (now «vote_links») ⌝ }
+    requires { ⌜ TableRoom (loom .blocks) (now «block_links») × Blank (now «block_links») × TableRoom (loom .votes) (now «vote_links») × Blank (now «vote_links») ⌝ }
     ensures { λ r. ⌜ (verdictOf r ≡ lentVerdict settings (beatTests settings beat) (lent (now (blocks .entry)) (now (votes .entry)) «blocks_used» «votes_used» clock))
         × (r ≡ Pass → TablesIndexed (now (blocks .entry)) «blocks_used» (now («block_links» .exit)) (now (votes .entry)) «votes_used» (now («vote_links» .exit))) ⌝ }
 {
@@ -272,21 +269,20 @@ fn due_verdict(
 
 // ---- the calls
 
-// How many cells are used for so many entries of a packet.
-fn cells_for(count: usize) -> usize
-    ensures { λ r. ⌜ (0 < r) × (r ≤ 77824) ⌝ }
+// The salt of a packet with so many blocks and votes: 0 where there is room for two links for each.
+fn salt_for(bytes: &[u8], blocks: usize, votes: usize) -> u64
+    ensures { λ r. ⌜ (r ≡ 0 → (blocks ≤ 8192) × (votes ≤ 8192)) ⌝ }
 {
-    if count <= 2048 {
-        return 8192;
+    if blocks <= 8192 {
+        if votes <= 8192 {
+            return 0;
+        }
     }
-    if count <= 8192 {
-        return 32768;
-    }
-    PACKET_LINKS
+    mixing::salt_of(bytes)
 }
 
 // Receive. The sets, empty before, hold the first rows of the packet's entries if the verdict is to pass: so the entries need not be looked up
-// again when they are stored. The cost beside soundness is four walks for each block and four for each vote of the packet, however many there are.
+// again when they are stored. The cost beside soundness is four lookups for each block and four for each vote of the packet, however many there are.
 // Stack: 232 KiB of links.
 pub fn receive_verdict(
     settings: Settings,
@@ -332,21 +328,23 @@ pub fn receive_verdict(
     let header = packets::header_of(bytes);
     let block_count = header.blocks as usize;
     let slot = beat / 3;
-    let mut packet_links = [0u16; PACKET_LINKS];
-    let block_cells = cells_for(block_count);
+    let vote_count = header.votes as usize;
+    let salt = salt_for(bytes, block_count, vote_count);
+    let mut packet_links = [0u16; index::PACKET_LINKS];
+    let block_span = index::packet_span(salt, block_count);
     let admitted = admission::admit_blocks(
         slot,
         blocks,
         blocks_used,
         bytes,
         &block_links,
-        &mut packet_links[..block_cells],
+        &mut packet_links[..block_span],
+        salt,
         block_firsts,
     );
     if admitted.bad < block_count {
         return Verdict::Refuse(Refusal::BadBlock(admitted.bad));
     }
-    let vote_count = header.votes as usize;
     let vote = admission::admit_votes(
         settings.nodes,
         slot,
@@ -354,7 +352,8 @@ pub fn receive_verdict(
         blocks_used,
         bytes,
         &block_links,
-        &packet_links[..block_cells],
+        &packet_links[..block_span],
+        salt,
         block_firsts,
     );
     if vote < vote_count {
@@ -367,15 +366,16 @@ pub fn receive_verdict(
         return Verdict::Refuse(Refusal::TooFewPlaces);
     }
     let from = own_entries::kept_from(settings, clock.merged);
-    hash_table::free_all(&mut packet_links[..block_cells]);
-    let vote_cells = cells_for(vote_count);
+    search_tree::free_all(&mut packet_links[..block_span]);
+    let vote_span = index::packet_span(salt, vote_count);
     let new_votes = admission::new_votes(
         votes,
         votes_used,
         bytes,
         from,
         &vote_links,
-        &mut packet_links[..vote_cells],
+        &mut packet_links[..vote_span],
+        salt,
         vote_firsts,
     );
     if ranges::places_in(5, votes) - votes_used < new_votes {

@@ -8,7 +8,7 @@ use Rattle.protocol.specs.Store.{Marked, entries}
 use Rattle.protocol.specs.Lent.{Make, rowsOf, makeBlock}
 use Rattle.rows.specs.Rows.{rowAt}
 use Rattle.rows.proofs.Rows.{getD-rowsOf}
-use Rattle.hash_table.proofs.Table.{index-same}
+use Rattle.search_tree.proofs.Tree.{index-same}
 use Rattle.index.specs.Keys.{numberKey}
 use Rattle.index.specs.Links.{BlockIndex}
 

@@ -16,8 +16,8 @@ use Rattle.protocol.proofs.Lent.Rows.{Codec, stored-same, length-rowsOf}
 use Rattle.rows.specs.Rows.{rowAt, putRow}
 use Rattle.rows.proofs.Rows.{getD-rowsOf}
 use Rattle.rows.proofs.Stored.{put-set}
-use Rattle.hash_table.specs.Lists.{linkFrom, linkTo, distinct}
-use Rattle.hash_table.proofs.Lists.{link-past, link-within}
+use Rattle.search_tree.specs.Lists.{linkFrom, linkTo, distinct}
+use Rattle.search_tree.proofs.Lists.{link-past, link-within}
 use Rattle.views.proofs.Views.{viewing-idle}
 
 module _ {A : Type 0} (p : A → Bool) where

@@ -19,7 +19,7 @@ use Rattle.protocol.proofs.Chain.Relations.{In, Sound}
 use Rattle.protocol.proofs.Store.Follow.{allFollow, blockFollows, follow-apart}
 use Rattle.protocol.proofs.Store.Tables.{Table, table-true, table-holds, table-sound}
 use Rattle.protocol.proofs.Store.Views.{entries-all, view-all, view-stored}
-use Rattle.hash_table.specs.Lists.{distinct}
+use Rattle.search_tree.specs.Lists.{distinct}
 use Rattle.index.specs.Links.{numbersDiffer}
 use Rattle.views.specs.Ancestors.{Ordered}
 use Rattle.views.proofs.Views.{all-viewing}

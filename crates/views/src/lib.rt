@@ -76,7 +76,7 @@ pub fn view_named_votes(votes: &mut [u64], before: usize, used: usize, firsts: &
 
 // ---- what its blocks stand on
 
-// The block with this number comes into view. The cost is a walk.
+// The block with this number comes into view. The cost is a lookup.
 fn view_block(blocks: &mut [u64], used: usize, links: &[u16], number: Number)
     requires { ⌜ BlocksFit used (now blocks) × (marksSound makeBlock (now blocks) used ≡ true) × Ordered (rowsOf makeBlock (now blocks) used)
         × BlockIndex (now blocks) used (now links) ⌝ }
@@ -98,7 +98,7 @@ fn view_block(blocks: &mut [u64], used: usize, links: &[u16], number: Number)
 }
 
 // The blocks that a block in view stands on come into view: parents stand before their children, so one pass from the last row
-// to the first is enough. The links are those that `index::build_blocks` wrote; marks may have changed since. The cost is a walk for each
+// to the first is enough. The links are those that `index::build_blocks` wrote; marks may have changed since. The cost is a lookup for each
 // row in view.
 pub fn view_ancestors(blocks: &mut [u64], used: usize, links: &[u16])
     requires { ⌜ BlocksFit used (now blocks) × (marksSound makeBlock (now blocks) used ≡ true) × Ordered (rowsOf makeBlock (now blocks) used)

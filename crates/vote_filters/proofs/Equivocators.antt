@@ -17,7 +17,7 @@ use Rattle.protocol.proofs.Basics.Tests.{and-left, and-right, either, or-left, 
 use Rattle.protocol.proofs.Filters.Kept.{equivocates-true, equivocates-holds, equivocation-in}
 use Rattle.protocol.proofs.Filters.Relations.{Cast, Equivocation}
 use Rattle.rows.specs.Rows.{rowAt}
-use Rattle.hash_table.specs.Table.{First, Points}
+use Rattle.search_tree.specs.Tree.{First, Points}
 use Rattle.index.specs.Links.{slotKey}
 use Rattle.index.proofs.Slots.{slot-voters, slot-slots, slot-selected, slot-same}
 use Rattle.masks.specs.Masks.{bitOf, maskOf, added}

@@ -8,7 +8,7 @@ ghost use lib.ListN.{length, set, replicate};
 ghost use Rattle.protocol.specs.Limits.{loom};
 ghost use Rattle.protocol.specs.Filters.{window};
 ghost use Rattle.protocol.specs.Lent.{VotesFit};
-ghost use Rattle.index.specs.Index.{Room};
+ghost use Rattle.index.specs.Index.{TableRoom};
 ghost use Rattle.index.specs.Links.{SlotIndex};
 ghost use Rattle.vote_filters.specs.Latest.{votesOf, VotersFit, equivocatorsOf, Latest, Kept};
 ghost use Rattle.numbers.specs.NumberWords.{NumbersFit};
@@ -53,7 +53,7 @@ fn equivocators_next(
     links: &mut [u16],
     mask: u64,
 ) -> u64
-    requires { ⌜ VotesFit (i + 1) (now votes) × Room (i + 1) (now links) × VotersFit (now votes) (i + 1) × SlotIndex whole (now votes) i (now links)
+    requires { ⌜ VotesFit (i + 1) (now votes) × TableRoom (i + 1) (now links) × VotersFit (now votes) (i + 1) × SlotIndex whole (now votes) i (now links)
         × (mask ≡ equivocatorsOf (votesOf whole (now votes) i) expiry t) ⌝ }
     ensures { λ r. ⌜ (r ≡ equivocatorsOf (votesOf whole (now (votes .entry)) (i + 1)) expiry t)
         × SlotIndex whole (now (votes .entry)) (i + 1) (now (links .exit)) ⌝ }
@@ -96,7 +96,7 @@ fn latest_next(
 }
 
 // The latest vote of each voter in the window, and the voters with two votes of one slot of the window for different blocks.
-// One pass over the votes, with a walk for each. Stack: 64 KiB for the links.
+// One pass over the votes, with a lookup for each. Stack: 48 KiB for the links.
 fn gather(
     votes: &[u64],
     used: usize,
@@ -133,7 +133,7 @@ fn drop_voter(dropped: u64, v: usize, slots: &mut [u64])
 }
 
 // The kept vote of each voter, by its slot and its block's number; slot 0 where there is none.
-// One pass over the votes, with a walk in an index for each. Stack: 64 KiB.
+// One pass over the votes, with a lookup in an index for each. Stack: 48 KiB.
 pub fn kept_votes(
     votes: &[u64],
     used: usize,

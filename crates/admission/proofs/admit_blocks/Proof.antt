@@ -15,6 +15,7 @@ use Rattle.protocol.proofs.Store.Views.{length-entries}
 use Rattle.protocol.proofs.Store.New.{knowsBlock, adding-blocks}
 use Rattle.protocol.proofs.Lent.Rows.{length-rowsOf}
 use Rattle.packets.proofs.Headers.{header-blocks}
+use Rattle.index.proofs.Shapes.{links-within}
 use Rattle.index.specs.Links.{BlocksIndexed}
 use Rattle.admission.specs.Seen.{BlocksSeen}
 use Rattle.admission.proofs.FirstBad.{block-begin, block-good, block-bad, block-end}
@@ -23,20 +24,20 @@ use Rattle.admission.proofs.admit_blocks.Statement.{statement}
 use Rattle.admission.proofs.admit_blocks.Tie as tie
 
 abbrev Inv-loop : tie.InvT-loop
-Inv-loop slot blocks used bytes table links₀ firsts₀ count new₀ i₀ links firsts new i =
+Inv-loop slot blocks used bytes table links₀ salt firsts₀ count new₀ i₀ links firsts new i =
     (count ≡ length (packetOf bytes .blocks))
     × (i ≤ count)
     × (new ≤ i)
     × (length links ≡ length links₀)
     × (length firsts ≡ length firsts₀)
     × (used + new ≡ length (addBlocks (entries (rowsOf makeBlock blocks used)) (take i (packetOf bytes .blocks))))
-    × BlocksIndexed blocks used bytes i table links
+    × BlocksIndexed salt blocks used bytes i table links
     × BlocksSeen blocks used bytes i firsts
     × (firstBadBlock slot (entries (rowsOf makeBlock blocks used)) (packetOf bytes .blocks)
     ≡ i + firstBadBlock slot (addBlocks (entries (rowsOf makeBlock blocks used)) (take i (packetOf bytes .blocks))) (drop i (packetOf bytes .blocks)))
 
 abbrev μ-loop : tie.MeasureT-loop
-μ-loop slot blocks used bytes table links₀ firsts₀ count new₀ i₀ links firsts new i = count - i
+μ-loop slot blocks used bytes table links₀ salt firsts₀ count new₀ i₀ links firsts new i = count - i
 
 loop-holds : tie.Need-loop-holds Inv-loop μ-loop
 loop-holds c =
@@ -68,7 +69,7 @@ admit-block-requires c κs =
       s .pre .0,
       s .pre .1,
       h,
-      (omega (arith, s .pre .2 .0, h), omega (arith, s .pre .2 .1, l .loop .inv .3), omega (arith, s .pre .2 .2, l .loop .inv .3)),
+      (omega (arith, s .pre .2 .0, h), omega (arith, s .pre .2 .1, links-within (s .args .salt) (l .loop .i) _ h, l .loop .inv .3)),
       l .loop .inv .6,
       omega (arith, s .pre .4, h, l .loop .inv .4),
       l .loop .inv .7,
@@ -102,7 +103,7 @@ loop-again c =
       omega (arith, t .loop-test .taken),
       omega (arith, f, l .inv .2),
       a .admit-block .kept .1 .1 .1 .1 .1 .1 .0 ∙ l .inv .3,
-      a .admit-block .kept .1 .1 .1 .1 .1 .1 .1 .0 ∙ l .inv .4,
+      a .admit-block .kept .1 .1 .1 .1 .1 .1 .1 .1 .0 ∙ l .inv .4,
       count-turn knowsBlock addBlocks adding-blocks _ (packetOf (now (s .args .bytes)) .blocks) _ genesis _ (l .i) (there t) (l .inv .5) (a .admit-block .ensures .1),
       a .admit-block .ensures .2,
       a .admit-block .ensures .3,

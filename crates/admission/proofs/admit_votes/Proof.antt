@@ -20,18 +20,18 @@ use Rattle.admission.proofs.admit_votes.Statement.{statement}
 use Rattle.admission.proofs.admit_votes.Tie as tie
 
 abbrev Inv-loop : tie.InvT-loop
-Inv-loop nodes slot blocks used bytes table links firsts₀ known count i₀ firsts i =
+Inv-loop nodes slot blocks used bytes table links salt firsts₀ known count i₀ firsts i =
     (known ≡ length (packetOf bytes .blocks))
     × (count ≡ length (packetOf bytes .votes))
     × (i ≤ count)
     × (length firsts ≡ length firsts₀)
-    × BlocksIndexed blocks used bytes known table links
+    × BlocksIndexed salt blocks used bytes known table links
     × VotedSeen blocks used bytes i firsts
     × (firstBadVote nodes slot (addBlocks (entries (rowsOf makeBlock blocks used)) (packetOf bytes .blocks)) (packetOf bytes .votes)
     ≡ i + firstBadVote nodes slot (addBlocks (entries (rowsOf makeBlock blocks used)) (packetOf bytes .blocks)) (drop i (packetOf bytes .votes)))
 
 abbrev μ-loop : tie.MeasureT-loop
-μ-loop nodes slot blocks used bytes table links firsts₀ known count i₀ firsts i = count - i
+μ-loop nodes slot blocks used bytes table links salt firsts₀ known count i₀ firsts i = count - i
 
 loop-holds : tie.Need-loop-holds Inv-loop μ-loop
 loop-holds c =
@@ -79,7 +79,7 @@ loop-again c =
       l .inv .0,
       l .inv .1,
       omega (arith, t .loop-test .taken),
-      a .admit-vote .kept .1 .1 .1 .1 .1 .1 .1 .1 .1 .0 ∙ l .inv .3,
+      a .admit-vote .kept .1 .1 .1 .1 .1 .1 .1 .1 .1 .1 .0 ∙ l .inv .3,
       l .inv .4,
       a .admit-vote .ensures .1 e,
       l .inv .6 ∙ vote-good _ _ _ _ (l .i) (there t) refl (sym (a .admit-vote .ensures .0) ∙ e),

@@ -14,6 +14,7 @@ use Rattle.protocol.proofs.Lent.Rows.{length-rowsOf}
 use Rattle.protocol.proofs.Store.Since.{adding-since}
 use Rattle.packets.specs.Header.{noVote}
 use Rattle.packets.proofs.Headers.{header-votes}
+use Rattle.index.proofs.Shapes.{links-within}
 use Rattle.index.specs.Links.{VotesIndexed}
 use Rattle.admission.specs.Seen.{VotesSeen}
 use Rattle.admission.proofs.Counts.{flag-one, since-new, count-begin, count-turn, count-end}
@@ -21,18 +22,18 @@ use Rattle.admission.proofs.new_votes.Statement.{statement}
 use Rattle.admission.proofs.new_votes.Tie as tie
 
 abbrev Inv-loop : tie.InvT-loop
-Inv-loop votes used bytes from table links₀ firsts₀ count new₀ i₀ links firsts new i =
+Inv-loop votes used bytes from table links₀ salt firsts₀ count new₀ i₀ links firsts new i =
     (count ≡ length (packetOf bytes .votes))
     × (i ≤ count)
     × (new ≤ i)
     × (length links ≡ length links₀)
     × (length firsts ≡ length firsts₀)
     × (used + new ≡ length (addSince from (entries (rowsOf makeVote votes used)) (take i (packetOf bytes .votes))))
-    × VotesIndexed votes used bytes i table links
+    × VotesIndexed salt votes used bytes i table links
     × VotesSeen votes used bytes i firsts
 
 abbrev μ-loop : tie.MeasureT-loop
-μ-loop votes used bytes from table links₀ firsts₀ count new₀ i₀ links firsts new i = count - i
+μ-loop votes used bytes from table links₀ salt firsts₀ count new₀ i₀ links firsts new i = count - i
 
 loop-holds : tie.Need-loop-holds Inv-loop μ-loop
 loop-holds c =
@@ -63,7 +64,7 @@ is-new-vote-requires c κs =
       s .pre .0,
       s .pre .1,
       h,
-      (omega (arith, s .pre .2 .0, h), omega (arith, s .pre .2 .1, l .loop .inv .3), omega (arith, s .pre .2 .2, l .loop .inv .3)),
+      (omega (arith, s .pre .2 .0, h), omega (arith, s .pre .2 .1, links-within (s .args .salt) (l .loop .i) _ h, l .loop .inv .3)),
       l .loop .inv .6,
       omega (arith, s .pre .4, h, l .loop .inv .4),
       l .loop .inv .7,
@@ -87,7 +88,7 @@ loop-again c =
       omega (arith, t .loop-test .taken),
       omega (arith, f, l .inv .2),
       j .is-new-vote .kept .1 .1 .1 .1 .1 .1 .0 ∙ l .inv .3,
-      j .is-new-vote .kept .1 .1 .1 .1 .1 .1 .1 .0 ∙ l .inv .4,
+      j .is-new-vote .kept .1 .1 .1 .1 .1 .1 .1 .1 .0 ∙ l .inv .4,
       count-turn _ _ (adding-since (s .args .from)) _ (packetOf (now (s .args .bytes)) .votes) _ noVote _ (l .i) (there t) (l .inv .5)
           (j .is-new-vote .ensures .0 ∙ since-new (s .args .from) _ (take (l .i) (packetOf (now (s .args .bytes)) .votes)) (getD (packetOf (now (s .args .bytes)) .votes) (l .i) noVote)),
       j .is-new-vote .ensures .1,

@@ -2,13 +2,12 @@
 use borrow.Author.Needs.{needs}
 use native.Mathlib.Omega.{arith}
 use Prim.Native.Nat.{_-_, _≤_}
-use mathlib.Core.List.{[]}
 use mathlib.Core.Logic.{⊎-elim}
 use mathlib.Core.Path.{_≡_, refl, sym, _∙_}
 use denote.Ref.{now}
 use lib.ListN.{length}
-use Rattle.hash_table.specs.Lists.{distinct}
-use Rattle.hash_table.proofs.Table.{index-free}
+use Rattle.search_tree.specs.Lists.{distinct}
+use Rattle.search_tree.proofs.Tree.{index-free}
 use Rattle.index.specs.Index.{keyAt, IndexOf, listed, keysDiffer}
 use Rattle.index.proofs.Keys.{readable-less}
 use Rattle.index.proofs.Links.{keys-new, keys-old}
@@ -17,7 +16,7 @@ use Rattle.index.proofs.build.Tie as tie
 
 abbrev Inv-loop : tie.InvT-loop
 Inv-loop kind words n links₀ differ₀ i₀ links differ i =
-    (i ≤ n) × (length links ≡ length links₀) × (differ ≡ keysDiffer (keyAt kind words []) i) × IndexOf kind words [] i links
+    (i ≤ n) × (length links ≡ length links₀) × (differ ≡ keysDiffer (keyAt kind words) i) × IndexOf kind words i links
 
 abbrev μ-loop : tie.MeasureT-loop
 μ-loop kind words n links₀ differ₀ i₀ links differ i = n - i
@@ -26,14 +25,14 @@ loop-holds : tie.Need-loop-holds Inv-loop μ-loop
 unfolding distinct listed
 loop-holds c =
     let s = c .before .before in
-    (omega arith, refl, refl, index-free _ (s .pre .2) (s .pre .1 .1) (s .pre .1 .2))
+    (omega arith, refl, refl, index-free _ (s .pre .2) (omega (arith, s .pre .1 .1)))
 
 add-requires : tie.Need-add-requires Inv-loop μ-loop
 add-requires c κs =
     let l = c .before .before in
     let s = l .before .before .before in
     let a = s .args in
-    (readable-less (a .kind) (now (a .words)) [] (a .n) _ (omega arith) (s .pre .0), (omega (arith, s .pre .1 .0), omega (arith, s .pre .1 .1, l .loop .inv .1), omega (arith, s .pre .1 .2, l .loop .inv .1)), l .loop .inv .3)
+    (readable-less (a .kind) (now (a .words)) (a .n) _ (omega arith) (s .pre .0), (omega (arith, s .pre .1 .0), omega (arith, s .pre .1 .1, l .loop .inv .1)), l .loop .inv .3)
 
 loop-again : tie.Need-loop-again Inv-loop μ-loop
 loop-again c =

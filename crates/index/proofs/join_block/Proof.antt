@@ -4,10 +4,10 @@ use native.Mathlib.Omega.{arith}
 use Prim.Native.Nat.{_+_, _-_}
 use mathlib.Core.Path.{_≡_, ap, sym, _∙_}
 use denote.Ref.{now}
-use Rattle.hash_table.proofs.Table.{index-for, index-unwanted}
-use Rattle.index.specs.declared.Kind.the-variants.{PacketBlocks}
+use Rattle.search_tree.proofs.Tree.{index-for, index-unwanted}
+use Rattle.index.specs.declared.Section.the-variants.{PacketBlocks}
 use Rattle.index.specs.Keys.{numberKey}
-use Rattle.index.specs.Index.{keyAt}
+use Rattle.index.specs.Index.{entryKey}
 use Rattle.index.specs.Links.{blockKeys}
 use Rattle.index.proofs.Added.{added-index, added-points}
 use Rattle.index.proofs.Firsts.{linked-within}
@@ -16,18 +16,18 @@ use Rattle.index.proofs.join_block.Statement.{statement}
 use Rattle.index.proofs.join_block.Tie as tie
 
 abbrev start : tie.After-find → tie.Start
-start f = f .before .before .before .before .before .before .before
+start f = f .before .before .before .before .before .before
 
 -- the key looked for is that of entry i
-own : (f : tie.After-find) → let a = start f .args in f .before .before .number-key .result ≡ keyAt PacketBlocks (now (a .blocks)) (now (a .bytes)) (a .i)
-own f = f .before .before .number-key .ensures ∙ ap numberKey (start f .pre .4)
+own : (f : tie.After-find) → let a = start f .args in f .before .number-key .result ≡ entryKey PacketBlocks (now (a .bytes)) (a .i)
+own f = f .before .number-key .ensures ∙ ap numberKey (start f .pre .4)
 
 -- and that at its row
-row : (f : tie.After-find) → let a = start f .args in f .before .before .number-key .result ≡ blockKeys (now (a .blocks)) (a .used) (now (a .bytes)) (a .used + a .i)
+row : (f : tie.After-find) → let a = start f .args in f .before .number-key .result ≡ blockKeys (now (a .blocks)) (a .used) (now (a .bytes)) (a .used + a .i)
 row f = let a = start f .args in own f ∙ block-past (now (a .blocks)) (a .used) (now (a .bytes)) (a .i)
 
 find-requires : tie.Need-find-requires
-find-requires c κs = let s = c .before .before .before .before .before .before in (s .pre .0, index-for (s .pre .3 .table) _ tt)
+find-requires c κs = let s = c .before .before .before .before .before in (s .pre .0, s .pre .3 .table)
 
 returns : tie.Need-returns
 returns c =
@@ -36,11 +36,11 @@ returns c =
     let a = s .args in
     let g = f .find .ensures .hit (f .find .result - 1) (omega (arith, c .if1 .taken)) in (
       block-early (now (a .blocks)) (a .used) (now (a .bytes)) (a .i) (row f) (f .find .ensures) (c .if1 .taken),
-      record { table = s .pre .3 .table; packet = index-unwanted (s .pre .3 .packet) (λ w. w _ (g .isRow) (g .has ∙ own f)) },
+      record { table = s .pre .3 .table; packet = index-unwanted (s .pre .3 .packet) (s .pre .2 .1) (λ w. w _ (g .isRow) (g .has ∙ own f)) },
     )
 
-add-key-requires : tie.Need-add-key-requires
-add-key-requires c κs =
+add-entry-requires : tie.Need-add-entry-requires
+add-entry-requires c κs =
     let i = c .before in
     let f = i .before in
     let s = start f in
@@ -50,7 +50,7 @@ behind-requires : tie.Need-behind-requires
 behind-requires c κs =
     let d = c .before .before in
     let s = start (d .before .before .before) in
-    omega (arith, linked-within _ (added-points (d .add-key .ensures)), s .pre .0, s .pre .2 .0)
+    omega (arith, linked-within _ (added-points (d .add-entry .ensures)), s .pre .0, s .pre .2 .0)
 
 returns-2 : tie.Need-returns-2
 returns-2 c =
@@ -59,11 +59,11 @@ returns-2 c =
     let f = i .before in
     let s = start f in
     let a = s .args in (
-      block-late (now (a .blocks)) (a .used) (now (a .bytes)) (a .i) (row f) (own f) (f .find .ensures) (i .if1 .left) (added-points (d .add-key .ensures)) (c .behind .ensures),
-      record { table = s .pre .3 .table; packet = added-index (d .add-key .ensures) (s .pre .3 .packet) },
+      block-late (now (a .blocks)) (a .used) (now (a .bytes)) (a .i) (row f) (own f) (f .find .ensures) (i .if1 .left) (added-points (d .add-entry .ensures)) (c .behind .ensures),
+      record { table = s .pre .3 .table; packet = added-index (d .add-entry .ensures) (s .pre .2 .1) (s .pre .3 .packet) },
     )
 
 pub join-block-spec : {M : Type 1} → statement M
 join-block-spec {M} =
-    let s = tie.spec {M = M} (λ c κs. search needs) (λ c. search needs) find-requires returns add-key-requires behind-requires (λ c. search needs) in
+    let s = tie.spec {M = M} (λ c κs. search needs) find-requires returns add-entry-requires behind-requires (λ c. search needs) in
     tie.close (s returns-2)

@@ -3,26 +3,26 @@ use borrow.Author.Needs.{needs}
 use native.Mathlib.Omega.{arith}
 use mathlib.Core.Path.{refl}
 use denote.Ref.{now}
-use Rattle.hash_table.proofs.Table.{index-for}
+use Rattle.search_tree.proofs.Tree.{index-for}
 use Rattle.index.proofs.Firsts.{linked-within}
 use Rattle.index.proofs.Joined.{block-early, block-late}
 use Rattle.index.proofs.known_block.Statement.{statement}
 use Rattle.index.proofs.known_block.Tie as tie
 
 abbrev start : tie.After-find → tie.Start
-start f = f .before .before .before .before .before .before .before
+start f = f .before .before .before .before .before .before
 
 find-requires : tie.Need-find-requires
-find-requires c κs = let s = c .before .before .before .before .before .before in (s .pre .0, index-for (s .pre .3 .table) _ tt)
+find-requires c κs = let s = c .before .before .before .before .before in (s .pre .0, s .pre .3 .table)
 
 returns : tie.Need-returns
 returns c =
     let f = c .before in
     let a = start f .args in
-    block-early (now (a .blocks)) (a .used) (now (a .bytes)) (a .i) (f .before .before .number-key .ensures) (f .find .ensures) (c .if1 .taken)
+    block-early (now (a .blocks)) (a .used) (now (a .bytes)) (a .i) (f .before .number-key .ensures) (f .find .ensures) (c .if1 .taken)
 
-find-requires-2 : tie.Need-find-requires-2
-find-requires-2 c κs =
+find-entry-requires : tie.Need-find-entry-requires
+find-entry-requires c κs =
     let f = c .before in
     let s = start f in
     (s .pre .1, index-for (s .pre .3 .packet) _ (f .find .ensures .none (c .if1 .left)))
@@ -30,7 +30,7 @@ find-requires-2 c κs =
 behind-requires : tie.Need-behind-requires
 behind-requires c κs =
     let s = start (c .before .before) in
-    omega (arith, linked-within _ (c .find2 .ensures), s .pre .0, s .pre .2)
+    omega (arith, linked-within _ (c .find-entry .ensures), s .pre .0, s .pre .2)
 
 returns-2 : tie.Need-returns-2
 returns-2 c =
@@ -38,7 +38,7 @@ returns-2 c =
     let i = g .before in
     let f = i .before in
     let a = start f .args in
-    block-late (now (a .blocks)) (a .used) (now (a .bytes)) (a .i) (f .before .before .number-key .ensures) refl (f .find .ensures) (i .if1 .left) (g .find2 .ensures) (c .behind .ensures)
+    block-late (now (a .blocks)) (a .used) (now (a .bytes)) (a .i) (f .before .number-key .ensures) refl (f .find .ensures) (i .if1 .left) (g .find-entry .ensures) (c .behind .ensures)
 
 pub known-block-spec : {M : Type 1} → statement M
-known-block-spec = tie.close (tie.spec (λ c κs. search needs) (λ c. search needs) find-requires returns find-requires-2 behind-requires returns-2)
+known-block-spec = tie.close (tie.spec (λ c κs. search needs) find-requires returns find-entry-requires behind-requires returns-2)

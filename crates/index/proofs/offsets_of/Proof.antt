@@ -18,13 +18,6 @@ returns-3 c = (ap offsetsOf (sym (c .enum-told3 .given .1)), omega arith, omega 
 returns-4 : tie.Need-returns-4
 returns-4 c = (ap offsetsOf (sym (c .enum-told4 .given .1)), omega arith, omega arith, omega arith, omega arith)
 
-returns-5 : tie.Need-returns-5
-returns-5 c = (ap offsetsOf (sym (c .enum-told5 .given .1)), omega arith, omega arith, omega arith, omega arith)
-
-returns-6 : tie.Need-returns-6
-returns-6 c = (ap offsetsOf (sym (c .enum-told6 .given .1)), omega arith, omega arith, omega arith, omega arith)
-
 pub offsets-of-spec : {M : Type 1} → statement M
-offsets-of-spec {M} =
-    let s = tie.spec {M = M} (λ c. search needs) (λ c. search needs) (λ c. search needs) (λ c. search needs) (λ c. search needs) (λ c. search needs) in
-    tie.close (s returns returns-2 returns-3 returns-4 returns-5 returns-6)
+offsets-of-spec =
+    tie.close (tie.spec (λ c. search needs) (λ c. search needs) (λ c. search needs) (λ c. search needs) returns returns-2 returns-3 returns-4)

@@ -5,7 +5,7 @@ use Prim.Native.Nat.{ℕ, _+_}
 use mathlib.Core.Bool.{Bool}
 use mathlib.Core.List.{List}
 use mathlib.Core.Path.{_≡_}
-use Rattle.hash_table.specs.Table.{Points}
+use Rattle.search_tree.specs.Tree.{Points}
 use Rattle.index.specs.Links.{SlotIndex, slotKey}
 use Rattle.index.proofs.slot_add.Statement.{statement}
 use Rattle.index.proofs.slot_add.Tie as tie

@@ -9,7 +9,7 @@ use Rattle.protocol.specs.Store.{view}
 use Rattle.protocol.specs.Packet.{packetOf}
 use Rattle.protocol.specs.Lent.{rowsOf, stored, makeBlock, blockRow}
 use Rattle.index.specs.Firsts.{named}
-use Rattle.hash_table.proofs.Table.{blank-new}
+use Rattle.search_tree.proofs.Tree.{blank-new}
 use Rattle.receiving.proofs.Carrying.{ordered-named, marks-named, stood-viewed}
 use Rattle.receiving.proofs.view_stood_on.Statement.{statement}
 use Rattle.receiving.proofs.view_stood_on.Tie as tie
@@ -26,8 +26,8 @@ build-blocks-requires : tie.Need-build-blocks-requires
 build-blocks-requires c κs =
     let v = c .before .before .before .before in
     let s = start v in
-    let l = length-replicate {A = ℕ} 8192 0 in
-    (omega (arith, v .view-named-blocks .kept .0, s .pre .0), (omega (arith, s .pre .5), omega (arith, l), omega (arith, l)), blank-new 8192)
+    let l = length-replicate {A = ℕ} 12288 0 in
+    (omega (arith, v .view-named-blocks .kept .0, s .pre .0), (omega (arith, s .pre .5), omega (arith, l)), blank-new 12288)
 
 view-ancestors-requires : tie.Need-view-ancestors-requires
 view-ancestors-requires c κs =

@@ -63,7 +63,7 @@ tables-sound-requires c κs =
     let s = start d in
     let b = blocks-fit d in
     let v = votes-fit d in
-    (b .0, v .0, (omega (arith, b .1), s .pre .0 .1, s .pre .0 .2), s .pre .1, (omega (arith, v .1), s .pre .2 .1, s .pre .2 .2), s .pre .3)
+    (b .0, v .0, (omega (arith, b .1), omega (arith, b .1, s .pre .0 .1)), s .pre .1, (omega (arith, v .1), omega (arith, v .1, s .pre .2 .1)), s .pre .3)
 
 returns-8 : tie.Need-returns-8
 returns-8 c =

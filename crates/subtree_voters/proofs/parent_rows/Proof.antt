@@ -6,7 +6,7 @@ use mathlib.Core.Path.{_≡_, refl, ap, _∙_}
 use lib.ListN.{length}
 use denote.Ref.{now}
 use Rattle.protocol.specs.Words.{value}
-use Rattle.hash_table.proofs.Table.{index-free}
+use Rattle.search_tree.proofs.Tree.{index-free}
 use Rattle.index.specs.Links.{BlockIndex}
 use Rattle.subtree_voters.specs.BlockRows.{rowIn, Parents}
 use Rattle.subtree_voters.proofs.Filled.{filled-none, filled-more}
@@ -22,7 +22,7 @@ abbrev μ-loop : tie.MeasureT-loop
 μ-loop blocks used links₀ parents₀ i₀ links parents i = used - i
 
 loop-holds : tie.Need-loop-holds Inv-loop μ-loop
-loop-holds c = (omega arith, refl, refl, index-free _ (c .before .before .before .pre .3) (c .before .before .before .pre .2 .1) (c .before .before .before .pre .2 .2), filled-none _ _)
+loop-holds c = (omega arith, refl, refl, index-free _ (c .before .before .before .pre .3) (omega (arith, c .before .before .before .pre .2 .1)), filled-none _ _)
 
 block-at-requires : tie.Need-block-at-requires Inv-loop μ-loop
 block-at-requires c κs = search needs
@@ -43,7 +43,7 @@ add-block-requires c κs =
     let p = c .before .before .before .before .before .before .before .before .before in
     let l = p .loop in
     let s = p .before .before .before .before in
-    (omega arith, (omega (arith, s .pre .2 .0), omega (arith, s .pre .2 .1, l .inv .1), omega (arith, s .pre .2 .2, l .inv .1)), l .inv .3)
+    (omega arith, (omega (arith, s .pre .2 .0), omega (arith, s .pre .2 .1, l .inv .1)), l .inv .3)
 
 add-i : tie.Need-add-i Inv-loop μ-loop
 add-i c = search needs

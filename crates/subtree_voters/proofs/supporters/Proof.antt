@@ -7,7 +7,7 @@ use Rattle.protocol.specs.Limits.{loom}
 use Rattle.subtree_voters.specs.BlockRows.{Parents}
 use lib.ListN.{length, length-replicate}
 use denote.Ref.{now}
-use Rattle.hash_table.proofs.Table.{blank-new}
+use Rattle.search_tree.proofs.Tree.{blank-new}
 use Rattle.subtree_voters.specs.Subtrees.{Subtrees}
 use Rattle.subtree_voters.proofs.BlockRows.{parent-lt}
 use Rattle.subtree_voters.proofs.Handing.{handed-on, handed-all}
@@ -29,8 +29,8 @@ lent s = ap length (s .pre .6) ∙ length-replicate {A = ℕ} (loom .blocks) 0
 parent-rows-requires : tie.Need-parent-rows-requires Inv-loop μ-loop
 parent-rows-requires c κs =
     let s = c .before .before .before .before .before .before .before in
-    let l = length-replicate {A = ℕ} 8192 0 in
-    (s .pre .0, s .pre .2, (omega (arith, s .pre .2), omega (arith, l), omega (arith, l)), blank-new 8192, s .pre .5)
+    let l = length-replicate {A = ℕ} 12288 0 in
+    (s .pre .0, s .pre .2, (omega (arith, s .pre .2), omega (arith, l)), blank-new 12288, s .pre .5)
 
 add-voters-requires : tie.Need-add-voters-requires Inv-loop μ-loop
 add-voters-requires c κs =

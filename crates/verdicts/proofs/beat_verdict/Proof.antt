@@ -3,15 +3,15 @@ use borrow.Author.Needs.{needs}
 use native.Mathlib.Omega.{arith}
 use Prim.Native.Nat.{ℕ}
 use lib.ListN.{length-replicate}
-use Rattle.hash_table.proofs.Table.{blank-new}
+use Rattle.search_tree.proofs.Tree.{blank-new}
 use Rattle.verdicts.proofs.beat_verdict.Statement.{statement}
 use Rattle.verdicts.proofs.beat_verdict.Tie as tie
 
 indexed-verdict-requires : tie.Need-indexed-verdict-requires
 indexed-verdict-requires c κs =
-    let b = length-replicate {A = ℕ} 8192 0 in
-    let v = length-replicate {A = ℕ} 32768 0 in
-    ((omega arith, omega arith, omega arith), blank-new 8192, (omega arith, omega arith, omega arith), blank-new 32768)
+    let b = length-replicate {A = ℕ} 12288 0 in
+    let v = length-replicate {A = ℕ} 24576 0 in
+    ((omega arith, omega arith), blank-new 12288, (omega arith, omega arith), blank-new 24576)
 
 pub beat-verdict-spec : {M : Type 1} → statement M
 beat-verdict-spec =

@@ -14,9 +14,12 @@ use Rattle.protocol.specs.Calls.Receive.{addBlocks}
 use Rattle.protocol.proofs.Packet.Numbers.{bytes-by-index}
 use Rattle.protocol.proofs.Packet.Bytes.{read-fits}
 use Rattle.packets.proofs.Headers.{header-blocks, header-votes}
-use Rattle.hash_table.specs.Table.{Blank}
-use Rattle.hash_table.proofs.Table.{blank-new}
-use Rattle.index.specs.Index.{Room}
+use Rattle.search_tree.specs.Tree.{Blank}
+use Rattle.search_tree.proofs.Tree.{blank-new}
+use Rattle.search_tree.specs.Tree.{linksOf}
+use Rattle.index.specs.Keys.{packetShape}
+use Rattle.index.specs.Index.{PacketRoom}
+use Rattle.index.proofs.Shapes.{first-links}
 use Rattle.index.specs.Links.{BlocksIndexed}
 use Rattle.index.proofs.Joined as joined
 use Rattle.admission.proofs.Seen.{blocks-begin, votes-begin, blocks-new, blocks-named, votes-new, votes-named}
@@ -32,9 +35,9 @@ use Rattle.verdicts.proofs.receive_verdict.Tie as tie
 
 indexed-verdict-requires : tie.Need-indexed-verdict-requires
 indexed-verdict-requires c κs =
-    let b = length-replicate {A = ℕ} 8192 0 in
-    let v = length-replicate {A = ℕ} 32768 0 in
-    ((omega arith, omega arith, omega arith), blank-new 8192, (omega arith, omega arith, omega arith), blank-new 32768)
+    let b = length-replicate {A = ℕ} 12288 0 in
+    let v = length-replicate {A = ℕ} 24576 0 in
+    ((omega arith, omega arith), blank-new 12288, (omega arith, omega arith), blank-new 24576)
 
 returns : tie.Need-returns
 returns c =
@@ -66,13 +69,13 @@ counts t =
 
 -- the lengths of what is lent
 lengths : (t : tie.After-enum-told2) → let s = start t in let x = begun t .indexed-verdict in
-    (length (x .last .1 .1 .1 .1 .1 .1 .1 .0) ≡ 8192) × (length (x .last .1 .1 .1 .1 .1 .1 .1 .1 .0) ≡ 32768)
+    (length (x .last .1 .1 .1 .1 .1 .1 .1 .0) ≡ 12288) × (length (x .last .1 .1 .1 .1 .1 .1 .1 .1 .0) ≡ 24576)
     × (length (now (s .args .block-firsts)) ≡ 1056) × (length (now (s .args .vote-firsts)) ≡ 1152)
 lengths t =
     let s = start t in
     let x = begun t .indexed-verdict in (
-      x .kept .1 .1 .1 .1 .1 .1 .1 .0 ∙ length-replicate {A = ℕ} 8192 0,
-      x .kept .1 .1 .1 .1 .1 .1 .1 .1 .0 ∙ length-replicate {A = ℕ} 32768 0,
+      x .kept .1 .1 .1 .1 .1 .1 .1 .0 ∙ length-replicate {A = ℕ} 12288 0,
+      x .kept .1 .1 .1 .1 .1 .1 .1 .1 .0 ∙ length-replicate {A = ℕ} 24576 0,
       ap length (s .pre .0) ∙ length-replicate {A = ℕ} 1056 0,
       ap length (s .pre .1) ∙ length-replicate {A = ℕ} 1152 0,
     )
@@ -99,18 +102,26 @@ returns-3 c =
 
 -- ---- blocks
 
-abbrev formed : tie.After-cells-for → tie.Else2
-formed i = i .before .before
+abbrev formed : tie.After-packet-span → tie.Else2
+formed i = i .before .before .before
 
-abbrev read : tie.After-cells-for → tie.Else1
+abbrev read : tie.After-packet-span → tie.Else1
 read i = formed i .before
 
-abbrev passed : tie.After-cells-for → tie.After-enum-told2
+abbrev passed : tie.After-packet-span → tie.After-enum-told2
 passed i = short (read i)
 
--- as many cells are used
-cells : (i : tie.After-cells-for) → (0 < i .cells-for .result) × (i .cells-for .result ≤ 77824)
-cells i = i .cells-for .ensures
+-- a count has two bytes
+packet-span-requires : tie.Need-packet-span-requires
+packet-span-requires c κs =
+    let t = short (c .before .before .before) in
+    let e = header-blocks _ (c .before .header-of .ensures) in
+    (omega (arith, counts t .0, e), λ z. c .salt-for .ensures z .0)
+
+-- as many links are used
+cells : (i : tie.After-packet-span) → let h = i .before .before .header-of .result in
+    (i .packet-span .result ≡ linksOf (packetShape (i .before .salt-for .result)) (h .blocks)) × (i .packet-span .result ≤ 81919)
+cells i = i .packet-span .ensures
 
 admit-blocks-requires : tie.Need-admit-blocks-requires
 admit-blocks-requires c κs =
@@ -120,8 +131,8 @@ admit-blocks-requires c κs =
     let l = lengths t in (
       T .blocks .fit,
       T .blocks .unrepeated,
-      part-room 77824 _ (cells i .1) (counts t .0) (cells i .0) (omega (arith, cells i .1)),
-      joined.blocks-begin _ _ _ (T .blocks .index) (part-blank 77824 _ (cells i .1)) (part-room 77824 _ (cells i .1) {count = 0} (omega arith) (cells i .0) (omega (arith, cells i .1))),
+      part-room 81919 _ (cells i .1) (i .before .salt-for .result) (counts t .0) (rw (sym (header-blocks _ (i .before .before .header-of .ensures))) (omega (arith, cells i .0))),
+      joined.blocks-begin _ _ _ (T .blocks .index) (part-blank 81919 _ (cells i .1)) (part-room 81919 _ (cells i .1) (i .before .salt-for .result) {count = 0} (omega arith) (first-links (i .before .salt-for .result) (i .before .before .header-of .result .blocks) (cells i .0))),
       omega (arith, ready t .few-blocks, counts t .0, l .2),
       subst⁻¹ (BlocksSeen _ _ _ 0) (start t .pre .0) (blocks-begin _ _ _ 1056),
     )
@@ -129,12 +140,12 @@ admit-blocks-requires c κs =
 abbrev admitted : tie.Else3 → tie.After-admit-blocks
 admitted d = d .before .before .before .before .before
 
-abbrev fitted : tie.After-admit-blocks → tie.After-cells-for
+abbrev fitted : tie.After-admit-blocks → tie.After-packet-span
 fitted a = a .before .before .before .before
 
 -- all blocks are allowed
 good : (d : tie.Else3) → let i = fitted (admitted d) in length (packetOf (now (start (passed i) .args .bytes)) .blocks) ≤ admitted d .admit-blocks .result .bad
-good d = omega (arith, d .if3 .left, header-blocks _ (fitted (admitted d) .before .header-of .ensures))
+good d = omega (arith, d .if3 .left, header-blocks _ (fitted (admitted d) .before .before .header-of .ensures))
 
 returns-4 : tie.Need-returns-4
 returns-4 c =
@@ -144,28 +155,28 @@ returns-4 c =
     let o = read i in
     let t = short o in (
       block-refused _ _ _ _ (begun t .indexed-verdict .ensures .0) (t .enum-told2 .given .1) (o .before .before .too-long .ensures) (o .if1 .left) (o .before .well-formed .ensures) (not-false _ (f .if2 .left))
-          (header-blocks _ (i .before .header-of .ensures)) (a .admit-blocks .ensures .0) (c .if3 .taken),
+          (header-blocks _ (i .before .before .header-of .ensures)) (a .admit-blocks .ensures .0) (c .if3 .taken),
       λ e. absurd (not-passed e),
     )
 
 -- ---- votes
 
 -- as many links came back
-written : (a : tie.After-admit-blocks) → length (a .admit-blocks .last .1 .1 .1 .1 .1 .0) ≡ fitted a .cells-for .result
-written a = a .admit-blocks .kept .1 .1 .1 .1 .1 .0 ∙ part-length 77824 _ (cells (fitted a) .1)
+written : (a : tie.After-admit-blocks) → length (a .admit-blocks .last .1 .1 .1 .1 .1 .0) ≡ fitted a .packet-span .result
+written a = a .admit-blocks .kept .1 .1 .1 .1 .1 .0 ∙ part-length 81919 _ (cells (fitted a) .1)
 
 -- and the cells are those that were lent
 abbrev back : tie.After-admit-blocks → List ℕ
 back a = a .admit-blocks .last .1 .1 .1 .1 .1 .0
 
 abbrev behind : tie.After-admit-blocks → List ℕ
-behind a = drop (fitted a .cells-for .result) (replicate {A = ℕ} 77824 0)
+behind a = drop (fitted a .packet-span .result) (replicate {A = ℕ} 81919 0)
 
-filled : (a : tie.After-admit-blocks) → fitted a .cells-for .result ≤ length (back a ++ behind a)
-filled a = back-fits 77824 _ (cells (fitted a) .1) (back a) (behind a) (written a)
+filled : (a : tie.After-admit-blocks) → fitted a .packet-span .result ≤ length (back a ++ behind a)
+filled a = back-fits 81919 _ (cells (fitted a) .1) (back a) (behind a) (written a)
 
-size : (a : tie.After-admit-blocks) → length (take (fitted a .cells-for .result) (back a ++ behind a)) ≡ fitted a .cells-for .result
-size a = back-length 77824 _ (cells (fitted a) .1) (back a) (behind a) (written a)
+size : (a : tie.After-admit-blocks) → length (take (fitted a .packet-span .result) (back a ++ behind a)) ≡ fitted a .packet-span .result
+size a = back-length 81919 _ (cells (fitted a) .1) (back a) (behind a) (written a)
 
 admit-votes-requires : tie.Need-admit-votes-requires
 admit-votes-requires c κs =
@@ -174,7 +185,7 @@ admit-votes-requires c κs =
     let t = passed (fitted a) in
     let T = tables t in
     let x = a .admit-blocks .ensures .1 (good d) in
-    (T .blocks .fit, T .blocks .unrepeated, subst⁻¹ (BlocksIndexed _ _ _ _ _) (part-back 77824 _ (cells (fitted a) .1) _ _ (written a)) (x .1), omega (arith, ready t .few-blocks, counts t .0, lengths t .2, a .admit-blocks .kept .1 .1 .1 .1 .1 .1 .0), x .2)
+    (T .blocks .fit, T .blocks .unrepeated, subst⁻¹ (BlocksIndexed _ _ _ _ _ _) (part-back 81919 _ (cells (fitted a) .1) _ _ (written a)) (x .1), omega (arith, ready t .few-blocks, counts t .0, lengths t .2, a .admit-blocks .kept .1 .1 .1 .1 .1 .1 .1 .0), x .2)
 
 abbrev asked : tie.Else4 → tie.After-admit-votes
 asked w = w .before .before .before
@@ -191,7 +202,7 @@ returns-5 c =
     let f = formed i in
     let o = read i in
     let t = short o in
-    let h = i .before .header-of .ensures in (
+    let h = i .before .before .header-of .ensures in (
       vote-refused _ _ _ _ (begun t .indexed-verdict .ensures .0) (t .enum-told2 .given .1) (o .before .before .too-long .ensures) (o .if1 .left) (o .before .well-formed .ensures) (not-false _ (f .if2 .left))
           (header-blocks _ h) (a .admit-blocks .ensures .0) (d .if3 .left) (header-votes _ h) (v .admit-votes .ensures .0) (c .if4 .taken),
       λ e. absurd (not-passed e),
@@ -214,7 +225,7 @@ left c =
     let f = formed i in
     let o = read i in
     let t = short o in
-    let h = i .before .header-of .ensures in
+    let h = i .before .before .header-of .ensures in
     entries-passed _ _ _ _ (begun t .indexed-verdict .ensures .0) (t .enum-told2 .given .1) (o .before .before .too-long .ensures) (o .if1 .left) (o .before .well-formed .ensures) (not-false _ (f .if2 .left))
     (header-blocks _ h) (a .admit-blocks .ensures .0) (d .if3 .left) (header-votes _ h) (v .admit-votes .ensures .0) (w .if4 .left) (c .header-allowed .ensures)
 
@@ -237,48 +248,55 @@ returns-7 c =
     (blocks-full _ _ _ _ (ready (told a)) (a .header-allowed .result) (left a) (not-false _ (g .if5 .left)) (p .places-in .ensures) (new-blocks a) (c .if6 .taken), λ e. absurd (not-passed e))
 
 -- where there is room for the blocks
-abbrev roomy : tie.After-cells-for2 → tie.Else6
+abbrev roomy : tie.After-packet-span2 → tie.Else6
 roomy k = k .before .before .before .before .before
 
-abbrev allowed : tie.After-cells-for2 → tie.After-header-allowed
+abbrev allowed : tie.After-packet-span2 → tie.After-header-allowed
 allowed k = roomy k .before .before .before .before
 
--- all cells are free again
-all-free : (k : tie.After-cells-for2) → let f = k .before .before in let a = admitted (before-votes (asked (allowed k .before))) in let m = fitted a .cells-for .result in
-    f .free-all .last .0 ++ drop m (a .admit-blocks .last .1 .1 .1 .1 .1 .0 ++ drop m (replicate {A = ℕ} 77824 0)) ≡ replicate 77824 0
+packet-span-requires-2 : tie.Need-packet-span-requires-2
+packet-span-requires-2 c κs =
+    let a = c .before .before .before .before .before .before .before .before in
+    let h = fitted (admitted (before-votes (asked (a .before)))) .before in
+    (omega (arith, counts (told a) .1, header-votes _ (h .before .header-of .ensures)), λ z. h .salt-for .ensures z .1)
+
+-- all links are free again
+all-free : (k : tie.After-packet-span2) → let f = k .before .before in let a = admitted (before-votes (asked (allowed k .before))) in let m = fitted a .packet-span .result in
+    f .free-all .last .0 ++ drop m (a .admit-blocks .last .1 .1 .1 .1 .1 .0 ++ drop m (replicate {A = ℕ} 81919 0)) ≡ replicate 81919 0
 all-free k =
     let f = k .before .before in
     let a = admitted (before-votes (asked (allowed k .before))) in
-    let l = part-back 77824 _ (cells (fitted a) .1) (a .admit-blocks .last .1 .1 .1 .1 .1 .0) _ (written a) in
-    freed 77824 _ (cells (fitted a) .1) (a .admit-blocks .last .1 .1 .1 .1 .1 .0) (f .free-all .last .0) (written a) (f .free-all .kept .0 ∙ ap length l ∙ written a) (f .free-all .ensures)
+    let l = part-back 81919 _ (cells (fitted a) .1) (a .admit-blocks .last .1 .1 .1 .1 .1 .0) _ (written a) in
+    freed 81919 _ (cells (fitted a) .1) (a .admit-blocks .last .1 .1 .1 .1 .1 .0) (f .free-all .last .0) (written a) (f .free-all .kept .0 ∙ ap length l ∙ written a) (f .free-all .ensures)
 
-abbrev again : tie.After-cells-for2 → List ℕ
-again k = let a = admitted (before-votes (asked (allowed k .before))) in k .before .before .free-all .last .0 ++ drop (fitted a .cells-for .result) (back a ++ behind a)
+abbrev again : tie.After-packet-span2 → List ℕ
+again k = let a = admitted (before-votes (asked (allowed k .before))) in k .before .before .free-all .last .0 ++ drop (fitted a .packet-span .result) (back a ++ behind a)
 
-free-fits : (k : tie.After-cells-for2) → k .cells-for2 .result ≤ length (again k)
-free-fits k = subst⁻¹ (λ (l : List ℕ). k .cells-for2 .result ≤ length l) (all-free k) (part-fits 77824 _ (k .cells-for2 .ensures .1))
+free-fits : (k : tie.After-packet-span2) → k .packet-span2 .result ≤ length (again k)
+free-fits k = subst⁻¹ (λ (l : List ℕ). k .packet-span2 .result ≤ length l) (all-free k) (part-fits 81919 _ (k .packet-span2 .ensures .1))
 
-free-length : (k : tie.After-cells-for2) → length (take (k .cells-for2 .result) (again k)) ≡ k .cells-for2 .result
-free-length k = subst⁻¹ (λ (l : List ℕ). length (take (k .cells-for2 .result) l) ≡ k .cells-for2 .result) (all-free k) (part-length 77824 _ (k .cells-for2 .ensures .1))
+free-length : (k : tie.After-packet-span2) → length (take (k .packet-span2 .result) (again k)) ≡ k .packet-span2 .result
+free-length k = subst⁻¹ (λ (l : List ℕ). length (take (k .packet-span2 .result) l) ≡ k .packet-span2 .result) (all-free k) (part-length 81919 _ (k .packet-span2 .ensures .1))
 
-free-blank : (k : tie.After-cells-for2) → Blank (take (k .cells-for2 .result) (again k))
-free-blank k = subst⁻¹ (λ (l : List ℕ). Blank (take (k .cells-for2 .result) l)) (all-free k) (part-blank 77824 _ (k .cells-for2 .ensures .1))
+free-blank : (k : tie.After-packet-span2) → Blank (take (k .packet-span2 .result) (again k))
+free-blank k = subst⁻¹ (λ (l : List ℕ). Blank (take (k .packet-span2 .result) l)) (all-free k) (part-blank 81919 _ (k .packet-span2 .ensures .1))
 
-free-room : (k : tie.After-cells-for2) {count : ℕ} → count ≤ 65535 → Room count (take (k .cells-for2 .result) (again k))
-free-room k {count} h =
-    subst⁻¹ (λ (l : List ℕ). Room count (take (k .cells-for2 .result) l)) (all-free k)
-    (part-room 77824 _ (k .cells-for2 .ensures .1) h (k .cells-for2 .ensures .0) (omega (arith, k .cells-for2 .ensures .1)))
+free-room : (k : tie.After-packet-span2) (salt : ℕ) {count : ℕ} → count ≤ 65535 → linksOf (packetShape salt) count ≤ k .packet-span2 .result → PacketRoom salt count (take (k .packet-span2 .result) (again k))
+free-room k salt {count} h l =
+    subst⁻¹ (λ (l : List ℕ). PacketRoom salt count (take (k .packet-span2 .result) l)) (all-free k)
+    (part-room 81919 _ (k .packet-span2 .ensures .1) salt h l)
 
 new-votes-requires : tie.Need-new-votes-requires
 new-votes-requires c κs =
     let k = c .before .before .before in
     let t = told (allowed k) in
     let T = tables t in
-    let l = lengths t in (
+    let l = lengths t in
+    let h = fitted (admitted (before-votes (asked (allowed k .before)))) .before in (
       ready t .memory .vote-words,
       T .unrepeated,
-      free-room k (counts t .1),
-      joined.votes-begin _ _ _ (T .votes) (free-blank k) (free-room k (omega arith)),
+      free-room k (h .salt-for .result) (counts t .1) (rw (sym (header-votes _ (h .before .header-of .ensures))) (omega (arith, k .packet-span2 .ensures .0))),
+      joined.votes-begin _ _ _ (T .votes) (free-blank k) (free-room k (h .salt-for .result) (omega arith) (first-links (h .salt-for .result) (h .before .header-of .result .votes) (k .packet-span2 .ensures .0))),
       omega (arith, ready t .few-votes, counts t .1, l .3),
       subst⁻¹ (VotesSeen _ _ _ 0) (start t .pre .1) (votes-begin _ _ _ 1152),
     )
@@ -286,7 +304,7 @@ new-votes-requires c κs =
 abbrev counted : tie.After-places-in2 → tie.After-new-votes
 counted q = q .before .before .before .before
 
-abbrev noted : tie.After-places-in2 → tie.After-cells-for2
+abbrev noted : tie.After-places-in2 → tie.After-packet-span2
 noted q = counted q .before .before .before .before
 
 sub-if7 : tie.Need-sub-if7
@@ -315,12 +333,12 @@ returns-9 c =
     let t = told a in
     let v = asked (a .before) in
     let b = admitted (before-votes v) in
-    let named = v .admit-votes .ensures .1 (omega (arith, a .before .if4 .left, header-votes _ (fitted b .before .header-of .ensures))) in (
+    let named = v .admit-votes .ensures .1 (omega (arith, a .before .if4 .left, header-votes _ (fitted b .before .before .header-of .ensures))) in (
       room _ _ _ _ (ready t) (a .header-allowed .result) (left a) (not-false _ (p .before .if5 .left)) (p .places-in .ensures) (new-blocks a) (o .if6 .left)
           (q .places-in2 .ensures) (k .before .before .before .before .kept-from .ensures) (n .new-votes .ensures .0) (c .if7 .left),
       λ e. record {
-        blocks-fit = omega (arith, ready t .few-blocks, counts t .0, lengths t .2, b .admit-blocks .kept .1 .1 .1 .1 .1 .1 .0, v .admit-votes .kept .1 .1 .1 .1 .1 .1 .1 .0);
-        votes-fit = omega (arith, ready t .few-votes, counts t .1, lengths t .3, n .new-votes .kept .1 .1 .1 .1 .1 .1 .0);
+        blocks-fit = omega (arith, ready t .few-blocks, counts t .0, lengths t .2, b .admit-blocks .kept .1 .1 .1 .1 .1 .1 .1 .0, v .admit-votes .kept .1 .1 .1 .1 .1 .1 .1 .1 .0);
+        votes-fit = omega (arith, ready t .few-votes, counts t .1, lengths t .3, n .new-votes .kept .1 .1 .1 .1 .1 .1 .1 .0);
         blocks-new = blocks-new _ _ _ _ named;
         blocks-named = blocks-named _ _ _ _ named;
         votes-new = votes-new _ _ _ _ (n .new-votes .ensures .1);
@@ -330,10 +348,10 @@ returns-9 c =
 
 -- the set of blocks has its length
 block-firsts-kept : (q : tie.After-places-in2) → let v = asked (allowed (noted q) .before) in
-    length (v .admit-votes .last .1 .1 .1 .1 .1 .1 .1 .0) ≡ length (now (start (told (allowed (noted q))) .args .block-firsts))
+    length (v .admit-votes .last .1 .1 .1 .1 .1 .1 .1 .1 .0) ≡ length (now (start (told (allowed (noted q))) .args .block-firsts))
 block-firsts-kept q =
     let v = asked (allowed (noted q) .before) in
-    v .admit-votes .kept .1 .1 .1 .1 .1 .1 .1 .0 ∙ admitted (before-votes v) .admit-blocks .kept .1 .1 .1 .1 .1 .1 .0
+    v .admit-votes .kept .1 .1 .1 .1 .1 .1 .1 .1 .0 ∙ admitted (before-votes v) .admit-blocks .kept .1 .1 .1 .1 .1 .1 .1 .0
 
 -- where the cells are to be free again
 abbrev full : tie.Else6 → tie.After-admit-blocks
@@ -342,9 +360,9 @@ full o = admitted (before-votes (asked (o .before .before .before .before .befor
 pub receive-verdict-spec : {M : Type 1} → statement M
 receive-verdict-spec {M} =
     let s₁ = tie.spec {M = M} (λ c. search needs) (λ c. search needs) indexed-verdict-requires (λ c. search needs) returns (λ c. search needs) in
-    let s₂ = s₁ (λ c κs. search needs) (λ c κs. search needs) returns-2 returns-3 (λ c κs. search needs) (λ c κs. search needs) in
-    let s₃ = s₂ (λ c. sym (lengths (passed (c .before)) .0)) (λ c. part-fits 77824 _ (cells (c .before) .1)) (λ c. sym (part-length 77824 _ (cells (c .before .before) .1))) admit-blocks-requires (λ c. search needs) returns-4 in
+    let s₂ = s₁ (λ c κs. search needs) (λ c κs. search needs) returns-2 returns-3 (λ c κs. search needs) (λ c κs. search needs) packet-span-requires in
+    let s₃ = s₂ (λ c. sym (lengths (passed (c .before)) .0)) (λ c. part-fits 81919 _ (cells (c .before) .1)) (λ c. sym (part-length 81919 _ (cells (c .before .before) .1))) admit-blocks-requires (λ c. search needs) returns-4 in
     let s₄ = s₃ (λ c. sym (lengths (passed (fitted (admitted (c .before)))) .0)) (λ c. filled (admitted (c .before))) (λ c. sym (size (admitted (c .before .before)))) admit-votes-requires (λ c. search needs) returns-5 (λ c κs. search needs) in
-    let s₅ = s₄ (λ c. search needs) returns-6 (λ c κs. search needs) sub-if6 (λ c. search needs) returns-7 (λ c κs. search needs) (λ c. filled (full (c .before))) (λ c. sym (size (full (c .before .before)))) (λ c κs. search needs) (λ c κs. search needs) in
+    let s₅ = s₄ (λ c. search needs) returns-6 (λ c κs. search needs) sub-if6 (λ c. search needs) returns-7 (λ c κs. search needs) (λ c. filled (full (c .before))) (λ c. sym (size (full (c .before .before)))) (λ c κs. search needs) packet-span-requires-2 in
     let s₆ = s₅ (λ c. sym (lengths (told (allowed (c .before))) .1)) (λ c. free-fits (c .before)) (λ c. sym (free-length (c .before .before))) new-votes-requires (λ c κs. search needs) sub-if7 in
-    tie.close (s₆ (λ c. block-firsts-kept (c .before)) (λ c. counted (c .before) .new-votes .kept .1 .1 .1 .1 .1 .1 .0) returns-8 (λ c. block-firsts-kept (c .before)) (λ c. counted (c .before) .new-votes .kept .1 .1 .1 .1 .1 .1 .0) returns-9)
+    tie.close (s₆ (λ c. block-firsts-kept (c .before)) (λ c. counted (c .before) .new-votes .kept .1 .1 .1 .1 .1 .1 .1 .0) returns-8 (λ c. block-firsts-kept (c .before)) (λ c. counted (c .before) .new-votes .kept .1 .1 .1 .1 .1 .1 .1 .0) returns-9)

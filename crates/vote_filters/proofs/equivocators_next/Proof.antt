@@ -3,7 +3,7 @@ use borrow.Author.Needs.{needs}
 use borrow.Author.Tests.{eqb-true, eqb-false, not-true, not-false}
 use native.Mathlib.Omega.{arith}
 use mathlib.Core.Path.{refl, ap, sym, _∙_}
-use Rattle.hash_table.proofs.Walk.{linked-below}
+use Rattle.search_tree.proofs.Descent.{linked-below}
 use Rattle.vote_filters.proofs.Equivocators.{alone-turn, out-turn, again-turn, double-turn}
 use Rattle.vote_filters.proofs.equivocators_next.Statement.{statement}
 use Rattle.vote_filters.proofs.equivocators_next.Tie as tie

@@ -4,7 +4,7 @@ use native.Mathlib.Omega.{arith}
 use Prim.Native.Nat.{ℕ, _-_, _≤_}
 use mathlib.Core.Path.{_≡_, refl, sym, _∙_}
 use lib.ListN.{length, length-replicate}
-use Rattle.hash_table.proofs.Table.{index-free, blank-new}
+use Rattle.search_tree.proofs.Tree.{index-free, blank-new}
 use Rattle.index.specs.Links.{SlotIndex}
 use Rattle.vote_filters.specs.Latest.{votesOf, equivocatorsOf, Latest}
 use Rattle.vote_filters.proofs.Equivocators.{equivocators-none}
@@ -13,7 +13,7 @@ use Rattle.vote_filters.proofs.gather.Tie as tie
 
 abbrev Inv-loop : tie.InvT-loop
 Inv-loop votes used whole expiry t slots₀ numbers₀ links₀ mask₀ i₀ slots numbers links mask i =
-    (i ≤ used) × (length slots ≡ length slots₀) × (length numbers ≡ length numbers₀) × (length links ≡ 32768) × SlotIndex whole votes i links
+    (i ≤ used) × (length slots ≡ length slots₀) × (length numbers ≡ length numbers₀) × (length links ≡ 24576) × SlotIndex whole votes i links
     × (mask ≡ equivocatorsOf (votesOf whole votes i) expiry t) × Latest (votesOf whole votes i) expiry t slots numbers
 
 abbrev μ-loop : tie.MeasureT-loop
@@ -22,8 +22,8 @@ abbrev μ-loop : tie.MeasureT-loop
 loop-holds : tie.Need-loop-holds Inv-loop μ-loop
 loop-holds c =
     let s = c .before .before .before in
-    let l = length-replicate {A = ℕ} 32768 0 in
-    (omega arith, refl, refl, l, index-free _ (blank-new 32768) (omega arith) (omega arith), sym (equivocators-none _ _ _ _), s .pre .5)
+    let l = length-replicate {A = ℕ} 24576 0 in
+    (omega arith, refl, refl, l, index-free _ (blank-new 24576) (omega arith), sym (equivocators-none _ _ _ _), s .pre .5)
 
 abbrev start : tie.At-loop Inv-loop μ-loop → tie.Start Inv-loop μ-loop
 start l = l .before .before .before .before
@@ -32,7 +32,7 @@ equivocators-next-requires : tie.Need-equivocators-next-requires Inv-loop μ-loo
 equivocators-next-requires c κs =
     let l = c .before .before in
     let s = start l in
-    (omega arith, (omega arith, omega (arith, l .loop .inv .3), omega (arith, l .loop .inv .3)), (λ i h. s .pre .2 i (omega arith)), l .loop .inv .4, l .loop .inv .5)
+    (omega arith, (omega arith, omega (arith, l .loop .inv .3)), (λ i h. s .pre .2 i (omega arith)), l .loop .inv .4, l .loop .inv .5)
 
 latest-next-requires : tie.Need-latest-next-requires Inv-loop μ-loop
 latest-next-requires c κs =

@@ -120,7 +120,8 @@ enum {
     LIKVOST_BAD_VOTE = 20,           /* a vote of the packet breaks a rule: the one with this `index` */
     LIKVOST_BAD_HEADER = 21,         /* a proposal's header names no block of the packet, or another slot */
     LIKVOST_NUMBER_TOO_WIDE = 23,    /* narrow writing meets a number whose upper half is not 0 */
-    LIKVOST_PACKET_TOO_LONG = 24     /* the packet is longer than this node's profile allows */
+    LIKVOST_PACKET_TOO_LONG = 24,    /* the packet is longer than this node's profile allows */
+    LIKVOST_SILENT_OUT_OF_RANGE = 25 /* a set of silent nodes names one that is not below nodes */
 };
 
 /* A readable message for a refusal number, for logs. */
@@ -134,8 +135,9 @@ static inline const char *likvost_refusal_message(uint64_t refusal)
         "already voted in this slot", "slot 0, before the one last merged, or above the slot seen", "buffer too short",
         "no own proposal of this beat", "a vote of the packet breaks a rule", "the proposal's header does not fit its blocks",
         "unknown refusal", /* no call is refused by 22 */
-        "narrow writing meets a number of more than 8 bytes", "packet too long for this node"};
-    return refusal < 25 ? messages[refusal] : "unknown refusal";
+        "narrow writing meets a number of more than 8 bytes", "packet too long for this node",
+        "a silent node's index is not below nodes"};
+    return refusal < 26 ? messages[refusal] : "unknown refusal";
 }
 
 /* The answer of a call that changes the memory. */
@@ -190,7 +192,7 @@ likvost_answer likvost_vote(likvost_settings settings, likvost_clock clock, uint
 likvost_answer likvost_merge(likvost_settings settings, likvost_clock clock, uint64_t *blocks, size_t blocks_len,
                              size_t *blocks_used, uint64_t *votes, size_t votes_len, size_t *votes_used, uint64_t beat);
 
-/* The head for a slot, over the view. This and the next two questions are for slots from clock.merged to the slot seen.
+/* The head for a slot, over the view. This and the next three questions are for slots from clock.merged to the slot seen.
  * Refusals: 6 17. */
 likvost_found likvost_head(likvost_settings settings, likvost_clock clock, const uint64_t *blocks, size_t blocks_len,
                            size_t blocks_used, const uint64_t *votes, size_t votes_len, size_t votes_used, uint64_t slot);
@@ -206,6 +208,14 @@ likvost_found likvost_deep(likvost_settings settings, likvost_clock clock, const
  * dishonest, packets in time, enough voters awake) what it answers stays under every later honest vote and block. Refusals: 6 17. */
 likvost_found likvost_fast(likvost_settings settings, likvost_clock clock, const uint64_t *blocks, size_t blocks_len,
                            size_t blocks_used, const uint64_t *votes, size_t votes_len, size_t votes_used, uint64_t slot);
+
+/* The block that stands whatever silent nodes would say: the farthest block from block 0 that is on the chain of the head for the slot, for everything that
+ * the nodes of the set `silent` may count for. Bit v of the set is node v. Each of them may count for nothing or for any one block in view of a slot below
+ * this one, its own vote does not matter, and the others count as they voted. With no silent node it is the head. It is on the head's chain, and one
+ * more silent node leaves it or moves it down. It takes about as long as likvost_head. Refusals: 6 17 25. */
+likvost_found likvost_settled(likvost_settings settings, likvost_clock clock, const uint64_t *blocks, size_t blocks_len,
+                              size_t blocks_used, const uint64_t *votes, size_t votes_len, size_t votes_used, uint64_t slot,
+                              uint64_t silent);
 
 /* Writes the node's gossip (its whole store) or its proposal (its view) into the buffer. Bytes beyond the packet stay.
  * Write wide: the packet (kind 2 gossip, 3 proposal) has numbers of 16 bytes, and takes 25 bytes, 36 for each block but block 0 and 21 for

@@ -92,6 +92,7 @@ static void merge(void) { keep(likvost_merge(settings, now, TABLES, 3 * last + 2
 static void head(void) { must(likvost_head(settings, now, READ_TABLES, last).refusal); }
 static void deep(void) { must(likvost_deep(settings, now, READ_TABLES, last).refusal); }
 static void fast(void) { must(likvost_fast(settings, now, READ_TABLES, last).refusal); }
+static void settled(void) { must(likvost_settled(settings, now, READ_TABLES, last, 1).refusal); }
 static void write_gossip(void) { must(likvost_write(settings, now, READ_TABLES, false, true, gossip, sizeof gossip).refusal); }
 static void propose(void)
 {
@@ -131,7 +132,8 @@ static size_t measure(const limits *l, size_t thread)
         const char *name;
         void (*call)(void);
     } calls[] = {{"Open", open},   {"Receive, proposal", receive_proposal}, {"Receive, gossip", receive}, {"Merge", merge},
-                 {"Head", head},   {"Deep", deep},                          {"Fast", fast},               {"Write", write_gossip},
+                 {"Head", head},   {"Deep", deep},                          {"Fast", fast},               {"Settled", settled},
+                 {"Write", write_gossip},
                  {"Propose", propose}, {"Vote", vote}};
     size_t largest = 0;
     last = l->blocks - 1;

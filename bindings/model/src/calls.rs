@@ -1,5 +1,5 @@
 //! The calls on a node. A number in `Err` is the refusal's; a refused call changes nothing.
-//! Words of requests 1, 4, 8 and 9 are marked so.
+//! Words of requests 1, 4, 8, 9, 10 and 13 are marked so.
 
 use crate::packet::{Packet, PacketBlock, PacketVote};
 use crate::tables::{phase_of, slot_of, Block, Node, Vote};
@@ -16,6 +16,17 @@ pub struct Received {
     pub new_votes: u64,
     /// The packet was a proposal and came into view.
     pub brought: bool,
+}
+
+/// Request 10: what a Receive would take in, "without touching anything".
+#[derive(Debug, Clone, Copy, PartialEq, Eq)]
+pub struct Figures {
+    /// How many blocks would be new.
+    pub new_blocks: u64,
+    /// How many votes would be new.
+    pub new_votes: u64,
+    /// The bytes of a wide gossip packet afterwards.
+    pub bytes: u64,
 }
 
 /// Why a Receive was refused: the number, and the index of the refused entry in its section where there is one.
@@ -72,19 +83,7 @@ impl Node {
 
     /// Receive: takes in what is new of a packet.
     pub fn receive(&mut self, beat: u64, packet: &[u8]) -> Result<Received, Refused> {
-        self.test_sound().map_err(Refused::whole)?;
-        self.test_beat(beat).map_err(Refused::whole)?;
-        // Request 9: "24 when a packet to be read is longer than the node's limit, before 8"
-        let longest = self.settings.profile.limits().packet_bytes;
-        refuse_if(longest.is_some_and(|longest| packet.len() > longest), 24).map_err(Refused::whole)?;
-        // "8 length, kind or zero fields wrong"
-        let packet = Packet::decode(packet).ok_or(Refused::whole(8))?;
-        // Request 1: "Blocks are tested in order, then votes, then the header"
-        let new_blocks = self.new_blocks(beat, &packet)?;
-        let new_votes = self.new_votes(beat, &packet)?;
-        // Request 1: "21 when a proposal's header names no block of the packet or another slot"
-        let named = |block: &PacketBlock| block.number == packet.number && block.slot == packet.slot;
-        refuse_if(packet.is_proposal() && !packet.blocks.iter().any(named), 21).map_err(Refused::whole)?;
+        let (packet, new_blocks, new_votes) = self.read(beat, packet)?;
         // "10 fewer free places than new entries"
         refuse_if(self.blocks.len() - self.blocks_used < new_blocks.len(), 10).map_err(Refused::whole)?;
         refuse_if(self.votes.len() - self.votes_used < new_votes.len(), 10).map_err(Refused::whole)?;
@@ -106,6 +105,20 @@ impl Node {
         // "Receive sets the beat seen"
         self.clock.seen = beat;
         Ok(Received { new_blocks: new_blocks.len() as u64, new_votes: new_votes.len() as u64, brought })
+    }
+
+    /// Request 10: "the new blocks, the new votes and the bytes that a gossip packet would have afterwards". It refuses
+    /// "as Receive would, but gives the figures in place of 10".
+    pub fn figures(&self, beat: u64, packet: &[u8]) -> Result<Figures, Refused> {
+        let (_, new_blocks, new_votes) = self.read(beat, packet)?;
+        let (new_blocks, new_votes) = (new_blocks.len() as u64, new_votes.len() as u64);
+        // "block 0 is never written"
+        let blocks = self.blocks_used as u64 - 1 + new_blocks;
+        let votes = self.votes_used as u64 + new_votes;
+        // Kind 1 byte, slot 4, number 16 and two counts of 2; request 8: "blocks take 36 bytes, votes 21".
+        // Request 10: "past the largest tables they are the same sums"
+        let bytes = 1 + 4 + 16 + 2 + 36 * blocks + 2 + 21 * votes;
+        Ok(Figures { new_blocks, new_votes, bytes })
     }
 
     /// Propose: makes the block of an own slot and answers the base.
@@ -174,6 +187,15 @@ impl Node {
         Ok(View::in_view(self).fast(slot))
     }
 
+    /// Request 13: the block that is sure for a slot while the looms of a set are silent; bit v stands for node v. None
+    /// where there are too many fillings to try: this model does not say then.
+    pub fn unheard(&self, slot: u64, silent: u64) -> Result<Option<u128>, u32> {
+        self.test_question(slot)?;
+        // Request 13: "25 when the set names a node not below n, tested after 17"
+        refuse_if((self.settings.nodes..64).any(|node| silent >> node & 1 == 1), 25)?;
+        Ok(View::in_view(self).unheard(slot, silent))
+    }
+
     /// Write: writes a packet into the front of the buffer and answers its length.
     pub fn write(&self, proposal: bool, wide: bool, buffer: &mut [u8]) -> Result<usize, u32> {
         self.test_sound()?;
@@ -211,6 +233,24 @@ impl Node {
     /// "13 not joined": "It is joined for slot t if it last merged slot t-1."
     fn test_joined(&self, t: u64) -> Result<(), u32> {
         refuse_if(t.checked_sub(1) != Some(self.clock.merged), 13)
+    }
+
+    /// The tests of Receive but 10: the packet and what is new of it.
+    fn read(&self, beat: u64, packet: &[u8]) -> Result<(Packet, Vec<Block>, Vec<Vote>), Refused> {
+        self.test_sound().map_err(Refused::whole)?;
+        self.test_beat(beat).map_err(Refused::whole)?;
+        // Request 9: "24 when a packet to be read is longer than the node's limit, before 8"
+        let longest = self.settings.profile.limits().packet_bytes;
+        refuse_if(longest.is_some_and(|longest| packet.len() > longest), 24).map_err(Refused::whole)?;
+        // "8 length, kind or zero fields wrong"
+        let packet = Packet::decode(packet).ok_or(Refused::whole(8))?;
+        // Request 1: "Blocks are tested in order, then votes, then the header"
+        let new_blocks = self.new_blocks(beat, &packet)?;
+        let new_votes = self.new_votes(beat, &packet)?;
+        // Request 1: "21 when a proposal's header names no block of the packet or another slot"
+        let named = |block: &PacketBlock| block.number == packet.number && block.slot == packet.slot;
+        refuse_if(packet.is_proposal() && !packet.blocks.iter().any(named), 21).map_err(Refused::whole)?;
+        Ok((packet, new_blocks, new_votes))
     }
 
     /// The tests of Head, Deep and Fast: "17 slot 0 or above the slot seen".

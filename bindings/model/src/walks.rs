@@ -1,9 +1,12 @@
-//! Filters and walks over a view: head, base, deep block, fast block.
-//! Words of requests 2 and 8 are marked so.
+//! Filters and walks over a view: head, base, deep block, fast block, and the block that is sure with silent looms.
+//! Words of requests 2, 8 and 13 are marked so.
 
 use crate::tables::{Block, Node, Settings, Vote};
 use std::collections::{HashMap, HashSet};
 use std::ops::Range;
+
+/// The most fillings of request 13 that are tried.
+const MOST_FILLINGS: u64 = 20_000;
 
 /// The entries that a filter or a walk looks at, in table order. The tables must be sound.
 pub(crate) struct View {
@@ -90,7 +93,12 @@ impl View {
 
     /// The place at which the walk for slot t stops; it goes only to blocks that `allowed` lets through.
     fn walk(&self, t: u64, allowed: impl Fn(&Block) -> bool) -> usize {
-        let weights = self.weights(&self.kept_votes(t));
+        self.walk_by(&self.kept_votes(t), allowed)
+    }
+
+    /// The same walk with these kept votes.
+    fn walk_by(&self, kept: &[Vote], allowed: impl Fn(&Block) -> bool) -> usize {
+        let weights = self.weights(kept);
         let mut children: Vec<Vec<usize>> = vec![Vec::new(); self.blocks.len()];
         for place in 1..self.blocks.len() {
             if allowed(&self.blocks[place]) {
@@ -141,14 +149,59 @@ impl View {
         let of_slot = |vote: &&Vote| vote.slot == t && !double.contains(&vote.voter);
         let votes: Vec<Vote> = self.votes.iter().filter(of_slot).copied().collect();
         let weights = self.weights(&votes);
-        let mut distances = vec![0u64; self.blocks.len()];
-        for place in 1..self.blocks.len() {
-            distances[place] = distances[self.parents[place]] + 1;
-        }
+        let distances = self.distances();
         // "with 4 × its weight at least 3 × n; none if no block has it"
         let enough = |&place: &usize| 4 * u64::from(weights[place]) >= 3 * self.settings.nodes;
         // "the block farthest from block 0"
         let place = (0..self.blocks.len()).filter(enough).max_by_key(|&place| distances[place])?;
         Some(self.blocks[place].number)
+    }
+
+    /// For each block the number of parent steps to block 0.
+    fn distances(&self) -> Vec<u64> {
+        let mut distances = vec![0u64; self.blocks.len()];
+        for place in 1..self.blocks.len() {
+            distances[place] = distances[self.parents[place]] + 1;
+        }
+        distances
+    }
+
+    /// Request 13: "the farthest block from block 0 that lies on the head's chain for every such filling", by trying
+    /// every filling. None where there are too many.
+    pub(crate) fn unheard(&self, t: u64, silent: u64) -> Option<u128> {
+        let is_silent = |voter: u64| silent >> voter & 1 == 1;
+        let looms: Vec<u64> = (0..64).filter(|&voter| is_silent(voter)).collect();
+        // Request 13: "any one block in view of a slot below t"
+        let below: Vec<u128> = self.blocks.iter().filter(|block| block.slot < t).map(|block| block.number).collect();
+        // Request 13: "may count for nothing or for any one block"
+        let choices: Vec<Option<u128>> = std::iter::once(None).chain(below.into_iter().map(Some)).collect();
+        let count = choices.len() as u64;
+        let fillings = count.checked_pow(looms.len() as u32).filter(|&fillings| fillings <= MOST_FILLINGS)?;
+        // Request 13: "the other kept votes stand"
+        let others: Vec<Vote> = self.kept_votes(t).into_iter().filter(|vote| !is_silent(vote.voter)).collect();
+        // For each block the number of fillings with the block on the head's chain.
+        let mut chains = vec![0u64; self.blocks.len()];
+        for filling in 0..fillings {
+            // The filling's digits to the base of `count` are the choices of the silent looms.
+            let mut digits = filling;
+            let mut kept = others.clone();
+            for &voter in &looms {
+                if let Some(number) = choices[(digits % count) as usize] {
+                    // The walk does not look at the slot of a kept vote.
+                    kept.push(Vote { voter, slot: t - 1, number, in_view: true });
+                }
+                digits /= count;
+            }
+            // "child in view with slot at most t"
+            let mut place = self.walk_by(&kept, |block| block.slot <= t);
+            while place != 0 {
+                chains[place] += 1;
+                place = self.parents[place];
+            }
+            chains[0] += 1;
+        }
+        let distances = self.distances();
+        let sure = (0..self.blocks.len()).filter(|&place| chains[place] == fillings);
+        sure.max_by_key(|&place| distances[place]).map(|place| self.blocks[place].number)
     }
 }

@@ -108,13 +108,13 @@ impl Case {
     }
 
     /// The memory that a call is made on. A packet is all new to a fresh node; questions are asked right after a Merge, so nothing waits.
-    fn memory_for(&self, call: usize) -> Memory {
+    fn memory_for(&self, call: &str) -> Memory {
         let mut memory = self.memory.clone();
-        match CALLS[call] {
+        match call {
             "Receive, all entries new" => {
                 Node::open_in(self.settings, &mut memory).expect("settings and lengths are in range");
             }
-            "Head" | "Deep" | "Fast" => {
+            "Head" | "Deep" | "Fast" | SETTLED => {
                 memory.blocks.chunks_exact_mut(BLOCK_WORDS).take(memory.blocks_used).for_each(|row| row[BLOCK_WORDS - 1] = 1);
                 memory.votes.chunks_exact_mut(VOTE_WORDS).take(memory.votes_used).for_each(|row| row[VOTE_WORDS - 1] = 1);
             }
@@ -173,6 +173,9 @@ struct Packets {
     /// These and a new block, the next slot's proposal.
     proposal: Vec<u8>,
 }
+
+/// Settled, with node 0 silent.
+const SETTLED: &str = "Settled";
 
 /// The calls that are measured, with the arguments of their row.
 const CALLS: [&str; 12] = [
@@ -237,7 +240,7 @@ macro_rules! timed_call {
 
 fn proved<'a>(case: &'a Case, call: usize, packets: &'a Packets) -> Run<'a> {
     let mut buffer = vec![0; packets.gossip.len()];
-    let memory = case.memory_for(call);
+    let memory = case.memory_for(CALLS[call]);
     Box::new(move || {
         let mut node = Node::from_memory(case.settings, memory.clone());
         let mut opened = memory.clone();
@@ -246,9 +249,18 @@ fn proved<'a>(case: &'a Case, call: usize, packets: &'a Packets) -> Run<'a> {
     })
 }
 
+fn settled(case: &Case) -> Run<'_> {
+    let memory = case.memory_for(SETTLED);
+    Box::new(move || {
+        // on a copy that was just made, as every other call
+        let node = Node::from_memory(case.settings, memory.clone());
+        timed(|| assert!(node.settled(case.last, 1).is_ok()))
+    })
+}
+
 fn modelled<'a>(case: &'a Case, call: usize, packets: &'a Packets) -> Run<'a> {
     let mut buffer = vec![0; packets.gossip.len()];
-    let model = case.model(&case.memory_for(call));
+    let model = case.model(&case.memory_for(CALLS[call]));
     Box::new(move || {
         let mut node = model.clone();
         let mut opened = model.clone();
@@ -305,7 +317,10 @@ fn measure(profile: Profile, kind: Kind, nodes: u64, (blocks, votes): (usize, us
             ratio(mf, once)
         );
     }
-    println!();
+    let head = CALLS.iter().position(|name| *name == "Head").unwrap();
+    let [once, sh, sf, hf] = medians([pass(&full), settled(&half), settled(&full), proved(&full, head, &full_packets)]);
+    println!("| {SETTLED} | {} | {} | {} | {} | | | | |\n", micros(sh), micros(sf), ratio(sf, sh), ratio(sf, once));
+    println!("On the full tables Settled takes {} times a Head.\n", ratio(sf, hf));
 }
 
 fn main() {

@@ -334,7 +334,7 @@ impl Node {
         Self::answered(m, a).map(|_| ())
     }
 
-    /// The head for a slot, from the one last merged to the one seen. The deep and the fast block are for these slots too.
+    /// The head for a slot, from the one last merged to the one seen. The deep, the fast and the settled block are for these slots too.
     ///
     /// ```
     /// use likvost::{Node, Profile, Refusal, Settings};
@@ -363,6 +363,48 @@ impl Node {
         self.ask(ffi::likvost_fast, slot).map(|found| (found.found != 0).then_some(found.value.into()))
     }
 
+    /// The settled block for a slot: the farthest block from block 0 that is on the chain of the head, whatever the nodes of the set `silent` count
+    /// for. Bit `v` is node `v`. Each of them may count for nothing or for any one block in view of a slot below this one; the others count as they
+    /// voted. With no silent node it is the head, and it is always on the head's chain; one more silent node leaves it or moves it down.
+    ///
+    /// ```
+    /// use likvost::{Node, Profile, Refusal, Settings};
+    ///
+    /// # fn main() -> Result<(), Refusal> {
+    /// let settings = Settings { profile: Profile::Loom, nodes: 3, own: 1, expiry: 4, depth: 1 };
+    /// let mut node = Node::open(settings, 16, 32)?;
+    /// node.propose(3, 11)?;
+    /// node.vote(4)?;
+    /// node.merge(5)?;
+    /// // Block 11 of slot 1 has no rival, so nobody can turn the head of slot 2 away from it.
+    /// node.receive(6, &node.gossip()?)?;
+    /// assert_eq!(node.settled(2, 0b101)?, 11);
+    /// assert_eq!(node.settled(2, 0)?, node.head(2)?);
+    /// assert_eq!(node.settled(2, 0b1000), Err(Refusal::SilentOutOfRange));
+    /// # Ok(())
+    /// # }
+    /// ```
+    pub fn settled(&self, slot: u64, silent: u64) -> Result<u128, Refusal> {
+        let m = &self.memory;
+        let (b, v) = (&m.blocks, &m.votes);
+        // SAFETY: as in `ask`.
+        let found = unsafe {
+            ffi::likvost_settled(
+                self.settings.into(),
+                m.clock,
+                b.as_ptr(),
+                b.len(),
+                m.blocks_used,
+                v.as_ptr(),
+                v.len(),
+                m.votes_used,
+                slot,
+                silent,
+            )
+        };
+        Self::found(found).map(|found| found.value.into())
+    }
+
     fn ask(&self, question: ffi::Question, slot: u64) -> Result<ffi::Found, Refusal> {
         let m = &self.memory;
         let (b, v) = (&m.blocks, &m.votes);
@@ -370,6 +412,11 @@ impl Node {
         let found = unsafe {
             question(self.settings.into(), m.clock, b.as_ptr(), b.len(), m.blocks_used, v.as_ptr(), v.len(), m.votes_used, slot)
         };
+        Self::found(found)
+    }
+
+    /// Tells a refusal from the answer of a question.
+    fn found(found: ffi::Found) -> Result<ffi::Found, Refusal> {
         match Refusal::from_answer(found.refusal, 0) {
             None => Ok(found),
             Some(refusal) => Err(refusal),

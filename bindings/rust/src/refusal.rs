@@ -72,6 +72,8 @@ pub enum Refusal {
     NumberTooWide,
     /// 24: the packet is longer than this node's [profile](crate::Profile) allows.
     PacketTooLong,
+    /// 25: a set of silent nodes names one that is not below nodes.
+    SilentOutOfRange,
 }
 
 impl Refusal {
@@ -102,6 +104,7 @@ impl Refusal {
             21 => Refusal::BadHeader,
             23 => Refusal::NumberTooWide,
             24 => Refusal::PacketTooLong,
+            25 => Refusal::SilentOutOfRange,
             _ => unreachable!("no call answers this number"),
         })
     }
@@ -132,6 +135,7 @@ impl Refusal {
             Refusal::BadHeader => 21,
             Refusal::NumberTooWide => 23,
             Refusal::PacketTooLong => 24,
+            Refusal::SilentOutOfRange => 25,
         }
     }
 
@@ -170,6 +174,7 @@ impl fmt::Display for Refusal {
             Refusal::BadHeader => "the proposal's header does not fit its blocks",
             Refusal::NumberTooWide => "narrow writing meets a number of more than 8 bytes",
             Refusal::PacketTooLong => "packet too long for this node",
+            Refusal::SilentOutOfRange => "a silent node's index is not below nodes",
         })
     }
 }

@@ -33,7 +33,7 @@ answerOf (answer.Received t) = rules.done (received (receivedOf t))
 answerOf (answer.Block b) = rules.done (block (value b))
 answerOf (answer.Refused e) = rules.refused (refusalOf e)
 
--- ---- Head, Deep and Fast
+-- ---- Head, Deep, Fast and Settled
 
 abbrev pub foundOf : Found → rules.Answer Choice
 foundOf (found.Block b) = rules.done (chosen (value b))

@@ -12,7 +12,7 @@ use Rattle.protocol.specs.Calls.Receive.{receive}
 use Rattle.protocol.specs.Calls.Propose.{propose}
 use Rattle.protocol.specs.Calls.Vote.{vote}
 use Rattle.protocol.specs.Calls.Merge.{merge}
-use Rattle.protocol.specs.Calls.Query.{headQuery, deepQuery, fastQuery}
+use Rattle.protocol.specs.Calls.Query.{headQuery, deepQuery, fastQuery, settledQuery}
 use Rattle.protocol.specs.Calls.Write as writing
 use Rattle.protocol.specs.Lent.{Lent, LentOutcome, openLent, callLent, askLent, writeLent}
 use Rattle.answers.specs.Answers.{Value, nothingMore, received, block, answerOf, foundOf, writtenOf, mapAnswer}
@@ -53,7 +53,7 @@ module _ (s : Settings) (m : Lent) where
   Carries call.Vote beat bytes = Votes beat
   Carries call.Merge beat bytes = Merges beat
 
-  -- ---- Head, Deep and Fast: the memory is only read
+  -- ---- Head, Deep, Fast and Settled: the memory is only read
 
   abbrev pub IsHead : ℕ → Found → Type 0
   IsHead slot r = foundOf r ≡ mapAnswer chosen (askLent s (λ p x. headQuery s p x slot) m)
@@ -63,6 +63,9 @@ module _ (s : Settings) (m : Lent) where
 
   abbrev pub IsFast : ℕ → Found → Type 0
   IsFast slot r = foundOf r ≡ askLent s (λ p x. fastQuery s p x slot) m
+
+  abbrev pub IsSettled : ℕ → ℕ → Found → Type 0
+  IsSettled slot silent r = foundOf r ≡ mapAnswer chosen (askLent s (λ p x. settledQuery s p x slot silent) m)
 
   -- ---- Write: the memory is only read; the buffer as it was and as it is left
 

@@ -1,4 +1,4 @@
-// The answers of the nine calls. What each means is in specs/Answers, what each call promises in specs/Promises.
+// The answers of the ten calls. What each means is in specs/Answers, what each call promises in specs/Promises.
 use protocol::Clock;
 use protocol::Number;
 use verdicts::Refusal;
@@ -33,7 +33,7 @@ pub enum Call {
     Merge,
 }
 
-// The answer of Head, Deep and Fast. Fast alone answers Nothing: no block has the quorum.
+// The answer of Head, Deep, Fast and Settled. Fast alone answers Nothing: no block has the quorum.
 pub enum Found {
     Block(Number),
     Nothing,

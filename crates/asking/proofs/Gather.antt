@@ -1,11 +1,11 @@
--- The three answers of code together are what `gather` makes of them. Assumes nothing.
+-- The three answers of code together are what `gather` makes of them, and that of Settled is its block's. Assumes nothing.
 use Prim.Native.Nat.{ℕ}
 use mathlib.Core.Path.{_≡_, refl, ap, sym}
 use native.Mathlib.Omega.{arith}
 use Rattle.protocol.specs.Filters.{Choice, chosen, nothing}
 use Rattle.protocol.specs.Refusal.{Refusal, Answer, refused, done}
 use Rattle.answers.specs.Answers.{mapAnswer}
-use Rattle.asking.specs.Ask.{gather}
+use Rattle.asking.specs.Ask.{gather, settledIs}
 
 -- ---- an answer that is a block's, seen as a choice
 
@@ -47,3 +47,14 @@ module _ (h d : Answer ℕ) (f : Answer Choice) where
 
   pub fast-answers : {b c : ℕ} {q : Answer Choice} → h ≡ done b → d ≡ done c → f ≡ q → gather (done b) (done c) q ≡ gather h d f
   fast-answers a e g = rw (a, e, g) refl
+
+-- ---- the settled block
+
+module _ (r : Answer ℕ) where
+  pub settled-refuses : {k : Refusal} → r ≡ refused k → refused k ≡ mapAnswer settledIs r
+  unfolding mapAnswer
+  settled-refuses e = rw e refl
+
+  pub settled-tells : {b : ℕ} → r ≡ done b → done (settledIs b) ≡ mapAnswer settledIs r
+  unfolding mapAnswer
+  settled-tells e = rw e refl

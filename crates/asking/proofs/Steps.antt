@@ -24,7 +24,9 @@ use Rattle.answers.specs.declared.Answer.{Answer}
 use Rattle.answers.specs.Answers.{Value, answerOf, mapAnswer}
 use Rattle.answers.specs.Promises.{Leaves, Opens}
 use Rattle.asking.specs.ChainAnswer.{verdictIn}
-use Rattle.asking.specs.Ask.{thenAnswer, andThen, Findings, openAndAsk, settingsIn, askWith}
+use Rattle.asking.specs.Ask.{thenAnswer, andThen, Findings, askAll, askSettled, askFor, openAndAsk, settingsIn, askAfter, askWithSilent}
+use Rattle.asking.specs.declared.Question.{Question}
+use Rattle.asking.specs.declared.Question.the-variants.{Chain, Settled}
 
 -- ---- the verdict in an answer
 
@@ -116,10 +118,26 @@ pub places-are : (m : Lent) {b v : ℕ} → placesIn blockWords (m .blocks) ≡ 
 unfolding placesOf
 places-are m b v = λ i. record { blocks = b i; votes = v i }
 
--- the code lends the bytes from the ninth to the last
-pub ask-within : (bs : List ℕ) {s : Settings} {t : ℕ} {r : rules.Answer Findings} → 9 ≤ length bs → length bs ≤ 32768 → s ≡ settingsIn bs → t ≡ numberAt bs 5 4
-    → r ≡ openAndAsk s t (take (length bs - 9) (drop 9 bs)) → r ≡ askWith bs
-unfolding askWith
-ask-within bs a b s t h =
-    let rest = take-all (length bs - 9) (drop 9 bs) (le-of-eq (length-drop 9 bs)) in
+-- the code lends the bytes from the n-th to the last
+pub ask-within : (bs : List ℕ) (n : ℕ) (question : Question) {s : Settings} {t : ℕ} {r : rules.Answer Findings} → n ≤ length bs → length bs ≤ 32768 → s ≡ settingsIn bs
+    → t ≡ numberAt bs 5 4 → r ≡ openAndAsk s t question (take (length bs - n) (drop n bs)) → r ≡ askAfter n question bs
+unfolding askAfter
+ask-within bs n question a b s t h =
+    let rest = take-all (length bs - n) (drop n bs) (le-of-eq (length-drop n bs)) in
     h ∙ rw (le-ltb _ _ a, le-ltb _ _ b, rest, s, t) refl
+
+-- the set of silent nodes as code read it
+pub with-silent : (bs : List ℕ) {set : ℕ} {r : rules.Answer Findings} → set ≡ numberAt bs 9 8 → r ≡ askAfter 17 (Settled set) bs → r ≡ askWithSilent bs
+unfolding askWithSilent
+with-silent bs e h = h ∙ ap (λ (x : ℕ). askAfter 17 (Settled x) bs) e
+
+-- ---- which question is asked
+
+module _ (s : Settings) (slot : ℕ) (p : Places) (x : Node) {question : Question} {r : rules.Answer Findings} where
+  pub for-chain : question ≡ Chain → r ≡ askAll s slot p x → r ≡ askFor s slot question p x
+  unfolding askFor
+  for-chain e h = rw e h
+
+  pub for-settled : {silent : ℕ} → question ≡ Settled silent → r ≡ askSettled s slot silent p x → r ≡ askFor s slot question p x
+  unfolding askFor
+  for-settled e h = rw e h

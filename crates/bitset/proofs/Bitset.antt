@@ -10,7 +10,8 @@ use lib.Dec.{eqb}
 use lib.ListN.{length, getD, set, replicate}
 use lib.Seq.{getD-set-same, getD-set-other}
 use Rattle.protocol.proofs.Basics.Members.{getD-zeros}
-use Rattle.masks.specs.Masks.{bitOf, maskOf, added}
+use Rattle.protocol.specs.Words.{bitOf}
+use Rattle.masks.specs.Masks.{maskOf, added}
 use Rattle.masks.proofs.Masks.{bit-mask, mask-none}
 use Rattle.bitset.specs.Bitset.{inSet, inserted}
 

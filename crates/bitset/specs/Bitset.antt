@@ -3,7 +3,8 @@ use Prim.Native.Nat.{ℕ, _/_, _%_}
 use mathlib.Core.Bool.{Bool}
 use mathlib.Core.List.{List}
 use lib.ListN.{getD, set}
-use Rattle.masks.specs.Masks.{maskOf, bitOf, added}
+use Rattle.protocol.specs.Words.{bitOf}
+use Rattle.masks.specs.Masks.{maskOf, added}
 
 unfoldable pub inSet : List ℕ → ℕ → Bool
 inSet ws i = bitOf (getD ws (i / 64) 0) (i % 64)

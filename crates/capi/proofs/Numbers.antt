@@ -30,3 +30,4 @@ refusal-not-zero refusal.SlotOutOfRange = refl
 refusal-not-zero refusal.BufferTooShort = refl
 refusal-not-zero refusal.NoOwnProposal = refl
 refusal-not-zero refusal.NumberTooWide = refl
+refusal-not-zero refusal.SilentOutOfRange = refl

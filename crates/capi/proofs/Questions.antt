@@ -9,7 +9,7 @@ use Rattle.protocol.specs.declared.Width.{Width}
 use Rattle.verdicts.specs.Lent.{lent}
 use Rattle.answers.specs.declared.Found.{Found as NodeFound}
 use Rattle.answers.specs.declared.Written.{Written as NodeWritten}
-use Rattle.answers.specs.Promises.{IsHead, IsDeep, IsFast, Writes}
+use Rattle.answers.specs.Promises.{IsHead, IsDeep, IsFast, IsSettled, Writes}
 use Rattle.capi.specs.declared.Clock.{Clock}
 use Rattle.capi.specs.declared.Found.{Found}
 use Rattle.capi.specs.declared.Written.{Written}
@@ -42,6 +42,10 @@ module _ {k : Clock} {s₀ s₁ : protocolSettings.Settings} {k₁ : protocolClo
       pub fast : s₁ ≡ s₀ → k₁ ≡ nodeClock k → IsFast s₁ (lent b v m n k₁) slot a → r ≡ foundStruct a
           → Stands (IsFast s₀ (lent b v m n (nodeClock k)) slot) foundStruct r
       fast = read {a = a} (λ s k. IsFast s (lent b v m n k) slot)
+
+    pub settled : (slot silent : ℕ) (a : NodeFound) {r : Found} → s₁ ≡ s₀ → k₁ ≡ nodeClock k → IsSettled s₁ (lent b v m n k₁) slot silent a → r ≡ foundStruct a
+        → Stands (IsSettled s₀ (lent b v m n (nodeClock k)) slot silent) foundStruct r
+    settled slot silent a = read {a = a} (λ s k. IsSettled s (lent b v m n k) slot silent)
 
     pub writes : {proposal : Bool} {width : Width} {old new : List ℕ} {a : NodeWritten} {r : Written} → s₁ ≡ s₀ → k₁ ≡ nodeClock k
         → Writes s₁ (lent b v m n k₁) proposal width old new a → r ≡ writtenStruct a → Stands (Writes s₀ (lent b v m n (nodeClock k)) proposal width old new) writtenStruct r

@@ -1,4 +1,4 @@
-// The node for programs in C and Rust: the nine calls under the names that include/likvost.h declares.
+// The node for programs in C and Rust: the ten calls under the names that include/likvost.h declares.
 // An enum cannot be exported, so an answer is a struct of numbers; specs/Structs says which struct stands for which answer.
 // Every function takes any memory, any clock and any settings that a caller may pass.
 use protocol::Profile;
@@ -6,7 +6,7 @@ use protocol::Width;
 ghost use mathlib.Core.Path.{_≡_};
 ghost use Rattle.protocol.specs.Words.{value};
 ghost use Rattle.verdicts.specs.Lent.{lent, lentAtEntry, lentAtExit};
-ghost use Rattle.answers.specs.Promises.{Opens, Receives, Proposes, Votes, Merges, IsHead, IsDeep, IsFast, Writes};
+ghost use Rattle.answers.specs.Promises.{Opens, Receives, Proposes, Votes, Merges, IsHead, IsDeep, IsFast, IsSettled, Writes};
 ghost use Rattle.capi.specs.Structs.{nodeSettingsWith, nodeSettings, nodeClock, exportedClock, nodeNumber, nodeWidth, answerStruct, foundStruct, writtenStruct, Stands};
 
 // The names of the profiles. Every other number, 0 too, names none.
@@ -52,7 +52,7 @@ pub struct Answer {
     pub clock: Clock,
 }
 
-// The answer of Head, Deep and Fast.
+// The answer of Head, Deep, Fast and Settled.
 #[repr(C)]
 pub struct Found {
     pub refusal: u64,
@@ -358,7 +358,7 @@ pub extern "C" fn likvost_merge(
     answer_struct(answer, exported_clock(after))
 }
 
-// ---- Head, Deep and Fast: the memory is only read
+// ---- Head, Deep, Fast and Settled: the memory is only read
 
 #[no_mangle]
 pub extern "C" fn likvost_head(
@@ -428,6 +428,32 @@ pub extern "C" fn likvost_fast(
         votes,
         votes_used,
         slot,
+    );
+    found_struct(found)
+}
+
+#[no_mangle]
+pub extern "C" fn likvost_settled(
+    settings: Settings,
+    clock: Clock,
+    blocks: &[u64],
+    blocks_used: usize,
+    votes: &[u64],
+    votes_used: usize,
+    slot: u64,
+    silent: u64,
+) -> Found
+    ensures { λ r. ⌜ Stands (IsSettled (nodeSettings settings) (lent (now (blocks .entry)) (now (votes .entry)) «blocks_used» «votes_used» (nodeClock clock)) slot silent) foundStruct r ⌝ }
+{
+    let found = queries::settled(
+        node_settings(settings),
+        node_clock(clock),
+        blocks,
+        blocks_used,
+        votes,
+        votes_used,
+        slot,
+        silent,
     );
     found_struct(found)
 }

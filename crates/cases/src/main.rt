@@ -10,7 +10,8 @@
 //   receive: beat, kind, slot, number, how many blocks and these (number, parent, slot), how many votes and these (voter, slot, number)
 //   bytes: beat, length, kind; that many bytes are received, zero but for the kind
 //   long: beat, kind, how many times block 5 of slot 1 on block 0, how many times the vote of node 0 in slot 1 for it
-//   head, deep, fast: slot                         write: 1 for the proposal or 0 for gossip, 1 for wide or 0 for narrow, the buffer's length
+//   head, deep, fast: slot                         settled: slot, the set of silent nodes as a number
+//   write: 1 for the proposal or 0 for gossip, 1 for wide or 0 for narrow, the buffer's length
 // In a call 1000 stands for 2^64: a block's number n is n % 1000 + 2^64 * (n / 1000). In a packet each half of it is below 256.
 use answers::Answer;
 use answers::Call;
@@ -185,7 +186,14 @@ fn carried(held: Held, letter: u8, words: &[u64], blocks: &mut [u64], votes: &mu
 // ---- questions, and Write
 
 // The question by its first letter.
-fn answered(held: Held, blocks: &[u64], votes: &[u64], letter: u8, slot: u64) -> Found {
+fn answered(
+    held: Held,
+    blocks: &[u64],
+    votes: &[u64],
+    letter: u8,
+    slot: u64,
+    silent: u64,
+) -> Found {
     match letter {
         b'h' => queries::head(
             held.settings,
@@ -204,6 +212,16 @@ fn answered(held: Held, blocks: &[u64], votes: &[u64], letter: u8, slot: u64) ->
             votes,
             held.votes_used,
             slot,
+        ),
+        b's' => queries::settled(
+            held.settings,
+            held.clock,
+            blocks,
+            held.blocks_used,
+            votes,
+            held.votes_used,
+            slot,
+            silent,
         ),
         _ => queries::fast(
             held.settings,
@@ -275,13 +293,14 @@ fn called(held: Held, letter: u8, words: &[u64], blocks: &mut [u64], votes: &mut
             );
             held
         }
-        b'h' | b'd' | b'f' => {
+        b'h' | b'd' | b'f' | b's' => {
             case_runner::print_found(answered(
                 held,
                 blocks,
                 votes,
                 letter,
                 case_runner::at(words, 0),
+                case_runner::at(words, 1),
             ));
             held
         }

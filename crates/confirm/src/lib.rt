@@ -7,13 +7,12 @@ ghost use Prim.Native.Nat.{_+_, _-_, _*_, _^_, _<_, _≤_};
 ghost use lib.Dec.{leb};
 ghost use lib.ListN.{length};
 ghost use Rattle.protocol.specs.Limits.{loom};
-ghost use Rattle.protocol.specs.Words.{value};
+ghost use Rattle.protocol.specs.Words.{value, bitOf};
 ghost use Rattle.protocol.specs.Store.{viewOf};
 ghost use Rattle.protocol.specs.Lent.{BlocksFit, rowsOf, makeBlock, makeVote};
 ghost use Rattle.protocol.specs.Walk.{countBelow};
 ghost use Rattle.protocol.specs.Confirm.{deepFrom, deepBlock, fastBlock};
 ghost use Rattle.rows.specs.Rows.{rowAt};
-ghost use Rattle.masks.specs.Masks.{bitOf};
 ghost use Rattle.subtree_voters.specs.BlockRows.{blockAt, blocksOf, BlocksSound, Parents};
 ghost use Rattle.fork_choice.specs.Tables.{TablesSound};
 ghost use Rattle.confirm.specs.Top.{choiceIn, topChoice};
@@ -112,7 +111,7 @@ fn top(blocks: &[u64], used: usize, masks: &[u64], n: u64) -> Choice
 }
 
 // The fast block of slot t, over the view: the weights are those of the votes of slot t.
-// The cost of the weights, and one turn for each row. Stack: 16 KiB for the words of 2,048 blocks; with what gathers the kept votes 101 KiB.
+// The cost of the weights, and one turn for each row. Stack: 16 KiB for the words of 2,048 blocks; with what gathers the kept votes 85 KiB.
 pub fn fast(
     settings: Settings,
     blocks: &[u64],

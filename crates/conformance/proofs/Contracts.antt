@@ -11,7 +11,7 @@ use Rattle.protocol.specs.declared.Clock.{Clock}
 use Rattle.protocol.specs.Words.{value}
 use Rattle.protocol.specs.Lent.{Lent}
 use Rattle.verdicts.specs.Lent.{lent, behind}
-use Rattle.answers.specs.Promises.{Opens, Receives, Proposes, Votes, Merges, Carries, IsHead, IsDeep, IsFast, Writes}
+use Rattle.answers.specs.Promises.{Opens, Receives, Proposes, Votes, Merges, Carries, IsHead, IsDeep, IsFast, IsSettled, Writes}
 use Rattle.capi.specs.Structs.{nodeSettings, nodeClock, nodeNumber, nodeWidth, answerStruct, foundStruct, writtenStruct, Stands}
 use Rattle.node.proofs.«open».Reads as opening
 use Rattle.node.proofs.receive.Reads as receiving
@@ -23,6 +23,7 @@ use Rattle.node.proofs.carry as carrying-in-place
 use Rattle.queries.proofs.head.Reads as asking-head
 use Rattle.queries.proofs.deep.Reads as asking-deep
 use Rattle.queries.proofs.fast.Reads as asking-fast
+use Rattle.queries.proofs.settled.Reads as asking-settled
 use Rattle.writing.proofs.write.Reads as writing
 use Rattle.capi.proofs.likvost_open.Reads as opening-in-c
 use Rattle.capi.proofs.likvost_receive.Reads as receiving-in-c
@@ -32,6 +33,7 @@ use Rattle.capi.proofs.likvost_merge.Reads as merging-in-c
 use Rattle.capi.proofs.likvost_head.Reads as asking-head-in-c
 use Rattle.capi.proofs.likvost_deep.Reads as asking-deep-in-c
 use Rattle.capi.proofs.likvost_fast.Reads as asking-fast-in-c
+use Rattle.capi.proofs.likvost_settled.Reads as asking-settled-in-c
 use Rattle.capi.proofs.likvost_write.Reads as writing-in-c
 
 -- ---- what is asked
@@ -41,13 +43,15 @@ abbrev Nothing : {K : Type 0} {A : K → Type 0} → ((κs : K) → A κs → Ty
 Nothing asked = asked ≡ (λ κs a. Unit)
 
 pub asks-nothing : Nothing opening.Asked × Nothing receiving.Asked × Nothing proposing.Asked × Nothing voting.Asked × Nothing merging.Asked
-    × Nothing stepping.Asked × Nothing asking-head.Asked × Nothing asking-deep.Asked × Nothing asking-fast.Asked × Nothing writing.Asked
-asks-nothing = (refl, refl, refl, refl, refl, refl, refl, refl, refl, refl)
+    × Nothing stepping.Asked × Nothing asking-head.Asked × Nothing asking-deep.Asked × Nothing asking-fast.Asked
+    × Nothing asking-settled.Asked × Nothing writing.Asked
+asks-nothing = (refl, refl, refl, refl, refl, refl, refl, refl, refl, refl, refl)
 
 pub asks-nothing-in-c : Nothing opening-in-c.Asked × Nothing receiving-in-c.Asked × Nothing proposing-in-c.Asked
     × Nothing voting-in-c.Asked × Nothing merging-in-c.Asked
-    × Nothing asking-head-in-c.Asked × Nothing asking-deep-in-c.Asked × Nothing asking-fast-in-c.Asked × Nothing writing-in-c.Asked
-asks-nothing-in-c = (refl, refl, refl, refl, refl, refl, refl, refl, refl)
+    × Nothing asking-head-in-c.Asked × Nothing asking-deep-in-c.Asked × Nothing asking-fast-in-c.Asked
+    × Nothing asking-settled-in-c.Asked × Nothing writing-in-c.Asked
+asks-nothing-in-c = (refl, refl, refl, refl, refl, refl, refl, refl, refl, refl)
 
 -- ---- what is learnt
 
@@ -102,6 +106,9 @@ deep-told = refl
 pub fast-told : asking-fast.Learnt ≡ (λ κs (s, (c, (bs, (m, (vs, (n, (slot, _))))))) r _. IsFast s (within bs m vs n c) slot r)
 fast-told = refl
 
+pub settled-told : asking-settled.Learnt ≡ (λ κs (s, (c, (bs, (m, (vs, (n, (slot, (silent, _)))))))) r _. IsSettled s (within bs m vs n c) slot silent r)
+settled-told = refl
+
 pub write-told : writing.Learnt ≡ (λ κs (s, (c, (bs, (m, (vs, (n, (proposal, (width, (buffer, _))))))))) r (_, (_, (_, (_, (_, (_, (_, (_, (buffer′, _))))))))).
     Writes s (within bs m vs n c) proposal width (now buffer) (now buffer′) r)
 write-told = refl
@@ -143,6 +150,10 @@ deep-told-in-c = refl
 pub fast-told-in-c : asking-fast-in-c.Learnt ≡ (λ κs (s, (c, (bs, (m, (vs, (n, (slot, _))))))) r _.
     Stands (IsFast (nodeSettings s) (within bs m vs n (nodeClock c)) slot) foundStruct r)
 fast-told-in-c = refl
+
+pub settled-told-in-c : asking-settled-in-c.Learnt ≡ (λ κs (s, (c, (bs, (m, (vs, (n, (slot, (silent, _)))))))) r _.
+    Stands (IsSettled (nodeSettings s) (within bs m vs n (nodeClock c)) slot silent) foundStruct r)
+settled-told-in-c = refl
 
 pub write-told-in-c : writing-in-c.Learnt ≡ (λ κs (s, (c, (bs, (m, (vs, (n, (proposal, (wide, (buffer, _))))))))) r (_, (_, (_, (_, (_, (_, (_, (_, (buffer′, _))))))))).
     Stands (Writes (nodeSettings s) (within bs m vs n (nodeClock c)) proposal (nodeWidth wide) (now buffer) (now buffer′)) writtenStruct r)

@@ -1,5 +1,6 @@
 -- That runs of the code are runs of `resilience`, and so demand 3 holds of them, deep blocks agree and fast blocks hold; that the code's removing of
--- old votes changes no answer, and its rack behaves as its loom; and that its gossip carries the whole store. Assumes nothing.
+-- old votes changes no answer, and its rack behaves as its loom; that its settled block is what every filling leaves; and that its gossip carries
+-- the whole store. Assumes nothing.
 pub mod Answers
 pub mod Memory
 pub mod Steps
@@ -9,6 +10,7 @@ pub mod Completes
 pub mod Contracts
 pub mod Removed
 pub mod Rack
+pub mod Settled
 pub mod Questions
 pub mod DeepAgreement
 pub mod FastHolds

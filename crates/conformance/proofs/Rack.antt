@@ -13,14 +13,14 @@ use Rattle.protocol.specs.Calls.Receive as receiving
 use Rattle.protocol.specs.Calls.Propose as proposing
 use Rattle.protocol.specs.Calls.Vote as voting
 use Rattle.protocol.specs.Calls.Merge as merging
-use Rattle.protocol.specs.Calls.Query.{headQuery, deepQuery, fastQuery}
+use Rattle.protocol.specs.Calls.Query.{headQuery, deepQuery, fastQuery, settledQuery}
 use Rattle.protocol.specs.Lent.{Lent, placesOf, nodeOf, lentSound, callLent, askLent}
 use Rattle.protocol.specs.CallList.{Call, Receive, Propose, Vote, Merge, refusedBy}
 use Rattle.protocol.specs.Rack.{asLoom, byRoom}
 use Rattle.protocol.proofs.Calls.Open.{opened as opened-fresh}
 use Rattle.protocol.proofs.Lent.Memory.{lent-true}
 use Rattle.protocol.proofs.Lent.Calls.{Lawful, receive-lawful, propose-lawful, vote-lawful, merge-lawful, ask-lent}
-use Rattle.protocol.proofs.Rack.AsLoom.{Roomier, receive-same, propose-same, vote-same, merge-same, head-same, deep-same, fast-same, write-same}
+use Rattle.protocol.proofs.Rack.AsLoom.{Roomier, receive-same, propose-same, vote-same, merge-same, head-same, deep-same, fast-same, settled-same, write-same}
 use Rattle.answers.specs.declared.Answer as answers
 use Rattle.answers.specs.declared.Written as written
 use Rattle.answers.specs.Answers.{Value, nothingMore, received, block, answerOf, writtenOf, mapAnswer}
@@ -136,5 +136,7 @@ code-rack-as-loom s m m' R =
       λ t a a' P P'. P ∙ ap (mapAnswer chosen) (asked-alike s m m' B (λ p y. headQuery s p y t) (λ p y. headQuery (asLoom s) p y t) (head-same (B .roomier) (nodeOf m) S t)) ∙ sym P',
       λ t a a' P P'. P ∙ ap (mapAnswer chosen) (asked-alike s m m' B (λ p y. deepQuery s p y t) (λ p y. deepQuery (asLoom s) p y t) (deep-same (B .roomier) (nodeOf m) S t)) ∙ sym P',
       λ t a a' P P'. P ∙ asked-alike s m m' B (λ p y. fastQuery s p y t) (λ p y. fastQuery (asLoom s) p y t) (fast-same (B .roomier) (nodeOf m) S t) ∙ sym P',
+      λ t silent a a' P P'. P ∙ ap (mapAnswer chosen) (asked-alike s m m' B (λ p y. settledQuery s p y t silent) (λ p y. settledQuery (asLoom s) p y t silent)
+          (settled-same (B .roomier) (nodeOf m) S t silent)) ∙ sym P',
       written-alike s m m' B,
     )

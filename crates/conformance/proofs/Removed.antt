@@ -14,7 +14,7 @@ use Rattle.protocol.specs.Calls.Propose as proposing
 use Rattle.protocol.specs.Calls.Vote as voting
 use Rattle.protocol.specs.Calls.Merge as merging
 use Rattle.protocol.specs.Calls.Vote.{headOf}
-use Rattle.protocol.specs.Calls.Query.{deepOf, fastOf, headQuery, deepQuery, fastQuery}
+use Rattle.protocol.specs.Calls.Query.{deepOf, fastOf, settledOf, headQuery, deepQuery, fastQuery, settledQuery}
 use Rattle.protocol.specs.Lent.{Lent, placesOf, nodeOf, lentSound, callLent, askLent}
 use Rattle.protocol.specs.CallList.{Call, Receive, Propose, Vote, Merge, afterCall, refusedBy, meets}
 use Rattle.protocol.specs.Removal.{byTen, afterCallKeeping}
@@ -22,8 +22,8 @@ use Rattle.protocol.proofs.Calls.Open.{opened as opened-fresh}
 use Rattle.protocol.proofs.Lent.Memory.{lent-true}
 use Rattle.protocol.proofs.Lent.Calls.{Lawful, receive-lawful, propose-lawful, vote-lawful, merge-lawful, ask-lent}
 use Rattle.protocol.proofs.Removal.Calls.{made-pruned}
-use Rattle.protocol.proofs.Removal.Pruned.{pruned, head-pruned, deep-pruned, fast-pruned}
-use Rattle.protocol.proofs.Removal.Unseen.{answered}
+use Rattle.protocol.proofs.Removal.Pruned.{pruned, head-pruned, deep-pruned, fast-pruned, settled-pruned}
+use Rattle.protocol.proofs.Removal.Unseen.{answered, answered-settled}
 use Rattle.answers.specs.declared.Answer as answers
 use Rattle.answers.specs.Answers.{Value, nothingMore, received, block, answerOf}
 use Rattle.answers.specs.Promises.{Leaves}
@@ -106,6 +106,11 @@ module _ (s : Settings) where
         asked (λ p x. fastQuery s p x t) (fastOf s y t)
         (λ f q. let r = answered s (placesOf m) (pruned s y) t (fastOf s (pruned s y) t) f q in r .1 ∙ fast-pruned s y t (r .0))
 
+    settled-found : (t silent r : ℕ) → askLent s (λ p x. settledQuery s p x t silent) m ≡ done r → r ≡ settledOf s y t silent
+    settled-found t silent =
+        asked (λ p x. settledQuery s p x t silent) (settledOf s y t silent)
+        (λ b q. let r = answered-settled s (placesOf m) (pruned s y) t silent b q in r .1 ∙ settled-pruned s y t (r .0) silent)
+
 pub code-removal-unseen : CodeRemovalUnseen
 unfolding CodeRemovalUnseen
 code-removal-unseen s m y R t a o e =
@@ -113,4 +118,5 @@ code-removal-unseen s m y R t a o e =
       λ P. let d = done-mapped chosen _ o (sym P ∙ e) in d .2 ∙ ap chosen (head-found s m y B t (d .0) (d .1)),
       λ P. let d = done-mapped chosen _ o (sym P ∙ e) in d .2 ∙ ap chosen (deep-found s m y B t (d .0) (d .1)),
       λ P. fast-found s m y B t o (sym P ∙ e),
+      λ silent P. let d = done-mapped chosen _ o (sym P ∙ e) in d .2 ∙ ap chosen (settled-found s m y B t silent (d .0) (d .1)),
     )

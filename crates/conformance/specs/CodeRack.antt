@@ -13,7 +13,7 @@ use Rattle.answers.specs.declared.Answer.{Answer}
 use Rattle.answers.specs.declared.Answer.the-variants as answer
 use Rattle.answers.specs.declared.Written.{Written}
 use Rattle.answers.specs.Answers.{answerOf, foundOf, writtenOf}
-use Rattle.answers.specs.Promises.{Opens, IsHead, IsDeep, IsFast, Writes}
+use Rattle.answers.specs.Promises.{Opens, IsHead, IsDeep, IsFast, IsSettled, Writes}
 use Rattle.conformance.specs.CodeCallList.{Promised}
 
 -- The memories that an Open of a rack, one of a loom with as many places and the same other settings, and then the same calls of the code on both left,
@@ -35,5 +35,6 @@ CodeRackAsLoom =
     × ((t : ℕ) (a a' : Found) → IsHead s m t a → IsHead (asLoom s) m' t a' → foundOf a ≡ foundOf a')
     × ((t : ℕ) (a a' : Found) → IsDeep s m t a → IsDeep (asLoom s) m' t a' → foundOf a ≡ foundOf a')
     × ((t : ℕ) (a a' : Found) → IsFast s m t a → IsFast (asLoom s) m' t a' → foundOf a ≡ foundOf a')
+    × ((t silent : ℕ) (a a' : Found) → IsSettled s m t silent a → IsSettled (asLoom s) m' t silent a' → foundOf a ≡ foundOf a')
     × ((proposal : Bool) (width : Width) (old new new' : List ℕ) (r r' : Written) →
     Writes s m proposal width old new r → Writes (asLoom s) m' proposal width old new' r' → (writtenOf r ≡ writtenOf r') × (new ≡ new'))

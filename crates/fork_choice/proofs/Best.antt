@@ -78,19 +78,19 @@ better-lt ws weights w lim a i best n h l = go (isIn w ws i && isChild lim a (bl
     go false c = l
 
 module _ {w : Bool} {ws : List ℕ} {n : ℕ} (H : Held w ws n) (weights : List ℕ) (lim : ℕ) where
-  weight-is : (j : ℕ) → j < n → weightIn ws n weights (blockAt ws j .number) ≡ getD weights j 0
+  pub weight-is : (j : ℕ) → j < n → weightIn ws n weights (blockAt ws j .number) ≡ getD weights j 0
   weight-is j l = ap (λ (i : ℕ). getD weights i 0) (row-is H j l)
 
   -- ---- children
 
   -- a child of the block at a has its parent's row at a
-  child-of : (a i : ℕ) → a < n → i < n → IsChild lim (blockAt ws a .number) (blockAt ws i) → parentRow ws i ≡ a
+  pub child-of : (a i : ℕ) → a < n → i < n → IsChild lim (blockAt ws a .number) (blockAt ws i) → parentRow ws i ≡ a
   child-of a i h l k =
       let p = parent-is H i (row-pos H i (k .late)) l in
       H .differ (parentRow ws i) a (omega (arith, p .0)) h (p .1 ∙ k .under)
 
   -- and stands after it
-  child-after : (a i : ℕ) → a < n → i < n → IsChild lim (blockAt ws a .number) (blockAt ws i) → a < i
+  pub child-after : (a i : ℕ) → a < n → i < n → IsChild lim (blockAt ws a .number) (blockAt ws i) → a < i
   child-after a i h l k = omega (arith, child-of a i h l k, parent-is H i (row-pos H i (k .late)) l .0)
 
   -- block 0 is no child

@@ -1,6 +1,6 @@
 -- What a sound node's tables give: its blocks by rows, voters that fit a word, votes for known blocks; and what the words of the pass are and weigh. Assumes nothing.
 use Prim.Native.Nat.{ℕ, _+_, _/_, _≤_, _<_}
-use mathlib.Core.Bool.{Bool, true, false}
+use mathlib.Core.Bool.{Bool, true, false, not}
 use mathlib.Core.List.{List}
 use mathlib.Core.Path.{_≡_, refl, ap, sym, _∙_}
 use native.Mathlib.Numerals.{add-one}
@@ -13,9 +13,11 @@ use Rattle.protocol.specs.Store.{entries, viewOf, Node}
 use Rattle.protocol.specs.Lent.{Lent, rowsOf, makeBlock, makeVote, placesOf, nodeOf, lentSound}
 use Rattle.protocol.specs.Chain.{genesis}
 use Rattle.protocol.specs.Filters.{chosen, keptChoice}
+use Rattle.protocol.specs.SettledWalk.{heardAt}
+use Rattle.protocol.specs.Words.{bitOf}
 use Rattle.protocol.specs.Walk.{walk, weightAt, headBlock, baseBlock}
 use Rattle.protocol.proofs.Basics.Members.{same-refl}
-use Rattle.protocol.proofs.Chain.Relations.{Known, Sound}
+use Rattle.protocol.proofs.Chain.Relations.{In, Known, Sound}
 use Rattle.protocol.proofs.Filters.Kept.{kept-is}
 use Rattle.protocol.proofs.Filters.Relations.{Cast}
 use Rattle.protocol.proofs.Store.Sound.{IsSound, VoteSound, sound-true, ranges, places-few}
@@ -23,6 +25,7 @@ use Rattle.protocol.proofs.Store.Tables.{table-holds}
 use Rattle.protocol.proofs.Store.Views.{view-stored}
 use Rattle.protocol.proofs.Walk.Best.{walk-is, walk-one, walk-known}
 use Rattle.protocol.proofs.Walk.Sameness.{walk-to}
+use Rattle.protocol.proofs.Settled.Sameness.{heard-without}
 use Rattle.protocol.proofs.Lent.Memory.{lent-true, lent-used}
 use Rattle.protocol.proofs.Lent.Rows.{length-rowsOf, blocks-fit, votes-fit}
 use Rattle.rows.specs.Rows.{rowAt}
@@ -31,10 +34,10 @@ use Rattle.subtree_voters.specs.BlockRows.{blockAt, blocksOf, BlocksSound}
 use Rattle.subtree_voters.specs.Subtrees.{Subtrees}
 use Rattle.fork_choice.specs.Walks.{weightIn}
 use Rattle.fork_choice.specs.Tables.{TablesSound}
-use Rattle.fork_choice.specs.Weights.{Supporters, Counted}
+use Rattle.fork_choice.specs.Weights.{Supporters, heardAtRow, Counted}
 use Rattle.vote_filters.proofs.Selected.{entry-in}
 use Rattle.fork_choice.proofs.Held.{Held, held, isIn, Stands, listed, row-is, by-number}
-use Rattle.fork_choice.proofs.Weights.{Weighed, row-voters, word-weight}
+use Rattle.fork_choice.proofs.Weights.{Weighed, row-voters, word-count, word-weight, all-heard}
 
 module _ {s : Settings} {bw : List ℕ} {bu : ℕ} {vw : List ℕ} {vu : ℕ} (T : TablesSound s bw bu vw vu) where
   abbrev node : Node
@@ -106,20 +109,34 @@ module _ {s : Settings} {bw : List ℕ} {bu : ℕ} {vw : List ℕ} {vu : ℕ} (T
     each = λ j l. word-weight (blocksOf w bw bu) (λ v. keptChoice (votesOf w vw vu) E t v) (s .nodes) (blockAt bw j .number) (W .each j l) (few .1) (λ v x e. kept-known w E t v x e .1);
   }
 
+  -- without the silent
+  pub words-heard : (w : Bool) (E t silent : ℕ) {masks : List ℕ} → Supporters w bw bu vw vu E t masks → (j : ℕ) → j < bu
+      → heardAtRow silent masks j ≡ heardAt (blocksOf w bw bu) (votesOf w vw vu) (s .nodes) E t (bitOf silent) (blockAt bw j .number)
+  words-heard w E t silent W j l =
+      word-count (blocksOf w bw bu) (λ v. keptChoice (votesOf w vw vu) E t v) (s .nodes) (blockAt bw j .number) (λ v. not (bitOf silent v)) (W .each j l) (few .1)
+      (λ v x e. kept-known w E t v x e .1)
+      ∙ sym (heard-without (blocksOf w bw bu) (votesOf w vw vu) (s .nodes) E t (bitOf silent) (blockAt bw j .number))
+
+  -- weights by rows are the weights of the blocks
+  pub rows-weigh : (w : Bool) (u : ℕ → ℕ) (weights : List ℕ) → ((j : ℕ) → j < bu → getD weights j 0 ≡ u (blockAt bw j .number))
+      → (c : Block) → In c (blocksOf w bw bu) → weightIn bw bu weights (c .number) ≡ u (c .number)
+  rows-weigh w u weights f c m = at (listed w bw bu c m)
+    where
+      at : Stands w bw bu c → weightIn bw bu weights (c .number) ≡ u (c .number)
+      at (i, l, q, e) = rw e (ap (λ (j : ℕ). getD weights j 0) (row-is (blocks-held w) i l) ∙ f i l)
+
   -- the walk by the weights of the words is the walk by the weights of the blocks
-  pub walk-weighed : (w : Bool) (E t lim : ℕ) {masks weights : List ℕ} → Supporters w bw bu vw vu E t masks → Counted masks bu weights
+  pub walk-weighed : (w : Bool) (E t lim : ℕ) {masks weights : List ℕ} → Supporters w bw bu vw vu E t masks → Counted 0 masks bu weights
       → walk (weightIn bw bu weights) (blocksOf w bw bu) lim ≡ walk (weightAt (blocksOf w bw bu) (votesOf w vw vu) (s .nodes) E t) (blocksOf w bw bu) lim
   walk-weighed w E t lim {masks} {weights} W C =
       walk-one (weightAt (blocksOf w bw bu) (votesOf w vw vu) (s .nodes) E t) S lim
-      (walk-to (same-refl Block (blocksOf w bw bu)) (λ c m. one c (listed w bw bu c m)) (walk-is (weightIn bw bu weights) S lim))
+      (walk-to (same-refl Block (blocksOf w bw bu))
+      (rows-weigh w (weightAt (blocksOf w bw bu) (votesOf w vw vu) (s .nodes) E t) weights (λ j l. C .each j l ∙ all-heard (getD masks j 0) ∙ words-weigh w E t W .each j l))
+      (walk-is (weightIn bw bu weights) S lim))
       (walk-is (weightAt (blocksOf w bw bu) (votesOf w vw vu) (s .nodes) E t) S lim)
     where
       S : Sound (blocksOf w bw bu)
       S = blocks-held w .sound
-
-      one : (c : Block) → Stands w bw bu c → weightIn bw bu weights (c .number) ≡ weightAt (blocksOf w bw bu) (votesOf w vw vu) (s .nodes) E t (c .number)
-      one c (i, l, q, e) =
-          rw e (ap (λ (j : ℕ). getD weights j 0) (row-is (blocks-held w) i l) ∙ C .each i l ∙ words-weigh w E t W .each i l)
 
 -- the leaf of a walk is selected
 pub leaf-in : {w : Bool} {ws : List ℕ} {n : ℕ} → Held w ws n → (W : ℕ → ℕ) (lim a : ℕ) → a < n → blockAt ws a .number ≡ walk W (blocksOf w ws n) lim → isIn w ws a ≡ true

@@ -1,6 +1,6 @@
 -- The voters of a row's word are those that support the block there, so the word's weight is the block's weight. Assumes nothing.
-use Prim.Native.Nat.{ℕ, zero, suc, _≤_, _<_}
-use mathlib.Core.Bool.{Bool, true, false, not, _&&_, cond}
+use Prim.Native.Nat.{ℕ, zero, suc, _≤_, _<_, zero-le}
+use mathlib.Core.Bool.{Bool, true, false, not, _&&_, cond, and-true}
 use mathlib.Core.List.{List}
 use mathlib.Core.Logic.{_⊎_, inl, inr}
 use mathlib.Core.Path.{_≡_, refl, ap, sym, _∙_}
@@ -18,8 +18,9 @@ use Rattle.protocol.proofs.Basics.Tests.{and-left, and-right, either, both, or-
 use Rattle.protocol.proofs.Chain.Above.{above-cast, above-true, above-holds}
 use Rattle.protocol.proofs.Chain.Relations.{Known, Above, here, up}
 use Rattle.numbers.specs.NumberWords.{numberIn}
-use Rattle.masks.specs.Masks.{bitOf, maskOf}
-use Rattle.masks.proofs.Masks.{bit-mask, mask-ext}
+use Rattle.protocol.specs.Words.{bitOf}
+use Rattle.masks.specs.Masks.{maskOf}
+use Rattle.masks.proofs.Masks.{bit-mask, mask-ext, none-from}
 use Rattle.vote_filters.specs.Latest.{votesOf, lastAt}
 use Rattle.subtree_voters.specs.BlockRows.{blockAt, blocksOf, rowIn, parentRow}
 use Rattle.subtree_voters.specs.Subtrees.{upTo, reaches, Subtrees}
@@ -88,7 +89,7 @@ module _ {w : Bool} {ws : List ℕ} {n : ℕ} (H : Held w ws n) where
 -- ---- weights
 
 -- no voter from n on: the count goes no further
-count-wide : (p : ℕ → Bool) (n m : ℕ) → n ≤ m → ((v : ℕ) → n ≤ v → v < m → p v ≡ false) → countBelow p m ≡ countBelow p n
+pub count-wide : (p : ℕ → Bool) (n m : ℕ) → n ≤ m → ((v : ℕ) → n ≤ v → v < m → p v ≡ false) → countBelow p m ≡ countBelow p n
 unfolding countBelow
 count-wide p n zero h f = let e : n ≡ 0 = omega arith in rw e
 count-wide p n (suc m) h f = go (ltb m n) refl (λ q. count-wide p n m q (λ v a b. f v a (omega arith)))
@@ -111,17 +112,35 @@ module _ {w : Bool} {ws : List ℕ} {n : ℕ} (H : Held w ws n) (k : ℕ → Cho
           reaches-supports H slots numbers j v l (λ x e. kn v x (sym (K v h) ∙ e))
           ∙ ap (λ (o : Choice). supports (blocksOf w ws n) o (blockAt ws j .number)) (K v h)
 
--- a word that is the set of those that support b weighs as b does, if only the first `voters` have a choice
+-- the bits of a mask, counted
+pub count-mask : (p : ℕ → Bool) {m : ℕ} → m ≡ maskOf 64 p → countBelow (bitOf m) 64 ≡ countBelow p 64
+count-mask p {m} e = count-ext (bitOf m) p 64 (λ v l. ap (λ (x : ℕ). bitOf x v) e ∙ bit-mask 64 p v l)
+
+-- a word that is the set of those that support b, if only the first `voters` have a choice: those of them that pass q
+pub word-count : (bs : List Block) (k : ℕ → Choice) (voters b : ℕ) (q : ℕ → Bool) {m : ℕ} → m ≡ maskOf 64 (λ v. supports bs (k v) b) → voters ≤ 64
+    → ((v x : ℕ) → k v ≡ chosen x → v < voters) → countBelow (λ v. bitOf m v && q v) 64 ≡ countBelow (λ v. supports bs (k v) b && q v) voters
+word-count bs k voters b q {m} e h f =
+    count-ext (λ v. bitOf m v && q v) (λ v. supports bs (k v) b && q v) 64
+    (λ v l. ap (λ (x : Bool). x && q v) (ap (λ (x : ℕ). bitOf x v) e ∙ bit-mask 64 (λ u. supports bs (k u) b) v l))
+    ∙ count-wide (λ v. supports bs (k v) b && q v) voters 64 h (λ v a l. ap (λ (x : Bool). x && q v) (silent-from v a (k v) refl))
+  where
+    silent-from : (v : ℕ) → voters ≤ v → (o : Choice) → k v ≡ o → supports bs o b ≡ false
+    silent-from v a nothing z = unfold supports in refl
+    silent-from v a (chosen x) z = absurd (omega (arith, f v x z))
+
+-- it weighs as b does
 pub word-weight : (bs : List Block) (k : ℕ → Choice) (voters b : ℕ) {m : ℕ} → m ≡ maskOf 64 (λ v. supports bs (k v) b) → voters ≤ 64
     → ((v x : ℕ) → k v ≡ chosen x → v < voters) → countBelow (bitOf m) 64 ≡ weight bs k voters b
 unfolding weight
 word-weight bs k voters b {m} e h f =
-    count-ext (bitOf m) (λ v. supports bs (k v) b) 64 (λ v l. ap (λ (x : ℕ). bitOf x v) e ∙ bit-mask 64 (λ u. supports bs (k u) b) v l)
-    ∙ count-wide (λ v. supports bs (k v) b) voters 64 h (λ v a l. none-from v a (k v) refl)
-  where
-    none-from : (v : ℕ) → voters ≤ v → (o : Choice) → k v ≡ o → supports bs o b ≡ false
-    none-from v a nothing q = unfold supports in refl
-    none-from v a (chosen x) q = absurd (omega (arith, f v x q))
+    count-ext (bitOf m) (λ v. bitOf m v && true) 64 (λ v l. sym (and-true (bitOf m v)))
+    ∙ word-count bs k voters b (λ v. true) e h f
+    ∙ count-ext (λ v. supports bs (k v) b && true) (λ v. supports bs (k v) b) voters (λ v l. and-true (supports bs (k v) b))
+
+-- the empty set leaves nobody out
+pub all-heard : (m : ℕ) → countBelow (λ v. bitOf m v && not (bitOf 0 v)) 64 ≡ countBelow (bitOf m) 64
+all-heard m =
+    count-ext (λ v. bitOf m v && not (bitOf 0 v)) (bitOf m) 64 (λ v l. ap (λ (x : Bool). bitOf m v && not x) (none-from 0 0 v (omega arith) zero-le) ∙ and-true (bitOf m v))
 
 -- the words weigh as the blocks do, by the votes of n voters kept for slot t with expiry period E
 pub record Weighed (whole : Bool) (bw : List ℕ) (bu : ℕ) (vw : List ℕ) (vu n E t : ℕ) (masks : List ℕ) : Type 0 where

@@ -1,18 +1,20 @@
--- Laws of voters' words: union, one voter more, the bits of a word, and its number of ones as a count. Assumes nothing.
-use Prim.Native.Nat.{ℕ, zero, suc, _+_, _*_, _/_, _%_, _^_, _<_, max}
-use mathlib.Core.Bool.{Bool, true, false, _||_, cond}
-use mathlib.Core.Path.{_≡_, refl, sym, _∙_, fun-ext}
-use native.Mathlib.Nat.{pow-suc, div-div-eq-div-mul, mul-comm, div-one, one-mul, mod-eq-of-lt}
+-- Laws of voters' words: union, what two have in common, the others, one voter more, the bits of a word, and its number of ones as a count.
+-- Assumes nothing.
+use Prim.Native.Nat.{ℕ, zero, suc, _+_, _-_, _*_, _/_, _%_, _^_, _≤_, _<_, max, min}
+use mathlib.Core.Bool.{Bool, true, false, not, _&&_, _||_, cond}
+use mathlib.Core.Path.{_≡_, refl, sym, ap, _∙_, fun-ext}
+use native.Mathlib.Nat.{pow-suc, div-div-eq-div-mul, mul-comm, div-one, one-mul, mod-eq-of-lt, div-eq-of-lt, div-le-self, le-div-iff-mul-le, one-le-pow, lt-of-lt-of-le, lt-of-le-of-lt}
 use native.Mathlib.Omega.{arith}
-use lib.Pow.{pow-lt}
-use lib.Dec.{eqb, ltb, eqb·suc-zero, eqb·suc-suc, eqb·zero-suc}
+use lib.Pow.{pow-lt, pow-mono, pow-add}
+use lib.Dec.{eqb, ltb, leb, eqb·suc-zero, eqb·suc-suc, eqb·zero-suc}
 use lib.Arith.{lt-one}
-use borrow.Author.Tests.{ltb-true, lt-ltb}
+use borrow.Author.Tests.{ltb-true, lt-ltb, leb-true, le-leb, lt-leb, eqb-false, ne-eqb, not-true}
 use Rattle.protocol.proofs.Basics.Tests.{same-test}
-use lib.Bits.{bitOr, or-step}
+use lib.Bits.{bitAnd, bitOr, and-step, or-step}
 use lib.Count.{ones, ones-step}
 use Rattle.protocol.specs.Walk.{countBelow}
-use Rattle.masks.specs.Masks.{bitOf, maskOf, added}
+use Rattle.protocol.specs.Words.{bitOf}
+use Rattle.masks.specs.Masks.{maskOf, added}
 
 bit-lt : (b : Bool) → cond b 1 0 < 2
 bit-lt true = omega arith
@@ -61,6 +63,37 @@ or-mask zero p q = refl
 or-mask (suc k) p q =
     or-step (maskOf (suc k) p) (maskOf (suc k) q)
     ∙ rw (mask-low k p, mask-low k q, mask-high k p, mask-high k q, max-bit, or-mask k (λ i. p (suc i)) (λ i. q (suc i)))
+
+min-bit : (a b : Bool) → min (cond a 1 0) (cond b 1 0) ≡ cond (a && b) 1 0
+min-bit true true = refl
+min-bit true false = refl
+min-bit false true = refl
+min-bit false false = refl
+
+-- what two sets have in common
+pub and-mask : (k : ℕ) (p q : ℕ → Bool) → bitAnd (maskOf k p) (maskOf k q) ≡ maskOf k (λ i. p i && q i)
+unfolding maskOf
+and-mask zero p q = refl
+and-mask (suc k) p q =
+    and-step (maskOf (suc k) p) (maskOf (suc k) q)
+    ∙ rw (mask-low k p, mask-low k q, mask-high k p, mask-high k q, min-bit, and-mask k (λ i. p (suc i)) (λ i. q (suc i)))
+
+not-bit : (b : Bool) → cond b 1 0 + cond (not b) 1 0 ≡ 1
+not-bit true = refl
+not-bit false = refl
+
+-- a set and all others
+mask-sum : (k : ℕ) (p : ℕ → Bool) → maskOf k p + maskOf k (λ i. not (p i)) + 1 ≡ 2 ^ k
+unfolding maskOf
+mask-sum zero p = refl
+mask-sum (suc k) p =
+    let h = mask-sum k (λ i. p (suc i)) in
+    let b = not-bit (p 0) in
+    rw pow-suc (omega (arith, h, b))
+
+-- `!` as the machine has it
+pub mask-not : (k : ℕ) (p : ℕ → Bool) → 2 ^ k - 1 - maskOf k p ≡ maskOf k (λ i. not (p i))
+mask-not k p = omega (arith, mask-sum k p)
 
 -- bit i + 1 of m is bit i of its half
 bit-half : (m i : ℕ) → bitOf m (suc i) ≡ bitOf (m / 2) i
@@ -133,3 +166,41 @@ pub below-more : (v k : ℕ) → (v ≡ k → ⊥) → ltb v (k + 1) ≡ ltb v k
 below-more v k q =
     same-test (ltb v (k + 1)) (ltb v k) (λ z. let a = ltb-true v (k + 1) z in lt-ltb v k (omega arith))
     (λ z. let a = ltb-true v k z in lt-ltb v (k + 1) (omega arith))
+
+-- ---- the voters from n on
+
+bit-rest : (m n i : ℕ) → bitOf m (n + i) ≡ bitOf (m / 2 ^ n) i
+bit-rest m n i =
+    let e : m / 2 ^ (n + i) ≡ m / 2 ^ n / 2 ^ i = rw pow-add (sym (div-div-eq-div-mul m (2 ^ n) (2 ^ i))) in
+    rw e
+
+-- a set that is a number below 2 ^ n has none of them
+pub none-from : (n m v : ℕ) → m < 2 ^ n → n ≤ v → bitOf m v ≡ false
+none-from n m v h l =
+    let e : m / 2 ^ v ≡ 0 = div-eq-of-lt (lt-of-lt-of-le h (pow-mono l)) in
+    rw e
+
+-- and any other set has one
+pub some-from : (n m k : ℕ) → 2 ^ n ≤ m → m < 2 ^ k → ((v : ℕ) → n ≤ v → bitOf m v ≡ false) → ⊥
+some-from n m k h l f =
+    let e : maskOf k (bitOf (m / 2 ^ n)) ≡ 0 = mask-ext k (bitOf (m / 2 ^ n)) (λ i. false) (λ i q. sym (bit-rest m n i) ∙ f (n + i) (omega arith)) ∙ mask-none k in
+    let z : m / 2 ^ n ≡ 0 = sym (mask-bits k (m / 2 ^ n) (lt-of-le-of-lt (div-le-self m (2 ^ n)) l)) ∙ e in
+    let p : 1 ≤ m / 2 ^ n = le-div-iff-mul-le (one-le-pow n 2 (omega arith)) .1 (rw one-mul h) in
+    omega arith
+
+-- whether it has one, by its rest above bit n, or for a word without looking
+pub from-word : (n m : ℕ) → not (eqb (m / 2 ^ n) 0) ≡ leb (2 ^ n) m
+from-word n m =
+    same-test (not (eqb (m / 2 ^ n) 0)) (leb (2 ^ n) m)
+    (λ e. le-leb (2 ^ n) m (rw one-mul at (le-div-iff-mul-le (one-le-pow n 2 (omega arith)) .0 (not-zero (m / 2 ^ n) (eqb-false (m / 2 ^ n) 0 (not-true (eqb (m / 2 ^ n) 0) e))))))
+    (λ e. ap not (ne-eqb (m / 2 ^ n) 0 (λ z. absurd (omega (arith, z, some (leb-true (2 ^ n) m e))))))
+  where
+    not-zero : (x : ℕ) → (x ≡ 0 → ⊥) → 1 ≤ x
+    not-zero zero f = absurd (f refl)
+    not-zero (suc x) f = omega arith
+
+    some : 2 ^ n ≤ m → 1 ≤ m / 2 ^ n
+    some h = le-div-iff-mul-le (one-le-pow n 2 (omega arith)) .1 (rw one-mul h)
+
+pub from-none : (n m : ℕ) → m < 2 ^ 64 → 64 ≤ n → false ≡ leb (2 ^ n) m
+from-none n m h l = sym (lt-leb (2 ^ n) m (lt-of-lt-of-le h (pow-mono l)))

@@ -1,11 +1,7 @@
--- A set of voters as one word: bit v is voter v. Assumes nothing.
-use Prim.Native.Nat.{ℕ, zero, suc, _+_, _*_, _/_, _%_, _^_}
+-- A set of voters as one word: bit v is voter v (`bitOf`, protocol/specs/Words). Assumes nothing.
+use Prim.Native.Nat.{ℕ, zero, suc, _+_, _*_}
 use mathlib.Core.Bool.{Bool, _||_, cond}
 use lib.Dec.{eqb}
-
--- whether bit v of a number is set
-abbrev pub bitOf : ℕ → ℕ → Bool
-bitOf m v = eqb (m / 2 ^ v % 2) 1
 
 -- the number whose bit i, for i below k, is set where p i holds
 unfoldable pub maskOf : ℕ → (ℕ → Bool) → ℕ

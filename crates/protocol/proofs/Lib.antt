@@ -6,6 +6,7 @@ pub mod Chain
 pub mod Filters
 pub mod Walk
 pub mod Confirm
+pub mod Settled
 pub mod Store
 pub mod Packet
 pub mod Calls

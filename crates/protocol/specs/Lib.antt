@@ -7,6 +7,8 @@ pub mod Chain
 pub mod Filters
 pub mod Walk
 pub mod Confirm
+pub mod Settled
+pub mod SettledWalk
 pub mod Store
 pub mod Sound
 pub mod Packet

@@ -11,7 +11,7 @@ use Rattle.protocol.specs.declared.Width.{Width}
 use Rattle.protocol.specs.Store.{Places, Node}
 use Rattle.protocol.specs.Refusal.{done}
 use Rattle.protocol.specs.Calls.Open.{openNode}
-use Rattle.protocol.specs.Calls.Query.{headQuery, deepQuery, fastQuery}
+use Rattle.protocol.specs.Calls.Query.{headQuery, deepQuery, fastQuery, settledQuery}
 use Rattle.protocol.specs.Calls.Write.{write}
 use Rattle.protocol.specs.CallList.{Call, callAnswer, meets, afterCalls, meetsNone}
 
@@ -41,5 +41,6 @@ RackAsLoom =
     × ((t : ℕ) → headQuery s pl x t ≡ headQuery (asLoom s) pl' y t)
     × ((t : ℕ) → deepQuery s pl x t ≡ deepQuery (asLoom s) pl' y t)
     × ((t : ℕ) → fastQuery s pl x t ≡ fastQuery (asLoom s) pl' y t)
+    × ((t set : ℕ) → settledQuery s pl x t set ≡ settledQuery (asLoom s) pl' y t set)
     × ((proposal : Bool) (width : Width) (buffer : List ℕ) →
     write s pl x proposal width buffer ≡ write (asLoom s) pl' y proposal width buffer)

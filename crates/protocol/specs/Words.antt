@@ -1,5 +1,5 @@
--- Block numbers as two words, which number they are and which words a number has; and which entry a struct of code is. What a number's words are is
--- shut: no proof depends on it but those on words. Assumes nothing.
+-- Block numbers as two words, which number they are and which words a number has; which entry a struct of code is; a set of voters as a word. What a number's
+-- words are is shut: no proof depends on it but those on words. Assumes nothing.
 use Prim.Native.Nat.{ℕ, _+_, _*_, _/_, _%_, _^_}
 use mathlib.Core.Bool.{Bool, not}
 use lib.Dec.{eqb}
@@ -34,3 +34,7 @@ blockOf b = record { number = value (b .number); parent = value (b .parent); slo
 
 abbrev pub voteOf : codeVote.Vote → Vote
 voteOf a = record { voter = a .voter; slot = a .slot; number = value (a .number) }
+
+-- a set of voters is one word: voter v is in it if bit v is set
+abbrev pub bitOf : ℕ → ℕ → Bool
+bitOf m v = eqb (m / 2 ^ v % 2) 1

@@ -2,7 +2,7 @@
 // with all that they stand on. Which entries are new, and which rows the packet names, was found when it was tested, and is in the set `firsts`.
 // So storing costs one step for each entry of the packet, and coming into view one for each row; for blocks the rows are then indexed, a lookup
 // for each, and the parents of those in view looked up, a lookup for each.
-// Stack: 16 KiB of links for the blocks of a packet that comes into view, else less than 1 KB.
+// Stack: 24 KiB of links for the blocks of a packet that comes into view, else less than 1 KB.
 use protocol::Clock;
 ghost use mathlib.Core.Bool.{true};
 ghost use mathlib.Core.Path.{_≡_};
@@ -37,7 +37,7 @@ pub fn viewed_at_once(clock: Clock, beat: u64, bytes: &[u8]) -> bool
 }
 
 // All blocks that the packet stands on come into view: its blocks, those that its votes are for, and their ancestors. Those that it names stand
-// at row `before` or later, or are in `firsts`. Stack: 16 KiB of links.
+// at row `before` or later, or are in `firsts`. Stack: 24 KiB of links.
 fn view_stood_on(blocks: &mut [u64], before: usize, used: usize, bytes: &[u8], firsts: &[u64])
     requires { ⌜ BlocksFit used (now blocks) × (marksSound makeBlock (now blocks) used ≡ true) × Carried (rowsOf makeBlock (now blocks) used) (packetOf (now bytes))
         × (before ≤ used) × (before ≤ 64 * length (now firsts)) × (used ≤ loom .blocks) × Agrees Block makeBlock (now blocks) used (namedAt before (now firsts)) (named (packetOf (now bytes))) ⌝ }

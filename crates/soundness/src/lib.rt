@@ -3,7 +3,7 @@
 // table. Then one pass over the blocks builds an index of their numbers, one looks each parent up and one each vote's block, and one
 // over the votes builds an index of them, by which no vote stands twice.
 // The whole test costs two lookups for each block and two for each vote. Honest entries meet a row or two in a lookup.
-// Stack: 16 KiB for the links of 2,048 blocks and 64 KiB for those of 8,192 votes.
+// Stack: 24 KiB for the links of 2,048 blocks and 48 KiB for those of 8,192 votes.
 use protocol::Clock;
 use protocol::Number;
 use protocol::Settings;
@@ -216,7 +216,7 @@ pub fn sound_indexed(
     )
 }
 
-// Whether lent memory is sound. Nothing is asked of what is lent. Stack: 80 KiB of links.
+// Whether lent memory is sound. Nothing is asked of what is lent. Stack: 72 KiB of links.
 pub fn lent_sound(
     settings: Settings,
     clock: Clock,

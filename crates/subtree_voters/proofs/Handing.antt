@@ -11,7 +11,8 @@ use lib.Seq.{getD-set-same, getD-set-other}
 use borrow.Author.Tests.{eqb-true, eqb-false, lt-ltb, le-ltb}
 use Rattle.protocol.specs.Limits.{loom}
 use Rattle.numbers.specs.NumberWords.{numberIn}
-use Rattle.masks.specs.Masks.{bitOf, maskOf, added}
+use Rattle.protocol.specs.Words.{bitOf}
+use Rattle.masks.specs.Masks.{maskOf, added}
 use Rattle.masks.proofs.Masks.{mask-none, mask-ext, bit-mask, or-mask, below-more}
 use Rattle.subtree_voters.specs.BlockRows.{rowIn, parentRow}
 use Rattle.subtree_voters.specs.Subtrees.{upTo, voted, reaches, Subtrees}

@@ -6,10 +6,10 @@ ghost use Prim.Native.Nat.{_<_, _≤_};
 ghost use lib.Bits.{bitOr};
 ghost use lib.ListN.{length, getD, set, replicate};
 ghost use Rattle.protocol.specs.Limits.{loom};
-ghost use Rattle.protocol.specs.Words.{value};
+ghost use Rattle.protocol.specs.Words.{value, bitOf};
 ghost use Rattle.protocol.specs.Lent.{BlocksFit};
 ghost use Rattle.numbers.specs.NumberWords.{NumbersFit, numberIn};
-ghost use Rattle.masks.specs.Masks.{maskOf, bitOf, added};
+ghost use Rattle.masks.specs.Masks.{maskOf, added};
 ghost use Rattle.search_tree.specs.Tree.{Blank};
 ghost use Rattle.index.specs.Index.{TableRoom};
 ghost use Rattle.index.specs.Links.{BlockIndex};
@@ -98,7 +98,7 @@ fn hand_on(parents: &[u16], i: usize, masks: &mut [u64])
 }
 
 // The voters of each subtree, in one pass from the last row to the first: a row has all its voters when it hands them to its parent's row.
-// The cost is two lookups for each row, one for each voter with a vote, and one step for each row. Stack: 16 KiB for the links of 2,048 blocks.
+// The cost is two lookups for each row, one for each voter with a vote, and one step for each row. Stack: 24 KiB for the links of 2,048 blocks.
 pub fn supporters(
     blocks: &[u64],
     used: usize,

@@ -13,7 +13,7 @@ use Rattle.protocol.specs.Calls.Receive.{viewedAtOnce, receiveTests, receiveAns
 use Rattle.protocol.specs.Calls.Propose.{baseOf, proposeTests, proposeInto, propose}
 use Rattle.protocol.specs.Calls.Vote.{headOf, voteTests, voteInto, vote}
 use Rattle.protocol.specs.Calls.Merge.{mergeTests, mergeInto, merge}
-use Rattle.protocol.specs.Calls.Query.{queryTests, deepOf, fastOf, headQuery, deepQuery, fastQuery}
+use Rattle.protocol.specs.Calls.Query.{queryTests, deepOf, fastOf, settledTests, settledOf, headQuery, deepQuery, fastQuery, settledQuery}
 use Rattle.protocol.specs.Calls.Write.{packetOut, over, writeTests, write}
 use Rattle.protocol.specs.Lent.{Lent, nodeOf, storeNode, callLent, askLent, writeLent}
 use Rattle.verdicts.specs.Lent.{lentVerdict}
@@ -89,6 +89,15 @@ module _ (s : Settings) (m : Lent) where
     pub fast-done : askLent s (λ p x. fastQuery s p x slot) m ≡ done (fastOf s (nodeOf m) slot)
     unfolding fastQuery
     fast-done = ask-done s (λ p x. queryTests s p x slot) m (λ p x. fastOf s x slot) e
+
+  module _ (slot silent : ℕ) where
+    pub settled-refused : (k : Refusal) → lentVerdict s (λ p x. settledTests s p x slot silent) m ≡ refuse k → askLent s (λ p x. settledQuery s p x slot silent) m ≡ refused k
+    unfolding settledQuery
+    settled-refused = ask-refused s (λ p x. settledTests s p x slot silent) m (λ p x. settledOf s x slot silent)
+
+    pub settled-done : lentVerdict s (λ p x. settledTests s p x slot silent) m ≡ pass → askLent s (λ p x. settledQuery s p x slot silent) m ≡ done (settledOf s (nodeOf m) slot silent)
+    unfolding settledQuery
+    settled-done = ask-done s (λ p x. settledTests s p x slot silent) m (λ p x. settledOf s x slot silent)
 
   module _ (proposal : Bool) (width : Width) (buffer : List ℕ) where
     pub write-refused : (k : Refusal) → lentVerdict s (λ p x. writeTests s p x proposal width buffer) m ≡ refuse k

@@ -26,6 +26,7 @@ use Rattle.verdicts.specs.declared.Refusal.the-variants.{
   BufferTooShort,
   NoOwnProposal,
   NumberTooWide,
+  SilentOutOfRange,
 }
 use Rattle.verdicts.specs.declared.Verdict.{Verdict}
 use Rattle.verdicts.specs.declared.Verdict.the-variants.{Pass, Refuse}
@@ -54,6 +55,7 @@ refusalOf SlotOutOfRange = rules.by 17
 refusalOf BufferTooShort = rules.by 18
 refusalOf NoOwnProposal = rules.by 19
 refusalOf NumberTooWide = rules.by 23
+refusalOf SilentOutOfRange = rules.by 25
 
 abbrev pub refusalNumberOf : Refusal → ℕ
 refusalNumberOf r = rules.refusalNumber (refusalOf r)

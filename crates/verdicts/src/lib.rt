@@ -5,8 +5,10 @@ use protocol::Clock;
 use protocol::Number;
 use protocol::Settings;
 use protocol::Width;
+ghost use mathlib.Core.Bool.{_||_};
 ghost use mathlib.Core.Path.{_≡_};
-ghost use Prim.Native.Nat.{_+_, _≤_};
+ghost use Prim.Native.Nat.{_/_, _<_, _≤_};
+ghost use lib.Dec.{eqb, ltb};
 ghost use lib.ListN.{replicate};
 ghost use Rattle.protocol.specs.Limits.{loom};
 ghost use Rattle.protocol.specs.Words.{value};
@@ -17,7 +19,7 @@ ghost use Rattle.protocol.specs.Calls.Receive.{receiveTests};
 ghost use Rattle.protocol.specs.Calls.Propose.{proposeTests};
 ghost use Rattle.protocol.specs.Calls.Vote.{voteTests};
 ghost use Rattle.protocol.specs.Calls.Merge.{mergeTests};
-ghost use Rattle.protocol.specs.Calls.Query.{queryTests};
+ghost use Rattle.protocol.specs.Calls.Query.{queryTests, settledTests};
 ghost use Rattle.protocol.specs.Calls.Write.{writeTests};
 ghost use Rattle.search_tree.specs.Tree.{Blank};
 ghost use Rattle.index.specs.Index.{TableRoom};
@@ -74,6 +76,8 @@ pub enum Refusal {
     NoOwnProposal,
     // narrow writing meets a number of more than 64 bits
     NumberTooWide,
+    // a set of silent nodes names one that is not below n
+    SilentOutOfRange,
 }
 
 pub enum Verdict {
@@ -109,6 +113,7 @@ pub fn number(refusal: Refusal) -> u64
         Refusal::BufferTooShort => 18,
         Refusal::NoOwnProposal => 19,
         Refusal::NumberTooWide => 23,
+        Refusal::SilentOutOfRange => 25,
     }
 }
 
@@ -140,6 +145,7 @@ pub fn index(refusal: Refusal) -> usize
         Refusal::BufferTooShort => 0,
         Refusal::NoOwnProposal => 0,
         Refusal::NumberTooWide => 0,
+        Refusal::SilentOutOfRange => 0,
     }
 }
 
@@ -206,7 +212,7 @@ fn indexed_verdict(
     Verdict::Pass
 }
 
-// The same with no use for the indices. Stack: 112 KiB of links.
+// The same with no use for the indices. Stack: 72 KiB of links.
 fn beat_verdict(
     settings: Settings,
     clock: Clock,
@@ -485,6 +491,19 @@ pub fn merge_verdict(
     )
 }
 
+// Whether a slot cannot be asked for: of slots before the one last merged, votes may be gone.
+fn slot_out_of_range(clock: Clock, slot: u64) -> bool
+    ensures { λ r. ⌜ r ≡ (eqb slot 0 || (ltb (clock .seen / 3) slot || ltb slot (clock .merged))) ⌝ }
+{
+    if slot == 0 {
+        return true;
+    }
+    if clock.seen / 3 < slot {
+        return true;
+    }
+    slot < clock.merged
+}
+
 // Head, Deep and Fast.
 pub fn query_verdict(
     settings: Settings,
@@ -500,14 +519,35 @@ pub fn query_verdict(
     if !soundness::lent_sound(settings, clock, blocks, blocks_used, votes, votes_used) {
         return Verdict::Refuse(Refusal::Unsound);
     }
-    if slot == 0 {
+    if slot_out_of_range(clock, slot) {
         return Verdict::Refuse(Refusal::SlotOutOfRange);
     }
-    if clock.seen / 3 < slot {
+    Verdict::Pass
+}
+
+// Settled: the tests of the other questions, and then whether the set names a node that is not below n.
+pub fn settled_verdict(
+    settings: Settings,
+    clock: Clock,
+    blocks: &[u64],
+    blocks_used: usize,
+    votes: &[u64],
+    votes_used: usize,
+    slot: u64,
+    silent: u64,
+) -> Verdict
+    ensures { λ r. ⌜ verdictOf r ≡ lentVerdict settings (λ p x. settledTests settings p x slot silent) (lent (now (blocks .entry)) (now (votes .entry)) «blocks_used» «votes_used» clock) ⌝ }
+{
+    if !soundness::lent_sound(settings, clock, blocks, blocks_used, votes, votes_used) {
+        return Verdict::Refuse(Refusal::Unsound);
+    }
+    let late = slot_out_of_range(clock, slot);
+    let beyond = masks::has_from(silent, settings.nodes);
+    if late {
         return Verdict::Refuse(Refusal::SlotOutOfRange);
     }
-    if slot < clock.merged {
-        return Verdict::Refuse(Refusal::SlotOutOfRange);
+    if beyond {
+        return Verdict::Refuse(Refusal::SilentOutOfRange);
     }
     Verdict::Pass
 }

@@ -20,7 +20,8 @@ use Rattle.rows.specs.Rows.{rowAt}
 use Rattle.search_tree.specs.Tree.{First, Points}
 use Rattle.index.specs.Links.{slotKey}
 use Rattle.index.proofs.Slots.{slot-voters, slot-slots, slot-selected, slot-same}
-use Rattle.masks.specs.Masks.{bitOf, maskOf, added}
+use Rattle.protocol.specs.Words.{bitOf}
+use Rattle.masks.specs.Masks.{maskOf, added}
 use Rattle.masks.proofs.Masks.{mask-ext, mask-none, bit-mask}
 use Rattle.vote_filters.specs.Latest.{selected, votesOf, equivocatorsOf}
 use Rattle.vote_filters.proofs.Selected.{selected-in, selected-out, row-of, entry-in}

@@ -15,7 +15,7 @@ use Rattle.protocol.specs.Confirm.{voteIn, inSlot, validVote}
 use Rattle.protocol.proofs.Basics.Tests.{same-test}
 use Rattle.protocol.proofs.Filters.Kept.{LastIs, latest-is, window-true, window-holds, equivocates-true, equivocates-holds, equivocation-in}
 use Rattle.protocol.proofs.Filters.Relations.{Cast}
-use Rattle.masks.specs.Masks.{bitOf}
+use Rattle.protocol.specs.Words.{bitOf}
 use Rattle.masks.proofs.Masks.{bit-mask, below-more}
 use Rattle.vote_filters.specs.Latest.{equivocatorsOf, lastAt, Latest, Kept}
 

@@ -12,7 +12,7 @@ ghost use Rattle.index.specs.Index.{TableRoom};
 ghost use Rattle.index.specs.Links.{SlotIndex};
 ghost use Rattle.vote_filters.specs.Latest.{votesOf, VotersFit, equivocatorsOf, Latest, Kept};
 ghost use Rattle.numbers.specs.NumberWords.{NumbersFit};
-ghost use Rattle.masks.specs.Masks.{bitOf};
+ghost use Rattle.protocol.specs.Words.{bitOf};
 
 // Whether a vote of an earlier slot has not expired at slot t.
 fn is_fresh(expiry: u64, t: u64, slot: u64) -> bool

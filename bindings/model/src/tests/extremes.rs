@@ -19,7 +19,7 @@ impl Draw {
     }
 }
 
-fn try_calls(node: &Node, beat: u64, slot: u64, number: u128, bytes: &[u8]) -> [Option<u32>; 12] {
+fn try_calls(node: &Node, beat: u64, slot: u64, number: u128, bytes: &[u8]) -> [Option<u32>; 14] {
     let sound = node.head(1) != Err(6);
     let changed = |call: &dyn Fn(&mut Node) -> Option<u32>| {
         let mut after = node.clone();
@@ -50,13 +50,15 @@ fn try_calls(node: &Node, beat: u64, slot: u64, number: u128, bytes: &[u8]) -> [
             assert!(refusal.is_none() || &after == node);
             refusal
         },
+        changed(&|n| n.figures(beat, bytes).err().map(|refused| refused.number)),
+        changed(&|n| n.unheard(slot, number as u64).err()),
     ]
 }
 
 #[test]
 fn nonsense() {
     let mut draw = Draw(1);
-    let mut refusals = [0; 25];
+    let mut refusals = [0; 26];
     for round in 0..12_000 {
         let mut node = fresh(3, 0, 2, 1);
         let profile = draw.of(&[Profile::Loom, Profile::Rack]);
@@ -104,8 +106,8 @@ fn nonsense() {
         }
     }
     // Calls were carried out, and every refusal was met but 5. There is no 22.
-    let met: Vec<usize> = (0..25).filter(|&number| refusals[number] > 0).collect();
-    assert_eq!(met, [0, 1, 2, 3, 4, 6, 7, 8, 9, 10, 11, 12, 13, 14, 15, 16, 17, 18, 19, 20, 21, 23, 24]);
+    let met: Vec<usize> = (0..26).filter(|&number| refusals[number] > 0).collect();
+    assert_eq!(met, [0, 1, 2, 3, 4, 6, 7, 8, 9, 10, 11, 12, 13, 14, 15, 16, 17, 18, 19, 20, 21, 23, 24, 25]);
 }
 
 #[test]
@@ -125,13 +127,28 @@ fn huge_values_alone() {
         votes_used: usize::MAX,
     };
     let six = Some(6);
-    let refusals = [six, six, six, six, six, six, six, six, six, six, six, Some(1)];
+    let refusals = [six, six, six, six, six, six, six, six, six, six, six, Some(1), six, six];
     assert_eq!(try_calls(&huge, u64::MAX, u64::MAX, u128::MAX, &[255; 17]), refusals);
     huge.settings.profile = Profile::Rack;
     assert_eq!(try_calls(&huge, u64::MAX, u64::MAX, u128::MAX, &[255; 4097]), refusals);
     let mut node = fresh(64, 0, 4096, 4096);
     let (seven, no_slot, no_proposal) = (Some(7), Some(17), Some(19));
-    let refusals = [seven, seven, seven, seven, no_slot, no_slot, no_slot, no_proposal, no_proposal, None, None, None];
+    let refusals = [
+        seven,
+        seven,
+        seven,
+        seven,
+        no_slot,
+        no_slot,
+        no_slot,
+        no_proposal,
+        no_proposal,
+        None,
+        None,
+        None,
+        seven,
+        no_slot,
+    ];
     assert_eq!(try_calls(&node, u64::MAX, u64::MAX, u128::MAX, &[255; 17]), refusals);
     // The last slot is used like any other.
     node.clock = Clock { seen: 3_000_000_000, done: 2_999_999_999, merged: 999_999_999, proposed: 0 };

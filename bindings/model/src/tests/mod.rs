@@ -2,6 +2,7 @@
 
 mod doubles;
 mod extremes;
+mod figures;
 mod old_votes;
 mod packets;
 mod pairs;
@@ -14,9 +15,10 @@ mod run;
 mod shed;
 mod shortcuts;
 mod soundness;
+mod unheard;
 mod wide;
 
-use crate::{Block, Clock, Node, Packet, PacketBlock, PacketVote, Profile, Received, Refused, Settings, Vote};
+use crate::{Block, Clock, Figures, Node, Packet, PacketBlock, PacketVote, Profile, Received, Refused, Settings, Vote};
 
 pub const NO_BLOCK: Block = Block { number: 0, parent: 0, slot: 0, in_view: false };
 pub const NO_VOTE: Vote = Vote { voter: 0, slot: 0, number: 0, in_view: false };

@@ -53,10 +53,10 @@ impl Pair {
 /// The next call, most of them at the next beat or this one.
 fn next_call(random: &mut Random, node: &Node, numbers: Numbers, about_longest: bool) -> Call {
     let (settings, memory) = (node.settings(), node.memory());
-    let seen = memory.clock.seen;
+    let (seen, nodes) = (memory.clock.seen, settings.nodes);
     let beat = seen + random.pick(&[0, 0, 0, 1, 1, 1, 1, 1, 2, 9]);
     let slot = random.between(memory.clock.merged, seen / 3 + 1);
-    match random.below(16) {
+    match random.below(17) {
         0..=5 => match beat.max(seen + 1) {
             beat if beat % 3 == 0 => Call::Propose { beat, number: random.between(1, 1_000_000).into() },
             beat if beat % 3 == 1 => Call::Vote { beat },
@@ -75,6 +75,7 @@ fn next_call(random: &mut Random, node: &Node, numbers: Numbers, about_longest: 
         11 => Call::Head { slot },
         12 => Call::Deep { slot },
         13 => Call::Fast { slot },
+        14 => Call::Settled { slot, silent: random.word() & random.pick(&[0, 1, 6, (1 << nodes) - 1, u64::MAX]) },
         _ => Call::Write { proposal: random.once_in(2), wide: random.once_in(2) },
     }
 }
@@ -83,7 +84,7 @@ fn next_call(random: &mut Random, node: &Node, numbers: Numbers, about_longest: 
 fn a_rack_answers_as_a_loom() {
     let random = &mut Random::new(9);
     // by call: lists that end with 10, and of these those that the loom goes on with
-    let (mut lacked, mut loom_had) = ([0; 9], 0);
+    let (mut lacked, mut loom_had) = ([0; 10], 0);
     // lists that end with 24, and of these those whose last packet the loom took
     let (mut too_long, mut loom_took) = (0, 0);
     // lists in which neither came; lists of 100 calls or more before the end, and all calls that were answered alike

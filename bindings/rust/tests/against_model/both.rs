@@ -18,11 +18,13 @@ pub enum Call {
     Head { slot: u64 },
     Deep { slot: u64 },
     Fast { slot: u64 },
+    Settled { slot: u64, silent: u64 },
     Write { proposal: bool, wide: bool },
 }
 
 impl Call {
-    pub const NAMES: [&'static str; 9] = ["Open", "Receive", "Propose", "Vote", "Merge", "Head", "Deep", "Fast", "Write"];
+    pub const NAMES: [&'static str; 10] =
+        ["Open", "Receive", "Propose", "Vote", "Merge", "Head", "Deep", "Fast", "Settled", "Write"];
 
     /// The place of the call's name in `NAMES`.
     pub fn index(&self) -> usize {
@@ -35,7 +37,8 @@ impl Call {
             Call::Head { .. } => 5,
             Call::Deep { .. } => 6,
             Call::Fast { .. } => 7,
-            Call::Write { .. } => 8,
+            Call::Settled { .. } => 8,
+            Call::Write { .. } => 9,
         }
     }
 
@@ -59,6 +62,7 @@ impl Call {
             Call::Head { slot } => node.head(*slot).map(Answer::Block),
             Call::Deep { slot } => node.deep(*slot).map(Answer::Block),
             Call::Fast { slot } => node.fast(*slot).map(|found| found.map_or(Answer::Nothing, Answer::Block)),
+            Call::Settled { slot, silent } => node.settled(*slot, *silent).map(Answer::Block),
             Call::Write { proposal, wide } => {
                 let width = if *wide { Width::Wide } else { Width::Narrow };
                 node.write(*proposal, width, buffer).map(Answer::Length)
@@ -68,13 +72,14 @@ impl Call {
     }
 }
 
-/// What a call that was carried out answers.
+/// What a call that was carried out answers. `Unsaid` is the model's where silent nodes may count in too many ways to try.
 #[derive(Clone, Copy, Debug, PartialEq, Eq)]
 pub enum Answer {
     Done,
     Received { new_blocks: u64, new_votes: u64, viewed: bool },
     Block(u128),
     Nothing,
+    Unsaid,
     Length(usize),
 }
 
@@ -105,6 +110,8 @@ pub struct Both {
     lent: Memory,
     /// For the counts of a test.
     pub removed: Removed,
+    /// Whether the model said what the last call answers.
+    pub said: bool,
 }
 
 impl Both {
@@ -117,6 +124,7 @@ impl Both {
             lent: memory.clone(),
             proved: Node::from_memory(settings, memory),
             removed: Removed::default(),
+            said: true,
         }
     }
 
@@ -139,7 +147,10 @@ impl Both {
         let mut other = buffer.to_vec();
         let model = self.on_model(call, &mut other);
         let proved = call.make(&mut self.proved, buffer);
-        same("the answer", &proved, &model)?;
+        self.said = model != Ok(Answer::Unsaid);
+        if self.said || proved.is_err() {
+            same("the answer", &proved, &model)?;
+        }
         same_words("the buffer", buffer, &other)?;
         let (p, m) = (self.proved.memory(), &self.lent);
         same_words("the block table", &p.blocks, &m.blocks)?;
@@ -166,6 +177,9 @@ impl Both {
             Call::Head { slot } => node.head(*slot).map(Answer::Block).map_err(whole),
             Call::Deep { slot } => node.deep(*slot).map(Answer::Block).map_err(whole),
             Call::Fast { slot } => node.fast(*slot).map(|found| found.map_or(Answer::Nothing, Answer::Block)).map_err(whole),
+            Call::Settled { slot, silent } => {
+                node.unheard(*slot, *silent).map(|found| found.map_or(Answer::Unsaid, Answer::Block)).map_err(whole)
+            }
             Call::Write { proposal, wide } => node.write(*proposal, *wide, buffer).map(Answer::Length).map_err(whole),
         };
         if reply.is_ok() {

@@ -84,7 +84,15 @@ fn largest_tables() {
         // in the other width
         let other = if wide { Err((23, None)) } else { Ok(Answer::Length(LARGEST_PACKET)) };
         assert_eq!(make(write(!wide), &mut vec![0; LARGEST_PACKET]), other);
-        for question in [|slot| Call::Head { slot }, |slot| Call::Deep { slot }, |slot| Call::Fast { slot }] {
+        let questions = [
+            |slot| Call::Head { slot },
+            |slot| Call::Deep { slot },
+            |slot| Call::Fast { slot },
+            |slot| Call::Settled { slot, silent: 0 },
+            |slot| Call::Settled { slot, silent: 1 << 63 },
+            |slot| Call::Settled { slot, silent: u64::MAX },
+        ];
+        for question in questions {
             assert!(matches!(make(question(slot), &mut []), Ok(Answer::Block(_))));
             assert_eq!(make(question(slot - 1), &mut []), Err((17, None)));
         }

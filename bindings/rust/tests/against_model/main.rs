@@ -14,6 +14,7 @@ mod old_votes;
 mod packets;
 mod racks;
 mod random;
+mod settled;
 mod wide;
 mod world;
 
@@ -29,7 +30,7 @@ fn setting(name: &str, default: u64) -> u64 {
 }
 
 /// What each call may answer: 0, carried out, and its refusals.
-const REPLIES: [&[usize]; 9] = [
+const REPLIES: [&[usize]; 10] = [
     &[0, 1, 2, 3, 4, 5],
     &[0, 6, 7, 24, 8, 9, 20, 21, 10],
     &[0, 6, 7, 11, 12, 13, 14, 15, 10],
@@ -38,6 +39,7 @@ const REPLIES: [&[usize]; 9] = [
     &[0, 6, 17],
     &[0, 6, 17],
     &[0, 6, 17],
+    &[0, 6, 17, 25],
     &[0, 6, 19, 23, 18],
 ];
 
@@ -53,12 +55,13 @@ fn random_calls() {
         World::new(&mut run, random).go(calls);
     }
     for (name, replies) in Call::NAMES.iter().zip(&run.replies) {
-        let refused: Vec<String> = (1..25).filter(|&k| replies[k] > 0).map(|k| format!("{k}: {}", replies[k])).collect();
+        let refused: Vec<String> = (1..26).filter(|&k| replies[k] > 0).map(|k| format!("{k}: {}", replies[k])).collect();
         println!("{name}: {} carried out; refused by {}", replies[0], refused.join(", "));
     }
     println!("{} proposals came into view on arrival, {} fast blocks", run.viewed, run.fast);
     println!("the largest index of a refused block {}, of a refused vote {}", run.deepest[0], run.deepest[1]);
-    let met = [&run.old_votes.list()[..], &run.wide.list(), &run.racks.list()].concat();
+    println!("{} settled blocks, {} of them not said by the model", run.settled.answered, run.settled.unsaid);
+    let met = [&run.old_votes.list()[..], &run.wide.list(), &run.racks.list(), &run.settled.list()].concat();
     for (what, times) in &met {
         println!("{what}: {times}");
     }
@@ -70,6 +73,7 @@ fn random_calls() {
         }
         assert!(run.viewed > 0 && run.fast > 0);
         assert!(run.deepest.iter().all(|&index| index >= 2), "refused entries stand deep in their sections too");
+        assert!(run.settled.unsaid <= run.settled.answered / 5, "the model says most settled blocks");
         for (what, times) in met {
             assert!(times >= calls / 1_000, "{what}: {times} in {calls} calls");
         }

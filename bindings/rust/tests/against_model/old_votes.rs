@@ -93,7 +93,7 @@ impl OldVotes {
                 self.bad += u64::from(is_old(&votes[*index as usize]));
                 self.bad_behind += u64::from(votes[..*index as usize].iter().any(is_old));
             }
-            (Call::Head { slot } | Call::Deep { slot } | Call::Fast { slot }, reply) => {
+            (Call::Head { slot } | Call::Deep { slot } | Call::Fast { slot } | Call::Settled { slot, .. }, reply) => {
                 let before_merged = *slot > 0 && *slot < before.clock.merged;
                 self.asked_before_merged += u64::from(*reply == Err((17, None)) && before_merged);
                 self.asked_merged += u64::from(reply.is_ok() && *slot == before.clock.merged && node.removed.votes > 0);

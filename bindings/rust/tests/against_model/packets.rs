@@ -193,6 +193,29 @@ pub fn with_twins(random: &mut Random, settings: Settings, memory: &Memory, beat
     [gossip(twins.to_vec(), vec![first]), proposal].map(|packet| packet.encode())
 }
 
+/// Gossip with a small tree, mostly a trunk with branches on it, and votes of this slot and the one before for its last blocks.
+pub fn with_tree(random: &mut Random, settings: Settings, slot: u64) -> Packet {
+    let mut known = vec![Block { number: 0, parent: 0, slot: 0, in_view: true }];
+    let latest = |random: &mut Random, known: &[Block]| known[known.len() - 1 - random.below(known.len().min(3) as u64) as usize];
+    for _ in 0..random.between(3, 8) {
+        let Block { number: parent, slot: above, .. } = latest(random, &known);
+        let number = Numbers::Any.draw(random, 1, 400, &known);
+        if known.iter().all(|block| block.number != number) {
+            known.push(Block { number, parent, slot: above + random.between(1, 2), in_view: false });
+        }
+    }
+    let blocks =
+        known[1..].iter().map(|block| PacketBlock { number: block.number, parent: block.parent, slot: block.slot as u32 });
+    let mut votes = Vec::new();
+    for voter in 0..settings.nodes {
+        for _ in 0..random.pick(&[0, 1, 1, 1, 1, 1, 1, 2]) {
+            let slot = slot - u64::from(random.once_in(8));
+            votes.push(PacketVote { voter: voter as u8, slot: slot as u32, number: latest(random, &known).number });
+        }
+    }
+    gossip(blocks.collect(), votes)
+}
+
 /// A packet about as long as the longest that a rack reads. Most are well-formed and keep the rules. The beat's slot is not 0.
 pub fn about_longest(random: &mut Random, numbers: Numbers, settings: Settings, memory: &Memory, beat: u64) -> Vec<u8> {
     let length = match random.below(40) {

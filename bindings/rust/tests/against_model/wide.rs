@@ -26,6 +26,7 @@ pub struct Wide {
     waits_beside_twin: u64,
     proposed_lower_half_known: u64,
     by_upper_half: u64,
+    settled_by_upper_half: u64,
     unsound_by_upper_half: u64,
     /// By kind.
     written: [u64; 4],
@@ -39,7 +40,7 @@ pub struct Wide {
 }
 
 impl Wide {
-    pub fn list(&self) -> [(&'static str, u64); 30] {
+    pub fn list(&self) -> [(&'static str, u64); 31] {
         [
             ("narrow gossip with entries accepted", self.accepted[0]),
             ("narrow proposals accepted", self.accepted[1]),
@@ -60,6 +61,7 @@ impl Wide {
             ("votes that wait where one with the same lower half is brought", self.waits_beside_twin),
             ("numbers proposed whose lower half is known", self.proposed_lower_half_known),
             ("answers that would be others by the lower half first", self.by_upper_half),
+            ("of these, settled blocks", self.settled_by_upper_half),
             ("memory that is unsound by an upper half alone", self.unsound_by_upper_half),
             ("gossip with entries written narrow", self.written[0]),
             ("proposals written narrow", self.written[1]),
@@ -117,7 +119,9 @@ impl Wide {
         match reply {
             Ok(Answer::Block(answer)) if has_upper_half(before) => {
                 let other = by_lower_half(node.settings(), before, call);
-                self.by_upper_half += u64::from(other.is_some_and(|other| other != *answer));
+                let differs = u64::from(other.is_some_and(|other| other != *answer));
+                self.by_upper_half += differs;
+                self.settled_by_upper_half += if matches!(call, Call::Settled { .. }) { differs } else { 0 };
             }
             Err((6, _)) if node.is_readable() && has_upper_half(before) => {
                 let mut model = modelled(node.settings(), before);
@@ -219,6 +223,8 @@ fn by_lower_half(settings: Settings, before: &Memory, call: &Call) -> Option<u12
         Call::Vote { beat } => node.vote(*beat),
         Call::Head { slot } => node.head(*slot),
         Call::Deep { slot } => node.deep(*slot),
+        // few ways to count, since it is asked twice
+        Call::Settled { slot, silent } if silent.count_ones() < 3 => return node.unheard(*slot, *silent).ok()?.map(exchanged),
         _ => return None,
     };
     answer.ok().map(exchanged)

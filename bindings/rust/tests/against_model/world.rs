@@ -1,10 +1,11 @@
 //! A few nodes of one network that make calls, exchange packets and are lent damaged memory.
 
-use crate::both::{blocks, number_of, zeroed, Answer, Both, Call, Refused, Reply};
+use crate::both::{blocks, number_of, votes, zeroed, Answer, Both, Call, Refused, Reply};
 use crate::old_votes::OldVotes;
 use crate::packets::{self, Numbers};
 use crate::racks::Racks;
 use crate::random::Random;
+use crate::settled::Settled;
 use crate::wide::Wide;
 use likvost::{Clock, Memory, Profile, Settings, BLOCK_WORDS, RACK_PACKET, VOTE_WORDS};
 use likvost_model::{Block, PacketBlock};
@@ -17,7 +18,7 @@ pub struct Run {
     seed: u64,
     pub calls: u64,
     /// By call and refusal; 0 stands for a call that was carried out.
-    pub replies: [[u64; 25]; 9],
+    pub replies: [[u64; 26]; 10],
     /// The largest index of a refused block and vote.
     pub deepest: [u64; 2],
     /// Proposals that came into view on arrival, and Fast blocks.
@@ -26,6 +27,7 @@ pub struct Run {
     pub old_votes: OldVotes,
     pub wide: Wide,
     pub racks: Racks,
+    pub settled: Settled,
 }
 
 impl Run {
@@ -33,13 +35,14 @@ impl Run {
         Run {
             seed,
             calls: 0,
-            replies: [[0; 25]; 9],
+            replies: [[0; 26]; 10],
             deepest: [0; 2],
             viewed: 0,
             fast: 0,
             old_votes: OldVotes::default(),
             wide: Wide::default(),
             racks: Racks::default(),
+            settled: Settled::default(),
         }
     }
 
@@ -53,6 +56,7 @@ impl Run {
         self.old_votes.count(node, &before, call, &reply);
         self.wide.count(node, &before, call, &reply, buffer.len());
         self.racks.count(node, &before, call, &reply);
+        self.settled.count(node, &before, call, &reply);
         self.replies[call.index()][reply.err().map_or(0, |(number, _)| number) as usize] += 1;
         match reply {
             Err((9, Some(index))) => self.deepest[0] = self.deepest[0].max(index),
@@ -128,7 +132,7 @@ impl<'a> World<'a> {
     pub fn go(&mut self, calls: u64) {
         let end = self.run.calls + self.random.between(100, 900);
         while self.run.calls < calls.min(end) && self.beat <= LAST_BEAT + 2 {
-            match self.random.below(116) {
+            match self.random.below(124) {
                 0..=18 => self.tick(),
                 20..=41 => self.deliver(),
                 42..=52 => self.receive_made(),
@@ -143,7 +147,9 @@ impl<'a> World<'a> {
                 99 => self.reopen(),
                 100..=111 => self.receive_about_longest(),
                 112 => self.past_rack_limits(),
-                _ => self.fill_rack(),
+                113..=115 => self.fill_rack(),
+                116..=117 => self.settle_tree(),
+                _ => self.ask_settled(),
             }
         }
     }
@@ -279,6 +285,33 @@ impl<'a> World<'a> {
         let _ = self.make(node, call);
     }
 
+    /// The settled block.
+    fn ask_settled(&mut self) {
+        let node = self.any();
+        let (slot, silent) = (self.slot(node), self.silent(node));
+        let _ = self.make(node, Call::Settled { slot, silent });
+    }
+
+    fn silent(&mut self, node: usize) -> u64 {
+        silent(&mut self.random, self.nodes[node].settings(), self.nodes[node].memory())
+    }
+
+    /// The settled block of a fresh node with a small tree and votes for its branches.
+    fn settle_tree(&mut self) {
+        let settings = Settings { profile: Profile::Loom, ..self.nodes[0].settings() };
+        let slot = 20;
+        let packet = packets::with_tree(&mut self.random, settings, slot - 1).encode();
+        let beat = 3 * slot - 1;
+        let mut fresh = receiver(self.run, settings, (16, 256), beat, packet).expect("it keeps the rules");
+        for call in [Call::Merge { beat }, Call::Vote { beat: beat + 2 }] {
+            self.run.make(&mut fresh, &call, &mut []).expect("it is due");
+        }
+        for _ in 0..4 {
+            let silent = silent(&mut self.random, settings, fresh.memory());
+            let _ = self.run.make(&mut fresh, &Call::Settled { slot, silent }, &mut []);
+        }
+    }
+
     /// Write with a buffer of any length.
     fn write_odd(&mut self) {
         let node = self.any();
@@ -397,6 +430,7 @@ impl<'a> World<'a> {
         }
         let beat = self.beat.max(3);
         let (slot, number) = (self.slot(node), self.number(node));
+        let silent = self.silent(node) | self.random.pick(&[0, 1 << 63]);
         let packet = packets::about_longest(&mut self.random, self.numbers, settings, &memory, beat);
         let calls = [
             Call::Receive { beat, packet },
@@ -406,6 +440,7 @@ impl<'a> World<'a> {
             Call::Head { slot },
             Call::Deep { slot },
             Call::Fast { slot },
+            Call::Settled { slot, silent },
             self.write(),
             Call::Open,
         ];
@@ -491,7 +526,7 @@ impl<'a> World<'a> {
         for _ in 0..self.random.between(1, 3) {
             let beat = self.odd_beat();
             let slot = self.slot(node);
-            let call = match self.random.below(12) {
+            let call = match self.random.below(13) {
                 0 | 1 => Call::Receive { beat, packet: self.made_packet(node) },
                 2 => Call::Propose { beat, number: self.number(node) },
                 3 => Call::Vote { beat },
@@ -499,7 +534,8 @@ impl<'a> World<'a> {
                 5 => Call::Head { slot },
                 6 => Call::Deep { slot },
                 7 => Call::Fast { slot },
-                8 => self.write(),
+                8 => Call::Settled { slot, silent: self.silent(node) },
+                9 => self.write(),
                 _ => Call::Open,
             };
             let mut buffer = [7; 1200];
@@ -570,6 +606,32 @@ fn receiver(
     let mut fresh = Both::new(settings, zeroed(block_places, vote_places));
     run.make(&mut fresh, &Call::Open, &mut []).expect("the settings are in range");
     run.make(&mut fresh, &Call::Receive { beat, packet }, &mut []).map(|_| fresh)
+}
+
+/// A set of silent nodes, mostly so few that the model soon says the settled block.
+fn silent(random: &mut Random, settings: Settings, memory: &Memory) -> u64 {
+    let nodes = settings.nodes;
+    let all = u64::MAX >> (64 - nodes);
+    match random.below(20) {
+        0 | 1 => return 0,
+        2 => return all,
+        3 | 4 => return random.word(),
+        // node n and at times others
+        5 | 6 => return 1_u64.checked_shl(nodes as u32).unwrap_or(0) | random.word() & random.pick(&[0, 1, all]),
+        _ => {}
+    }
+    let voters: Vec<u64> = votes(memory).map(|vote| vote.voter).collect();
+    let most = if random.once_in(50) { 20_000 } else { 500 };
+    let (mut silent, mut fillings) = (0, 1);
+    for _ in 0..random.between(1, 4) {
+        fillings *= memory.blocks_used + 1;
+        if fillings > most && silent != 0 {
+            break;
+        }
+        let voter = if voters.is_empty() || random.once_in(3) { random.below(nodes) } else { random.pick(&voters) };
+        silent |= 1 << voter;
+    }
+    silent
 }
 
 /// Bytes that the node's packets fit in.

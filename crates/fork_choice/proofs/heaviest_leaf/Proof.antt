@@ -27,7 +27,7 @@ leaf-requires c κs =
     let k = w .before .before .before .before .before .before in
     let s = k .before .before .before .before .before .before in
     let T = s .pre .0 in
-    let h = w .count-voters .kept .1 .1 .0 ∙ length-replicate {A = ℕ} (loom .blocks) 0 in
+    let h = w .count-voters .kept .1 .1 .1 .0 ∙ length-replicate {A = ℕ} (loom .blocks) 0 in
     let f = few T in
     (T .blocks-fit, f .0, omega arith, k .weigh .kept .1 .1 .1 .1 .1 .1 .1 .1 .0 ∙ s .pre .1, blocks-sound T, k .weigh .ensures .0)
 

@@ -1,7 +1,7 @@
 -- `weight` meets its contract. Assumes nothing.
 use mathlib.Core.Path.{ap, sym, _∙_}
 use lib.Count.{ones}
-use Rattle.masks.specs.Masks.{bitOf}
+use Rattle.protocol.specs.Words.{bitOf}
 use Rattle.masks.proofs.Masks.{mask-bits, ones-mask}
 use Rattle.masks.proofs.weight.Statement.{statement}
 use Rattle.masks.proofs.weight.Tie as tie

@@ -2,7 +2,7 @@
 use borrow.Author.Needs.{needs}
 use mathlib.Core.Path.{ap₂, sym, _∙_}
 use lib.Bits.{bitOr}
-use Rattle.masks.specs.Masks.{bitOf}
+use Rattle.protocol.specs.Words.{bitOf}
 use Rattle.masks.proofs.Masks.{mask-bits, mask-with, shl-one}
 use Rattle.masks.proofs.with.Statement.{statement}
 use Rattle.masks.proofs.with.Tie as tie

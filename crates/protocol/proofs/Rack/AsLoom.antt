@@ -19,7 +19,7 @@ use Rattle.protocol.specs.Calls.Receive.{blocksAfter, votesAfter, receiv
 use Rattle.protocol.specs.Calls.Propose.{baseOf, proposeTests, propose}
 use Rattle.protocol.specs.Calls.Vote.{headOf, voteTests, vote}
 use Rattle.protocol.specs.Calls.Merge.{mergeTests, merge}
-use Rattle.protocol.specs.Calls.Query.{queryTests, deepOf, fastOf, headQuery, deepQuery, fastQuery}
+use Rattle.protocol.specs.Calls.Query.{queryTests, deepOf, fastOf, settledTests, settledOf, headQuery, deepQuery, fastQuery, settledQuery}
 use Rattle.protocol.specs.Calls.Write.{proposedNow, writeTests, write}
 use Rattle.protocol.specs.CallList.{Call, Receive, Propose, Vote, Merge, afterCall, callAnswer, received, named, merged, refusedBy, meets, afterCalls, meetsNone}
 use Rattle.protocol.specs.Rack.{asLoom, byRoom, RackAsLoom}
@@ -139,6 +139,10 @@ module _ {s : Settings} {pl pl' : Places} (R : Roomier s pl pl') (x : Node) (S :
   unfolding fastQuery fastOf
   fast-same t = rw (query-first t)
 
+  pub settled-same : (t set : ℕ) → settledQuery s pl x t set ≡ settledQuery (asLoom s) pl' x t set
+  unfolding settledQuery settledTests settledOf queryTests first
+  settled-same t set = rw (S, loom-sound)
+
   pub write-same : (proposal : Bool) (width : Width) (buffer : List ℕ) → write s pl x proposal width buffer ≡ write (asLoom s) pl' x proposal width buffer
   unfolding write writeTests first proposedNow
   write-same proposal width buffer = rw (S, loom-sound)
@@ -162,4 +166,4 @@ rack-as-loom s pl pl' old old' d d' hb hv cs n =
     let R : Roomier s pl pl' = record { old = old'; opened = d'; blocks = hb; votes = hv } in
     let r = after-same R fresh (rw e at (open-sound s pl old d)) cs (rw e at n) in
     let x = afterCalls s pl fresh cs in
-    rw (e, e', ← r .0) (refl, call-answer-same R x (r .1), head-same R x (r .1), deep-same R x (r .1), fast-same R x (r .1), write-same R x (r .1))
+    rw (e, e', ← r .0) (refl, call-answer-same R x (r .1), head-same R x (r .1), deep-same R x (r .1), fast-same R x (r .1), settled-same R x (r .1), write-same R x (r .1))

@@ -10,7 +10,7 @@ index-spec {M} =
     let s₁ = tie.spec {M = M} (λ c. search needs) (λ c. search needs) (λ c. search needs) (λ c. search needs) (λ c. search needs) (λ c. search needs) in
     let s₂ = s₁ (λ c. search needs) (λ c. search needs) (λ c. search needs) (λ c. search needs) (λ c. search needs) (λ c. search needs) in
     let s₃ = s₂ (λ c. search needs) (λ c. search needs) (λ c. search needs) (λ c. search needs) (λ c. search needs) (λ c. search needs) in
-    let s₄ = s₃ (λ c. search needs) (λ c. search needs) (λ c. search needs) (λ c. search needs) (λ c. search needs) in
+    let s₄ = s₃ (λ c. search needs) (λ c. search needs) (λ c. search needs) (λ c. search needs) (λ c. search needs) (λ c. search needs) in
     tie.close
     (s₄
     (λ c. sym (ap refusalIndexOf (c .enum-told .given .1)))
@@ -35,4 +35,5 @@ index-spec {M} =
     (λ c. sym (ap refusalIndexOf (c .enum-told18 .given .1)))
     (λ c. sym (ap refusalIndexOf (c .enum-told19 .given .1)))
     (λ c. sym (ap refusalIndexOf (c .enum-told20 .given .1)))
-    (λ c. sym (ap refusalIndexOf (c .enum-told21 .given .1))))
+    (λ c. sym (ap refusalIndexOf (c .enum-told21 .given .1)))
+    (λ c. sym (ap refusalIndexOf (c .enum-told22 .given .1))))

@@ -10,7 +10,7 @@ number-spec {M} =
     let s₁ = tie.spec {M = M} (λ c. search needs) (λ c. search needs) (λ c. search needs) (λ c. search needs) (λ c. search needs) (λ c. search needs) in
     let s₂ = s₁ (λ c. search needs) (λ c. search needs) (λ c. search needs) (λ c. search needs) (λ c. search needs) (λ c. search needs) in
     let s₃ = s₂ (λ c. search needs) (λ c. search needs) (λ c. search needs) (λ c. search needs) (λ c. search needs) (λ c. search needs) in
-    let s₄ = s₃ (λ c. search needs) (λ c. search needs) (λ c. search needs) (λ c. search needs) (λ c. search needs) in
+    let s₄ = s₃ (λ c. search needs) (λ c. search needs) (λ c. search needs) (λ c. search needs) (λ c. search needs) (λ c. search needs) in
     tie.close
     (s₄
     (λ c. sym (ap refusalNumberOf (c .enum-told .given .1)))
@@ -35,4 +35,5 @@ number-spec {M} =
     (λ c. sym (ap refusalNumberOf (c .enum-told20 .given .1)))
     (λ c. sym (ap refusalNumberOf (c .enum-told21 .given .1)))
     (λ c. sym (ap refusalNumberOf (c .enum-told22 .given .1)))
-    (λ c. sym (ap refusalNumberOf (c .enum-told23 .given .1))))
+    (λ c. sym (ap refusalNumberOf (c .enum-told23 .given .1)))
+    (λ c. sym (ap refusalNumberOf (c .enum-told24 .given .1))))

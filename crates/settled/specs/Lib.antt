@@ -1,0 +1,2 @@
+-- Rivals of a child, by rows. Assumes nothing.
+pub mod Rivals

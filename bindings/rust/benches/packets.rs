@@ -188,14 +188,13 @@ fn mixed(i: u64) -> u64 {
     i ^ (i >> 31)
 }
 
-/// The digits by which a number goes its way in an index of blocks, the first in the lowest bit: crates/mixing/specs.
-fn digits(number: u128) -> u64 {
-    let (lower, upper) = (number as u64, (number >> 64) as u64);
+/// The digits by which a key of four words goes its way in an index, the first in the lowest bit: crates/mixing/specs.
+fn digits_of(key: [u64; 4]) -> u64 {
     let mut v = [
-        lower ^ 0x736f_6d65_7073_6575,
-        lower ^ 0x646f_7261_6e64_6f6d,
-        lower ^ 0x6c79_6765_6e65_7261,
-        upper ^ 0x7465_6462_7974_6573,
+        key[0] ^ 0x736f_6d65_7073_6575,
+        key[1] ^ 0x646f_7261_6e64_6f6d,
+        key[2] ^ 0x6c79_6765_6e65_7261,
+        key[3] ^ 0x7465_6462_7974_6573,
     ];
     for _ in 0..4 {
         v[0] = v[0].wrapping_add(v[1]);
@@ -209,6 +208,16 @@ fn digits(number: u128) -> u64 {
         v[2] = v[2].rotate_left(32);
     }
     v[0] ^ v[2]
+}
+
+/// Those of a block's number, and of a vote.
+fn digits(number: u128) -> u64 {
+    let (lower, upper) = (number as u64, (number >> 64) as u64);
+    digits_of([lower, lower, lower, upper])
+}
+
+fn vote_digits(vote: &PacketVote) -> u64 {
+    digits_of([vote.number as u64, u64::from(vote.slot), u64::from(vote.voter), (vote.number >> 64) as u64])
 }
 
 fn encode(width: Width, blocks: Vec<PacketBlock>, votes: Vec<PacketVote>) -> Vec<u8> {
@@ -415,6 +424,31 @@ impl Case {
         Case { width, packet, memory: node.into_memory(), answer: received(0, 0) }
     }
 
+    /// Tables that are full of such blocks, and as many others as have a tree of their own.
+    fn sought_others(width: Width, tries: u64) -> Case {
+        let mut blocks = Case::sought_blocks(width, PLACES.0 as u32 - 1 + 8_192, tries);
+        let later = blocks.split_off(PLACES.0 - 1);
+        let mut node = fresh();
+        assert_eq!(node.receive(BEAT, &encode(width, blocks, vec![])), received(PLACES.0 - 1, 0));
+        Case { width, packet: encode(width, later, vec![]), memory: node.into_memory(), answer: Err(Refusal::TooFewPlaces) }
+    }
+
+    /// Tables full of votes of one voter that share a root and as many digits as can be had, and a packet of as many others. Of all slots with that root
+    /// and all blocks, those votes are taken that have the most digits 0 at first.
+    fn sought_votes(width: Width) -> Case {
+        let blocks = Case::sought_blocks(width, PLACES.0 as u32 - 1, 1);
+        let slots = (1..).map(|k| k << 17).take_while(|slot| *slot <= 1_000_000_000u32);
+        let all = slots.flat_map(|slot| blocks.iter().map(move |block| PacketVote { voter: 0, slot, number: block.number }));
+        let mut votes: Vec<PacketVote> = all.filter(|vote| vote_digits(vote).trailing_zeros() >= 9).collect();
+        votes.sort_by_key(|vote| std::cmp::Reverse(vote_digits(vote).trailing_zeros()));
+        votes.truncate(2 * PLACES.1);
+        let before = votes.iter().step_by(2).cloned().collect();
+        let later = votes.iter().skip(1).step_by(2).cloned().collect();
+        let mut node = fresh();
+        assert_eq!(node.receive(BEAT, &encode(width, blocks, before)), received(PLACES.0 - 1, PLACES.1));
+        Case { width, packet: encode(width, vec![], later), memory: node.into_memory(), answer: Err(Refusal::TooFewPlaces) }
+    }
+
     /// Receives the packet on a copy of the memory.
     fn receive<'a>(&'a self, packet: &'a [u8], answer: Result<Received, Refusal>) -> Run<'a> {
         Box::new(move || {
@@ -547,14 +581,16 @@ fn table(most: (usize, usize), part: &str) {
         }
     }
     for width in [Width::Narrow, Width::Wide] {
-        for (name, tables, blocks, case) in [
-            ("sought numbers", "Fresh", "8192", Case::sought as fn(Width, u64) -> Case),
-            ("sought numbers before", "Full", "65535 (1)", Case::sought_before),
+        for (name, tables, blocks, votes, case) in [
+            ("sought numbers", "Fresh", "8192", "0", Case::sought as fn(Width, u64) -> Case),
+            ("sought numbers before", "Full", "65535 (1)", "0", Case::sought_before),
+            ("sought numbers", "Others", "8192", "0", Case::sought_others),
+            ("sought votes", "Others", "0", "8192", |width, _| Case::sought_votes(width)),
         ] {
             if name.starts_with(part) {
                 let case = case(width, TRIES);
                 println!(
-                    "| {name} | {tables} | {width:?} | {blocks} | 0 | {} | {}",
+                    "| {name} | {tables} | {width:?} | {blocks} | {votes} | {} | {}",
                     answer(case.answer),
                     case.measure(9, ROW).row()
                 );

@@ -1,6 +1,8 @@
 // Which entries of a packet keep the rules, and which are new. Nothing may be changed before that is known, so the packet's entries are looked up
 // in an index of the table and in one of the packet, which they join, and the first row of each is noted in a set, by which they are stored and come
 // into view later. All entries together cost four lookups for each block and four for each vote. No function keeps an array.
+#![tactic(auto)]
+
 ghost use Rattle.std.specs.Prelude.{true, ◌&&◌, ◌≡◌, ◌+◌, ◌*◌, ◌<◌, ◌≤◌, eqb, leb, ltb, length, get_or, take};
 ghost use Rattle.protocol.specs.Words.{value, block_of, vote_of};
 ghost use Rattle.protocol.specs.Chain.{found_with, genesis};

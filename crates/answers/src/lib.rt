@@ -1,4 +1,6 @@
 // The answers of the twelve calls. What each means is in specs/Answers, what each call promises in specs/Promises.
+#![tactic(auto)]
+
 use equivocation::Equivocation;
 use protocol::{Clock, Number};
 use verdicts::Refusal;

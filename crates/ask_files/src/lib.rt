@@ -1,4 +1,6 @@
 // Questions from files: each argument of a program names one, which is asked as the program asks its standard input.
+#![tactic(auto)]
+
 use asking::Program;
 
 fn ask_one(program: Program, i: usize) {

@@ -3,6 +3,8 @@
 // for `fitask` and `pairask` its length (4), and a second packet behind it. Node 0 receives the first packet and merges it, and is asked for the slot or
 // about the second; for `pairask` it receives nothing, and is asked about both.
 // The tables and the input take 131 KB of stack.
+#![tactic(auto)]
+
 ghost use Rattle.std.specs.Prelude.{true, ◌≡◌, ◌+◌, ◌*◌, ◌^◌, ◌<◌, ◌≤◌};
 ghost use Rattle.protocol.specs.Lent.{block_words, vote_words, places_in, places_of, node_of, lent_sound};
 ghost use Rattle.verdicts.specs.Verdict.{verdict_of};

@@ -1,4 +1,6 @@
 // Sets of small numbers in lent words: number i is bit i % 64 of word i / 64.
+#![tactic(auto)]
+
 ghost use Rattle.std.specs.Prelude.{◌≡◌, ◌*◌, ◌<◌, length};
 ghost use Rattle.bitset.specs.Bitset.{in_set, inserted};
 

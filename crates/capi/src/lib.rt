@@ -1,6 +1,8 @@
 // The node for programs in C and Rust: the twelve calls under the names that include/likvost.h declares.
 // An enum cannot be exported, so an answer is a struct of numbers; specs/Structs says which struct stands for which answer.
 // Every function takes any memory, any clock and any settings that a caller may pass.
+#![tactic(auto)]
+
 ghost use Rattle.std.specs.Prelude.{◌≡◌};
 ghost use Rattle.protocol.specs.Words.{value};
 ghost use Rattle.verdicts.specs.Lent.{lent, lent_at_entry, lent_at_exit};

@@ -1,4 +1,6 @@
 // What a program of cases needs besides the node: the numbers of a line, tables and packets made of them, and how answers are written.
+#![tactic(auto)]
+
 ghost use Rattle.std.specs.Prelude.{◌+◌, ◌≤◌};
 ghost use Rattle.io.specs.Counts.{IsPrefixLen};
 

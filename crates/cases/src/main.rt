@@ -15,6 +15,8 @@
 //   head, deep, fast: slot                         settled: slot, the set of silent nodes as a number
 //   write: 1 for the proposal or 0 for gossip, 1 for wide or 0 for narrow, the buffer's length
 // In a call 1000 stands for 2^64: a block's number n is n % 1000 + 2^64 * (n / 1000). In a packet each half of it is below 256.
+#![tactic(auto)]
+
 use answers::{Answer, Call, Found, Moved};
 use protocol::{Clock, Settings, Width};
 

@@ -1,4 +1,6 @@
 // Answers the question on standard input: head, deep block and fast block.
+#![tactic(auto)]
+
 use asking::Program;
 
 fn main() {

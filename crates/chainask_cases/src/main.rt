@@ -1,4 +1,6 @@
 // The cases of `chainask`: each argument names a file of data/, which is asked as `chainask` asks its standard input.
+#![tactic(auto)]
+
 use asking::Program;
 
 fn main() {

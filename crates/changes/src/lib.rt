@@ -1,5 +1,7 @@
 // Changes of lent tables. Each says what all words of a table are at its end, unused places included.
 // No function keeps an array: the largest call takes less than 1 KB of stack.
+#![tactic(auto)]
+
 ghost use Rattle.std.specs.Prelude.{true, ◌++◌, ◌∷◌, [], ◌≡◌, ◌+◌, ◌-◌, ◌*◌, ◌≤◌, length, take, drop, replicate};
 ghost use Rattle.protocol.specs.Store.{view_all, rows_since, fresh};
 ghost use Rattle.protocol.specs.Words.{block_of, vote_of};

@@ -1,6 +1,8 @@
 // The first equivocation among the votes of two packets: of the lowest voter with two different votes of one slot, in its earliest such slot, with the
 // first two different blocks that it voted for there. It is found by three passes: the votes of the first packet among themselves, those of the second
 // against the first's, those of the second among themselves. Each vote is held against the first one of its voter and slot alone, which an index finds.
+#![tactic(auto)]
+
 ghost use Rattle.std.specs.Prelude.{[], ◌++◌, ◌≡◌, ◌≤◌, length, replicate};
 ghost use Rattle.protocol.specs.Words.{vote_of};
 ghost use Rattle.protocol.specs.Packet.{packet_of};

@@ -1,4 +1,6 @@
 // The cases of `fitask`: each argument names a file of data/, which is asked as `fitask` asks its standard input.
+#![tactic(auto)]
+
 use asking::Program;
 
 fn main() {

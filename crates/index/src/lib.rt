@@ -6,6 +6,8 @@
 // chosen by all words of a key, mixed with a salt of all bytes of the packet: a chain has four entries, on the average, in the longest packet, and
 // nobody can tell which before the packet is whole.
 // No function keeps an array: the largest call takes less than 1 KB of stack.
+#![tactic(auto)]
+
 ghost use Rattle.std.specs.Prelude.{cond, ◌≡◌, ◌+◌, ◌*◌, ◌<◌, ◌≤◌, length, get_or};
 ghost use Rattle.protocol.specs.Chain.{genesis};
 ghost use Rattle.protocol.specs.Words.{value, block_of, vote_of};

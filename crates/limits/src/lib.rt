@@ -1,4 +1,6 @@
 // The limits that a node keeps to: those of every node, and two sets, of which its profile names one. Their numbers stand here alone.
+#![tactic(auto)]
+
 ghost use Rattle.std.specs.Prelude.{◌≡◌};
 ghost use Rattle.protocol.specs.Limits.{limits_of};
 

@@ -1,4 +1,6 @@
 // Sets of voters as words: bit v is voter v, and the weight of a set is its number of ones.
+#![tactic(auto)]
+
 ghost use Rattle.std.specs.Prelude.{not, ◌&&◌, ◌≡◌, ◌^◌, ◌<◌, leb};
 ghost use Rattle.protocol.specs.Walk.{count_below};
 ghost use Rattle.protocol.specs.Words.{bit_of};

@@ -1,5 +1,7 @@
 // Four words mixed by four rounds of SipHash, with its constants and a salt. There is no secret in it. A packet's salt is made from all of its bytes, so
 // whoever writes a packet learns how its keys are mixed when it is whole, and with every change of it they are mixed in another way.
+#![tactic(auto)]
+
 ghost use Rattle.std.specs.Prelude.{◌≡◌, ◌<◌};
 ghost use Rattle.mixing.specs.Mixing.{rotated, stir, mix};
 

@@ -1,5 +1,7 @@
 // The calls that change a node's memory: Open, Receive, Propose, Vote and Merge.
 // Each takes any memory that a caller may lend: the verdict comes first, and a refused call writes nothing.
+#![tactic(auto)]
+
 ghost use Rattle.std.specs.Prelude.{cond, ◌≡◌, ◌/◌};
 ghost use Rattle.protocol.specs.Words.{value};
 ghost use Rattle.verdicts.specs.Lent.{lent_at_entry, lent_at_exit};

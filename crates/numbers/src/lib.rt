@@ -1,4 +1,6 @@
 // Block numbers of two words: compared as the numbers that they are, the upper half first; and kept in lent words.
+#![tactic(auto)]
+
 ghost use Rattle.std.specs.Prelude.{◌≡◌, ◌+◌, ◌*◌, ◌<◌, eqb, ltb, length};
 ghost use Rattle.protocol.specs.Words.{value, is_wide};
 ghost use Rattle.numbers.specs.NumberWords.{number_in, kept_in, NumbersFit};

@@ -1,5 +1,7 @@
 // What a node itself may do and did: whether it is joined, proposes, has voted, has proposed; and which votes it keeps.
 // Each takes a look through one table at most.
+#![tactic(auto)]
+
 ghost use Rattle.std.specs.Prelude.{◌&&◌, cond, [], ◌≡◌, ◌+◌, ◌/◌, ◌%◌, ◌<◌, eqb};
 ghost use Rattle.protocol.specs.Lists.{any_pass};
 ghost use Rattle.protocol.specs.Store.{entries, view_of, kept_from};

@@ -1,4 +1,6 @@
 // Packets of both widths written and read back, with each byte changed, cut to each length, and as each kind.
+#![tactic(auto)]
+
 ghost use Rattle.std.specs.Prelude.{◌≤◌, ◌≡◌, length};
 ghost use Rattle.protocol.specs.Words.{value};
 ghost use Rattle.protocol.specs.Packet.{packet_of};

@@ -2,6 +2,8 @@
 // Nothing is read past the end: a byte that is not there counts as 0, as in the definitions.
 // What is read whole, a number or an entry, is tested once for the end of the packet and then read at once; only what goes past the end is read
 // byte by byte. No function here takes longer than a few numbers.
+#![tactic(auto)]
+
 ghost use Rattle.std.specs.Prelude.{◌||◌, ◌≡◌, ◌+◌, ◌*◌, ◌^◌, ◌≤◌, ◌<◌, eqb, leb, length, get_or, drop};
 ghost use Rattle.protocol.specs.Chain.{genesis};
 ghost use Rattle.protocol.specs.Words.{block_of, vote_of};

@@ -1,4 +1,6 @@
 // The cases of `pairask`: each argument names a file of data/, which is asked as `pairask` asks its standard input.
+#![tactic(auto)]
+
 use asking::Program;
 
 fn main() {

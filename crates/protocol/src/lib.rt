@@ -1,4 +1,5 @@
 // The records that code and definitions share. Assumes nothing.
+#![tactic(auto)]
 
 // Which set of limits a node keeps to: a loom controller's or a rack controller's.
 #[derive(Drop)]

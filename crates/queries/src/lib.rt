@@ -1,6 +1,8 @@
 // Head, Deep, Fast and Settled: questions about a slot, from the one last merged to the one seen, over the view; Fit, a question about a packet; and
 // Compare, one about two.
 // The memory is only read. Each takes any memory that a caller may lend: the verdict comes first.
+#![tactic(auto)]
+
 ghost use Rattle.std.specs.Prelude.{◌≡◌};
 ghost use Rattle.verdicts.specs.Lent.{lent};
 ghost use Rattle.answers.specs.Answers.{compared_of};

@@ -1,5 +1,7 @@
 // The rules of sound tables that look at numbers alone: settings, clock, places, and the marks, voters and slots of rows.
 // No function keeps an array: the largest call takes less than 1 KB of stack.
+#![tactic(auto)]
+
 ghost use Rattle.std.specs.Prelude.{◌&&◌, ◌≡◌, ◌*◌, ◌<◌, leb};
 ghost use Rattle.protocol.specs.Limits.{limits_of};
 ghost use Rattle.protocol.specs.Lists.{all_pass};

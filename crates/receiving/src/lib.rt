@@ -3,6 +3,8 @@
 // So storing costs one step for each entry of the packet, and coming into view one for each row; for blocks the rows are then indexed, a lookup
 // for each, and the parents of those in view looked up, a lookup for each.
 // Stack: 24 KiB of links for the blocks of a packet that comes into view, else less than 1 KB.
+#![tactic(auto)]
+
 ghost use Rattle.std.specs.Prelude.{true, ◌≡◌, ◌+◌, ◌*◌, ◌≤◌, length};
 ghost use Rattle.protocol.specs.Limits.{loom};
 ghost use Rattle.protocol.specs.Entry.{Block, Vote};

@@ -1,5 +1,7 @@
 // Tables of rows in lent words, six to a row of blocks and five to one of votes: rows are read and written as structs.
 // A search takes as many steps as rows are used. No function keeps an array: the largest call takes less than 1 KB of stack.
+#![tactic(auto)]
+
 ghost use Rattle.std.specs.Prelude.{◌||◌, ◌≡◌, ◌+◌};
 ghost use Rattle.protocol.specs.Words.{value};
 ghost use Rattle.protocol.specs.Lent.{BlocksFit, VotesFit, block_words, vote_words, rows_of, make_block, make_vote, block_row, vote_row};

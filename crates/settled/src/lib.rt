@@ -1,4 +1,6 @@
 // The settled block, over lent tables: the walk from block 0 by the weights without the silent voters, as far as these cannot turn it aside.
+#![tactic(auto)]
+
 ghost use Rattle.std.specs.Prelude.{false, ◌≡◌, ◌+◌, ◌^◌, ◌<◌, ◌≤◌, length};
 ghost use Rattle.protocol.specs.Limits.{loom};
 ghost use Rattle.protocol.specs.Words.{value, bit_of};

@@ -4,6 +4,8 @@
 // over the votes builds an index of them, by which no vote stands twice.
 // The whole test costs two lookups for each block and two for each vote. Honest entries meet a row or two in a lookup.
 // Stack: 24 KiB for the links of 2,048 blocks and 48 KiB for those of 8,192 votes.
+#![tactic(auto)]
+
 ghost use Rattle.std.specs.Prelude.{true, ◌&&◌, ◌≡◌, ◌≤◌};
 ghost use Rattle.protocol.specs.Limits.{loom};
 ghost use Rattle.protocol.specs.Words.{value, block_of};

@@ -1,6 +1,8 @@
 // A packet's new entries are added at the tables' ends, where they wait.
 // Which are new was found when the packet was tested: `firsts` is a set of rows, of a table and then the packet's entries, and an
 // entry is new if its row is in it. The cost is one step for each entry of the packet, and no function keeps an array.
+#![tactic(auto)]
+
 ghost use Rattle.std.specs.Prelude.{true, ◌≡◌, ◌+◌, ◌*◌, ◌≤◌, length};
 ghost use Rattle.protocol.specs.Entry.{Block, Vote};
 ghost use Rattle.protocol.specs.Store.{Marked, entries};

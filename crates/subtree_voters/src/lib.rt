@@ -1,4 +1,6 @@
 // The voters of each block and of all blocks above it, as words by rows; and the row of each block's parent.
+#![tactic(auto)]
+
 ghost use Rattle.std.specs.Prelude.{cond, ◌≡◌, ◌<◌, ◌≤◌, length, get_or, set, replicate};
 ghost use Rattle.std.specs.Int.Bits.{bit_or};
 ghost use Rattle.protocol.specs.Limits.{loom};

@@ -1,6 +1,8 @@
 // The verdict of each call: its tests in document 01's order, for any memory that a caller may lend. Nothing is changed here.
 // The first test, whether the memory is sound, takes two lookups in an index for each entry; Receive takes four more for each entry of the packet.
 // The other tests look through one table at most.
+#![tactic(auto)]
+
 ghost use Rattle.std.specs.Prelude.{◌||◌, [], ◌∷◌, ◌≡◌, ◌/◌, ◌<◌, eqb, ltb, replicate};
 ghost use Rattle.protocol.specs.Limits.{loom};
 ghost use Rattle.protocol.specs.Words.{value};

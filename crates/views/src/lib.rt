@@ -2,6 +2,8 @@
 // Which rows are the packet's own was found when it was tested: they are in a set of rows, or stand behind those that were there before it.
 // A parent is looked up in an index of the blocks, in links that the caller lends. A mark is in no key, so the index serves until a row is added.
 // No function keeps an array: the largest call takes less than 1 KB of stack.
+#![tactic(auto)]
+
 ghost use Rattle.std.specs.Prelude.{true, ◌≡◌, ◌*◌, ◌≤◌, eqb, length};
 ghost use Rattle.protocol.specs.Words.{value};
 ghost use Rattle.protocol.specs.Entry.{Block, Vote};

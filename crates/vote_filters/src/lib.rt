@@ -1,4 +1,6 @@
 // The filters of votes: which voters equivocate, and which vote of each voter is kept.
+#![tactic(auto)]
+
 ghost use Rattle.std.specs.Prelude.{◌||◌, ◌&&◌, cond, ◌≡◌, ◌+◌, ◌<◌, ◌≤◌, leb, ltb, length, set, replicate};
 ghost use Rattle.protocol.specs.Limits.{loom};
 ghost use Rattle.protocol.specs.Filters.{window};

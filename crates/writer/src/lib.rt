@@ -1,5 +1,7 @@
 // Packets written: the header, then each section into the unwritten rest of the lent buffer.
 // Each function takes time linear in the rows that it goes over and the bytes that it writes.
+#![tactic(auto)]
+
 ghost use Rattle.std.specs.Prelude.{◌≡◌, ◌+◌, ◌*◌, ◌≤◌, length, drop};
 ghost use Rattle.std.proofs.lemmas.List.Edits.{sets};
 ghost use Rattle.protocol.specs.Words.{value};

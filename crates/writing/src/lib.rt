@@ -1,5 +1,7 @@
 // Write: the node's gossip or its proposal, narrow or wide, as bytes in a lent buffer. The memory is only read.
 // It takes any memory that a caller may lend: the verdict comes first, and a refused Write leaves the buffer alone.
+#![tactic(auto)]
+
 ghost use Rattle.verdicts.specs.Lent.{lent};
 ghost use Rattle.answers.specs.Promises.{Writes};
 

@@ -22,7 +22,7 @@ use protocol::{Block, Number, Vote};
 // ---- looking a block up
 
 // The first block with a number.
-#[derive(Drop)]
+#[derive(Clone, Copy)]
 enum Lookup {
     Hit(Block),
     Missing,
@@ -87,7 +87,7 @@ fn block_allowed(slot: u64, b: Block, parent: Lookup, old: Lookup) -> bool
 }
 
 // What was found of an entry: whether it is allowed, and whether it is new.
-#[derive(Drop)]
+#[derive(Clone, Copy)]
 struct Checked {
     allowed: bool,
     new: bool,
@@ -139,7 +139,7 @@ fn admit_block(
 
 // What a pass over a section answers: the index of the first entry that is not allowed, or the number of entries; and how many are new of those
 // before it.
-#[derive(Drop)]
+#[derive(Clone, Copy)]
 pub struct Admitted {
     pub bad: usize,
     pub new: usize,

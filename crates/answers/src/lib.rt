@@ -6,7 +6,7 @@ use protocol::{Clock, Number};
 use verdicts::Refusal;
 
 // What a Receive that was carried out answers: how many entries were new, and whether the packet came into view.
-#[derive(Drop)]
+#[derive(Clone, Copy)]
 pub struct Received {
     pub new_blocks: u64,
     pub new_votes: u64,
@@ -15,7 +15,7 @@ pub struct Received {
 
 // The answer of a call that changes the memory. Open and Merge answer Done, Receive Received,
 // Propose the base as Block, Vote the head as Block.
-#[derive(Drop)]
+#[derive(Clone, Copy)]
 pub enum Answer {
     Done,
     Received(Received),
@@ -24,14 +24,14 @@ pub enum Answer {
 }
 
 // The same with the clock after the call.
-#[derive(Drop)]
+#[derive(Clone, Copy)]
 pub struct Moved {
     pub answer: Answer,
     pub clock: Clock,
 }
 
 // The calls that carry a beat. Propose is given the new block's number.
-#[derive(Drop)]
+#[derive(Clone, Copy)]
 pub enum Call {
     Receive,
     Propose(Number),
@@ -40,7 +40,7 @@ pub enum Call {
 }
 
 // The answer of Head, Deep, Fast and Settled. Fast alone answers Nothing: no block has the quorum.
-#[derive(Drop)]
+#[derive(Clone, Copy)]
 pub enum Found {
     Block(Number),
     Nothing,
@@ -48,14 +48,14 @@ pub enum Found {
 }
 
 // The answer of Write: how many bytes of the buffer the packet takes.
-#[derive(Drop)]
+#[derive(Clone, Copy)]
 pub enum Written {
     Bytes(u64),
     Refused(Refusal),
 }
 
 // What Fit answers of a packet: how many entries would be new, and how many bytes a wide gossip packet would have afterwards.
-#[derive(Drop)]
+#[derive(Clone, Copy)]
 pub struct Figures {
     pub new_blocks: u64,
     pub new_votes: u64,
@@ -63,14 +63,14 @@ pub struct Figures {
 }
 
 // The answer of Fit.
-#[derive(Drop)]
+#[derive(Clone, Copy)]
 pub enum Fitted {
     Figures(Figures),
     Refused(Refusal),
 }
 
 // The answer of Compare.
-#[derive(Drop)]
+#[derive(Clone, Copy)]
 pub enum Compared {
     // the lowest voter with two different votes of one slot in both packets together, or nobody
     Equivocation(Equivocation),

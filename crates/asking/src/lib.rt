@@ -18,7 +18,7 @@ use protocol::{Clock, Number, Profile, Settings};
 use verdicts::{Refusal, Verdict};
 
 // The programs that ask.
-#[derive(Drop)]
+#[derive(Clone, Copy)]
 pub enum Program {
     Chainask,
     Silentask,
@@ -27,7 +27,7 @@ pub enum Program {
 }
 
 // What the node is asked for: head, deep and fast block, the settled block with this set of silent nodes, or how many places the second packet would take.
-#[derive(Drop)]
+#[derive(Clone, Copy)]
 pub enum Question {
     Chain,
     Settled(u64),
@@ -35,7 +35,7 @@ pub enum Question {
 }
 
 // The three answers, the settled block, the figures or what Compare answers, or the first refusal of a call.
-#[derive(Drop)]
+#[derive(Clone, Copy)]
 pub enum Reply {
     Found {
         head: Number,

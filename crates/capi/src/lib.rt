@@ -18,7 +18,7 @@ const RACK: u64 = 2;
 
 // What a node is opened with.
 #[repr(C)]
-#[derive(Drop)]
+#[derive(Clone, Copy)]
 pub struct Settings {
     pub profile: u64,
     pub nodes: u64,
@@ -29,7 +29,7 @@ pub struct Settings {
 
 // What a node knows of time.
 #[repr(C)]
-#[derive(Drop)]
+#[derive(Clone, Copy)]
 pub struct Clock {
     pub seen: u64,
     pub done: u64,
@@ -39,7 +39,7 @@ pub struct Clock {
 
 // A block's number: lower + 2^64 * upper.
 #[repr(C)]
-#[derive(Drop)]
+#[derive(Clone, Copy)]
 pub struct Number {
     pub lower: u64,
     pub upper: u64,
@@ -47,7 +47,7 @@ pub struct Number {
 
 // The answer of a call that changes the memory, with the clock after the call. The index is that of the entry which Receive refused.
 #[repr(C)]
-#[derive(Drop)]
+#[derive(Clone, Copy)]
 pub struct Answer {
     pub refusal: u64,
     pub index: u64,
@@ -60,7 +60,7 @@ pub struct Answer {
 
 // The answer of Head, Deep, Fast and Settled.
 #[repr(C)]
-#[derive(Drop)]
+#[derive(Clone, Copy)]
 pub struct Found {
     pub refusal: u64,
     pub found: u64,
@@ -69,7 +69,7 @@ pub struct Found {
 
 // The answer of Fit. The index is that of the entry which Receive would refuse.
 #[repr(C)]
-#[derive(Drop)]
+#[derive(Clone, Copy)]
 pub struct Fitted {
     pub refusal: u64,
     pub index: u64,
@@ -80,7 +80,7 @@ pub struct Fitted {
 
 // The answer of Compare. If it is refused, the packet is 1 or 2, or 0 if neither was looked at; the index is that of the entry which Receive would refuse.
 #[repr(C)]
-#[derive(Drop)]
+#[derive(Clone, Copy)]
 pub struct Compared {
     pub refusal: u64,
     pub index: u64,
@@ -94,7 +94,7 @@ pub struct Compared {
 
 // The answer of Write.
 #[repr(C)]
-#[derive(Drop)]
+#[derive(Clone, Copy)]
 pub struct Written {
     pub refusal: u64,
     pub bytes: u64,

@@ -21,7 +21,7 @@ use answers::{Answer, Call, Found, Moved};
 use protocol::{Clock, Settings, Width};
 
 // What a node is lent beside the words of its tables.
-#[derive(Drop)]
+#[derive(Clone, Copy)]
 struct Held {
     settings: Settings,
     clock: Clock,

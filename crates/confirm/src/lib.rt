@@ -16,7 +16,7 @@ ghost use Rattle.confirm.specs.Top.{choice_in, top_choice};
 use protocol::{Number, Settings};
 
 // A block's number, or none.
-#[derive(Drop)]
+#[derive(Clone, Copy)]
 pub enum Choice {
     Chosen(Number),
     Nothing,

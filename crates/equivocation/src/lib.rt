@@ -16,7 +16,7 @@ ghost use Rattle.equivocation.specs.First.{equivocation_of, first_of, met_at};
 use protocol::{Number, Vote};
 
 // Two different votes of a voter in one slot: the first is for `block`, and the first that is not is for `other`.
-#[derive(Drop)]
+#[derive(Clone, Copy)]
 pub struct Equivocation {
     pub voter: u64,
     pub slot: u64,
@@ -25,7 +25,7 @@ pub struct Equivocation {
 }
 
 // The first of them, or that nobody has two different votes of one slot.
-#[derive(Drop)]
+#[derive(Clone, Copy)]
 pub enum FirstEquivocation {
     Found(Equivocation),
     Nobody,

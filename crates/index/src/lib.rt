@@ -37,7 +37,7 @@ const PACKET_ROOTS: usize = 16384;
 pub const PACKET_LINKS: usize = PACKET_ROOTS + 65535;
 
 // What an index goes by: four words, of which d is the upper half of a number.
-#[derive(Drop)]
+#[derive(Clone, Copy)]
 pub struct Key {
     pub a: u64,
     pub b: u64,
@@ -46,7 +46,7 @@ pub struct Key {
 }
 
 // What is indexed of a table, and by what.
-#[derive(Drop)]
+#[derive(Clone, Copy)]
 pub enum Kind {
     Blocks,
     Votes,
@@ -56,7 +56,7 @@ pub enum Kind {
 }
 
 // Which entries of a packet.
-#[derive(Drop)]
+#[derive(Clone, Copy)]
 pub enum Section {
     PacketBlocks,
     PacketVotes,
@@ -65,7 +65,7 @@ pub enum Section {
 }
 
 // How many words a row has, and where those of a key stand in it.
-#[derive(Drop)]
+#[derive(Clone, Copy)]
 struct Offsets {
     words: usize,
     a: usize,

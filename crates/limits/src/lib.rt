@@ -33,7 +33,7 @@ const RACK_VOTES: usize = 256;
 const RACK_BYTES: usize = 4096;
 
 // The largest number of nodes, and of places in each table.
-#[derive(Drop)]
+#[derive(Clone, Copy)]
 pub struct Limits {
     pub nodes: u64,
     pub blocks: u64,

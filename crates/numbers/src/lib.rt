@@ -52,7 +52,7 @@ pub fn zero() -> Number
 // ---- decimal digits
 
 // What is left of a number without its last decimal digit, and this digit.
-#[derive(Drop)]
+#[derive(Clone, Copy)]
 pub struct Tenth {
     pub rest: Number,
     pub digit: u64,

@@ -21,7 +21,7 @@ pub struct Reader<'a> {
 }
 
 // The front of a packet and its two counts.
-#[derive(Drop)]
+#[derive(Clone, Copy)]
 pub struct Header {
     pub kind: u64,
     pub slot: u64,

@@ -2,14 +2,14 @@
 #![tactic(auto)]
 
 // Which set of limits a node keeps to: a loom controller's or a rack controller's.
-#[derive(Drop)]
+#[derive(Clone, Copy)]
 pub enum Profile {
     Loom,
     Rack,
 }
 
 // What a node is opened with.
-#[derive(Drop)]
+#[derive(Clone, Copy)]
 pub struct Settings {
     pub profile: Profile,
     pub nodes: u64,
@@ -20,7 +20,7 @@ pub struct Settings {
 
 // What a node knows of time: the beat last seen, the last beat done, the slot last merged,
 // and the slot of the last proposal that was made or brought into view.
-#[derive(Drop)]
+#[derive(Clone, Copy)]
 pub struct Clock {
     pub seen: u64,
     pub done: u64,
@@ -29,20 +29,20 @@ pub struct Clock {
 }
 
 // A block's number: lower + 2^64 * upper.
-#[derive(Drop)]
+#[derive(Clone, Copy)]
 pub struct Number {
     pub lower: u64,
     pub upper: u64,
 }
 
 // How many bytes a block's number takes in a packet: 8 or 16.
-#[derive(Drop)]
+#[derive(Clone, Copy)]
 pub enum Width {
     Narrow,
     Wide,
 }
 
-#[derive(Drop)]
+#[derive(Clone, Copy)]
 pub struct Block {
     pub number: Number,
     pub parent: Number,
@@ -50,7 +50,7 @@ pub struct Block {
 }
 
 // A voter's vote of a slot for the block with this number.
-#[derive(Drop)]
+#[derive(Clone, Copy)]
 pub struct Vote {
     pub voter: u64,
     pub slot: u64,

@@ -11,14 +11,14 @@ ghost use Rattle.rows.specs.Find.{row_of};
 use protocol::{Block, Number, Vote};
 
 // A row of the table of blocks: a block, in view or waiting.
-#[derive(Drop)]
+#[derive(Clone, Copy)]
 pub struct BlockRow {
     pub block: Block,
     pub viewed: bool,
 }
 
 // A row of the table of votes.
-#[derive(Drop)]
+#[derive(Clone, Copy)]
 pub struct VoteRow {
     pub vote: Vote,
     pub viewed: bool,
@@ -116,7 +116,7 @@ pub fn put_vote(votes: &mut [u64], i: usize, row: VoteRow)
 }
 
 // Where the first block with a number stands.
-#[derive(Drop)]
+#[derive(Clone, Copy)]
 pub enum RowFound {
     At(usize),
     Missing,

@@ -35,7 +35,7 @@ pub const BLOCK_FIRSTS: usize = (limits::LOOM_BLOCKS + 65536) / 64;
 pub const VOTE_FIRSTS: usize = (limits::LOOM_VOTES + 65536) / 64;
 
 // Why a call is refused, by document 01's numbers; 9 and 20 with the index of the entry in its section, from 0.
-#[derive(Drop)]
+#[derive(Clone, Copy)]
 pub enum Refusal {
     // the settings are out of range, or a table's length
     NodesOutOfRange,
@@ -81,21 +81,21 @@ pub enum Refusal {
     SilentOutOfRange,
 }
 
-#[derive(Drop)]
+#[derive(Clone, Copy)]
 pub enum Verdict {
     Pass,
     Refuse(Refusal),
 }
 
 // How many of a packet's entries are new.
-#[derive(Drop)]
+#[derive(Clone, Copy)]
 pub struct NewCounts {
     pub blocks: usize,
     pub votes: usize,
 }
 
 // What a packet's tests come to, all but that of the places: how many entries are new, or a refusal.
-#[derive(Drop)]
+#[derive(Clone, Copy)]
 pub enum Counted {
     New(NewCounts),
     Refuse(Refusal),

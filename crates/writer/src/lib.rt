@@ -16,7 +16,7 @@ ghost use Rattle.writer.specs.Sent.{node_in, RowsReadable, wide_block, wide_vote
 use protocol::{Number, Width};
 
 // A row of a table: the words of an entry, and its mark. Of a vote, which has four, the fifth is not written.
-#[derive(Drop)]
+#[derive(Clone, Copy)]
 pub struct Row {
     pub first: u64,
     pub second: u64,
@@ -27,7 +27,7 @@ pub struct Row {
 }
 
 // How many bytes each word of an entry takes.
-#[derive(Drop)]
+#[derive(Clone, Copy)]
 pub struct Widths {
     pub first: usize,
     pub second: usize,

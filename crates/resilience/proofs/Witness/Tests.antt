@@ -375,28 +375,28 @@ added-old (c ∷ cs) bs b m = go (any_pass (same_block c) (add_new cs bs)) (adde
     go true n = n
     go false n = Memᴰ.tail n
 
-added_new : (cs bs : List Block) (b : Block) → Memᴰ b cs → Memᴰ b (add_new cs bs)
+added_new : (bs : List Block) (b : Block) {cs : List Block} → Memᴰ b cs → Memᴰ b (add_new cs bs)
 unfolding add_new
-added_new cs bs b (Memᴰ.head {x = c} {xs = rest} e) = go (any_pass (same_block c) (add_new rest bs)) refl
+added_new bs b (Memᴰ.head {x = c} {xs = rest} e) = go (any_pass (same_block c) (add_new rest bs)) refl
   where
     go : (t : Bool) → any_pass (same_block c) (add_new rest bs) ≡ t → Memᴰ b (cond t (add_new rest bs) (c ∷ add_new rest bs))
     go true h = let r = any-true (same_block c) (add_new rest bs) h in rw (e ∙ block_same c r.0 r.2) r.1
     go false h = Memᴰ.head e
-added_new cs bs b (Memᴰ.tail {x = c} {xs = rest} m) = go (any_pass (same_block c) (add_new rest bs)) (added_new rest bs b m)
+added_new bs b (Memᴰ.tail {x = c} {xs = rest} m) = go (any_pass (same_block c) (add_new rest bs)) (added_new bs b m)
   where
     go : (t : Bool) → Memᴰ b (add_new rest bs) → Memᴰ b (cond t (add_new rest bs) (c ∷ add_new rest bs))
     go true n = n
     go false n = Memᴰ.tail n
 
-event-gives : (log : List Event) (e : Event) (b : Block) → Memᴰ e log → Memᴰ b (blocks_of e) → Memᴰ b (blocks_given log)
+event-gives : (e : Event) (b : Block) {log : List Event} → Memᴰ e log → Memᴰ b (blocks_of e) → Memᴰ b (blocks_given log)
 unfolding blocks_given
-event-gives log e b (Memᴰ.head {x = f} {xs = rest} q) m = added_new (blocks_of f) (blocks_given rest) b (rw (sym q) m)
-event-gives log e b (Memᴰ.tail {x = f} {xs = rest} n) m = added-old (blocks_of f) (blocks_given rest) b (event-gives rest e b n m)
+event-gives e b (Memᴰ.head {x = f} {xs = rest} q) m = added_new (blocks_given rest) b (rw (sym q) m)
+event-gives e b (Memᴰ.tail {x = f} {xs = rest} n) m = added-old (blocks_of f) (blocks_given rest) b (event-gives e b n m)
 
 pub gives-in : (log : List Event) (b : Block) → Gives log b → Memᴰ b (blocks_given log)
-gives-in log b (by-packet beat i bytes m n) = event-gives log (given beat i bytes true) b m n
+gives-in log b (by-packet beat i bytes m n) = event-gives (given beat i bytes true) b m n
 gives-in log b (by-proposer beat i m s) =
-    event-gives log (built beat i b.number b.parent) b m (Memᴰ.head (λ o. record { number = b.number; parent = b.parent; slot = s o }))
+    event-gives (built beat i b.number b.parent) b m (Memᴰ.head (λ o. record { number = b.number; parent = b.parent; slot = s o }))
 
 unfoldable pub one_block_test : List Event → Bool
 one_block_test log =

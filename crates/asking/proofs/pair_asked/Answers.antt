@@ -1,0 +1,8 @@
+-- `asking::pair_asked` meets its contract. Assumes nothing.
+use borrow.Author.Rules.{rules}
+use Rattle.asking.specs.Ask.{pair_with}
+use Rattle.asking.proofs.pair_asked.Goals as goal
+
+pub returns : goal.returns
+unfolding pair_with
+returns c = c.asked_two.ensures

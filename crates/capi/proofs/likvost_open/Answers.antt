@@ -1,0 +1,8 @@
+-- `capi::likvost_open` meets its contract: Open. Assumes nothing.
+use borrow.Author.Rules.{rules}
+use Rattle.capi.proofs.Changes.{opens}
+use Rattle.capi.proofs.likvost_open.Goals as goal
+
+pub returns : goal.returns
+returns c =
+    opens _ _ _ _ c.node_settings.ensures c.node_clock.ensures c.«open».ensures c.exported_clock.ensures c.answer_struct.ensures

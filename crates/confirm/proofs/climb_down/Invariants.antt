@@ -1,0 +1,14 @@
+-- The loop of `climb_down`: its invariant and its measure. Assumes nothing.
+use native.Mathlib.Omega.{arith}
+use mathlib.Core.Bool.{false}
+use mathlib.Core.Path.{refl, ◌∙◌}
+use Rattle.subtree_voters.specs.BlockRows.{block_at}
+use Rattle.fork_choice.proofs.Held.{held}
+use Rattle.confirm.proofs.Descent.{Down, down-end, down-on}
+use Rattle.confirm.proofs.climb_down.Given as goal
+
+abbrev pub invariant-loop-row : goal.invariant-loop-row
+invariant-loop-row l = Down l.blocks l.used l.m (block_at l.blocks l.from).number l.i
+
+abbrev pub decreases-loop-row : goal.decreases-loop-row
+decreases-loop-row l = l.i

@@ -1,0 +1,7 @@
+-- `base` meets its contract. Assumes nothing.
+use borrow.Author.Rules.{rules}
+use Rattle.fork_choice.proofs.Tables.{base-number}
+use Rattle.fork_choice.proofs.base.Goals as goal
+
+pub returns : goal.returns
+returns c = base-number _ _ _ _ _ _ _ c.heaviest.ensures

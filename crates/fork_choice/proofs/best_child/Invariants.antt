@@ -1,0 +1,14 @@
+-- The loop of `best_child`: its invariant and its measure. Assumes nothing.
+use native.Mathlib.Omega.{arith}
+use mathlib.Core.Path.{ap}
+use borrow.Author.Rules.{rules}
+use Rattle.protocol.specs.Words.{value}
+use Rattle.fork_choice.proofs.Held.{held}
+use Rattle.fork_choice.proofs.Scan.{Scan, left, scan-start, scan-turn, scan-less, scan-end}
+use Rattle.fork_choice.proofs.best_child.Given as goal
+
+abbrev pub invariant-loop-c : goal.invariant-loop-c
+invariant-loop-c l = Scan l.whole l.blocks l.used l.weights l.lim l.a (value l.parent.block.number) l.c l.best
+
+abbrev pub decreases-loop-c : goal.decreases-loop-c
+decreases-loop-c l = left l.used l.c

@@ -1,0 +1,16 @@
+-- The loop of `count_voters`: its invariant and its measure. Assumes nothing.
+use borrow.Author.Rules.{rules}
+use native.Mathlib.Omega.{arith}
+use Prim.Native.Nat.{◌-◌, ◌≤◌}
+use mathlib.Core.Path.{◌≡◌, refl, ◌∙◌}
+use lib.ListN.{length, length-set}
+use Rattle.fork_choice.specs.Weights.{Counted}
+use Rattle.subtree_voters.proofs.Filled.{filled_none, filled_more}
+use Rattle.fork_choice.proofs.Weights.{count-mask}
+use Rattle.fork_choice.proofs.count_voters.Given as goal
+
+abbrev pub invariant-loop-i : goal.invariant-loop-i
+invariant-loop-i l = (l.i ≤ l.used) × (length l.weights ≡ length l.initial.weights) × Counted l.silent l.masks l.i l.weights
+
+abbrev pub decreases-loop-i : goal.decreases-loop-i
+decreases-loop-i l = l.used - l.i

@@ -1,0 +1,27 @@
+-- `add` meets its contract. Assumes nothing.
+use borrow.Author.Rules.{rules}
+use native.Mathlib.Omega.{arith}
+use Prim.Native.Nat.{◌+◌}
+use mathlib.Core.Path.{◌≡◌, refl}
+use Rattle.search_tree.specs.Tree.{Descent}
+use Rattle.search_tree.proofs.Descent.{descent-root, descent-none}
+use Rattle.index.specs.Keys.{mix_of, table_shape}
+use Rattle.index.specs.Index.{key_at}
+use Rattle.index.proofs.Keys.{readable-less}
+use Rattle.index.proofs.Added.{added-put, added-points, added-index}
+use Rattle.index.proofs.add.Goals as goal
+
+pub link_at-link-requires : goal.link_at-link-requires
+link_at-link-requires c = omega (arith, c.root-at.ensures.1, c.requires.2.room)
+
+pub returns-then-link-eq0 : goal.returns-then-link-eq0
+returns-then-link-eq0 c =
+    let s = ((c)) in
+    let x = added-put (descent-none s.pre.2 ((descent-root c.pre.2 c.key_at-key.result tt _ c.link_at-link.ensures c.root-at.ensures.0 refl (omega (arith, c.root-at.ensures.1)))) c.if-link-eq0.true) ((c.key_at-key.ensures)) refl c.put_link.ensures in
+    (added-points x, added-index x s.pre.1.1 s.pre.2)
+
+pub add_below-requires : goal.add_below-requires
+add_below-requires c =
+    let s = ((c)) in
+    let a = s.args in
+    (readable-less a.kind a.words.now (a.n + 1) a.n (omega arith) s.pre.0, s.pre.1, s.pre.2, (descent-root c.pre.2 c.key_at-key.result tt _ c.link_at-link.ensures c.root-at.ensures.0 refl (omega (arith, c.root-at.ensures.1))), (c.key_at-key.ensures))

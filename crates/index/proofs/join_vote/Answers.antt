@@ -1,0 +1,40 @@
+-- `join_vote` meets its contract. Assumes nothing.
+use borrow.Author.Rules.{rules}
+use native.Mathlib.Omega.{arith}
+use Prim.Native.Nat.{◌+◌, ◌-◌}
+use mathlib.Core.Path.{◌≡◌, ap, sym, ◌∙◌}
+use Rattle.search_tree.proofs.Tree.{index-for, index-unwanted}
+use Rattle.index.specs.declared.Section.TheVariants.{PacketVotes}
+use Rattle.index.specs.Keys.{vote_key}
+use Rattle.index.specs.Index.{entry_key}
+use Rattle.index.specs.Links.{vote_keys}
+use Rattle.index.proofs.Added.{added-index, added-points}
+use Rattle.index.proofs.Firsts.{linked-within}
+use Rattle.index.proofs.Joined.{vote-past, vote-early, vote-late}
+use Rattle.index.proofs.join_vote.Goals as goal
+
+pub find-link-requires : goal.find-link-requires
+find-link-requires c = (c.requires.0, c.requires.3.table)
+
+pub returns-then-link-ne0 : goal.returns-then-link-ne0
+returns-then-link-ne0 c =
+    let a = c.args in
+    let g = c.find-link.ensures.hit (c.find-link.result - 1) (omega (arith, c.if-link-ne0.true)) in (
+      vote-early a.votes.now a.used a.bytes.now a.i ((let a = c.args in (c.vote_key-key.ensures ∙ ap vote_key c.requires.4) ∙ vote-past a.votes.now a.used a.bytes.now a.i)) c.find-link.ensures c.if-link-ne0.true,
+      record { table = c.pre.3.table; packet = index-unwanted c.pre.3.packet c.pre.2.1 (λ w. w _ g.is_row (g.has ∙ (c.vote_key-key.ensures ∙ ap vote_key c.requires.4))) },
+    )
+
+pub add_entry-later-requires : goal.add_entry-later-requires
+add_entry-later-requires c =
+    (omega (arith, c.pre.1), c.pre.2, index-for c.pre.3.packet _ (c.find-link.ensures.none c.if-link-ne0.false), (c.vote_key-key.ensures ∙ ap vote_key c.requires.4))
+
+pub behind-requires : goal.behind-requires
+behind-requires c =
+    omega (arith, linked-within _ (added-points c.add_entry-later.ensures), c.pre.0, c.pre.2.0)
+
+pub returns : goal.returns
+returns c =
+    let a = c.args in (
+      vote-late a.votes.now a.used a.bytes.now a.i ((let a = c.args in (c.vote_key-key.ensures ∙ ap vote_key c.requires.4) ∙ vote-past a.votes.now a.used a.bytes.now a.i)) ((c.vote_key-key.ensures ∙ ap vote_key c.requires.4)) c.find-link.ensures c.if-link-ne0.false (added-points c.add_entry-later.ensures) c.behind.ensures,
+      record { table = c.pre.3.table; packet = added-index c.add_entry-later.ensures c.pre.2.1 c.pre.3.packet },
+    )

@@ -1,0 +1,13 @@
+-- `too_long_lem` meets its contract. Assumes nothing.
+use borrow.Author.Rules.{rules}
+use mathlib.Core.Path.{refl}
+use Rattle.protocol.specs.Limits.{limits_of}
+use Rattle.limits.proofs.too_long.Goals as goal
+
+pub returns-in-Loom : goal.returns-in-Loom
+unfolding limits_of
+returns-in-Loom c = rw c.in-Loom.is refl
+
+pub returns-in-Rack : goal.returns-in-Rack
+unfolding limits_of
+returns-in-Rack c = rw c.in-Rack.is refl

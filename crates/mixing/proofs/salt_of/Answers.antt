@@ -1,0 +1,6 @@
+-- `salt_of` meets its contract. Assumes nothing.
+use Rattle.std.proofs.Common.{◌-◌, ◌*◌, ◌≤◌, length, arith, rules}
+use Rattle.mixing.proofs.salt_of.Goals as goal
+
+pub loop-i-preserved : goal.loop-i-preserved
+loop-i-preserved c = c.loop-i.invariant

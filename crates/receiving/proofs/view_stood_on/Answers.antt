@@ -1,0 +1,31 @@
+-- `view_stood_on` meets its contract. Assumes nothing.
+use borrow.Author.Rules.{rules}
+use native.Mathlib.Omega.{arith}
+use Prim.Native.Nat.{ℕ}
+use mathlib.Core.Path.{◌≡◌}
+use lib.ListN.{length-replicate}
+use Rattle.protocol.specs.Store.{view}
+use Rattle.protocol.specs.Packet.{packet_of}
+use Rattle.protocol.specs.Lent.{rows_of, stored, make_block, block_row}
+use Rattle.index.specs.Firsts.{named}
+use Rattle.search_tree.proofs.Tree.{blank-new}
+use Rattle.receiving.proofs.Carrying.{ordered-named, marks-named, stood-viewed}
+use Rattle.receiving.proofs.view_stood_on.Goals as goal
+
+pub build_blocks-requires : goal.build_blocks-requires
+build_blocks-requires c =
+    let l = length-replicate {A = ℕ} 12288 0 in
+    (omega (arith, c.view_named_blocks.auto.0, c.pre.0), (omega (arith, c.pre.5), omega (arith, l)), blank-new 12288)
+
+pub view_ancestors-requires : goal.view_ancestors-requires
+view_ancestors-requires c =
+    (
+      omega (arith, c.view_named_blocks.auto.0, c.pre.0),
+      marks-named _ _ _ c.pre.2 ((c.view_named_blocks.ensures (named (packet_of c.args.bytes.now)) c.pre.6)),
+      ordered-named _ _ _ c.pre.2 ((c.view_named_blocks.ensures (named (packet_of c.args.bytes.now)) c.pre.6)),
+      c.build_blocks.ensures.1,
+    )
+
+pub returns : goal.returns
+returns c =
+    stood-viewed _ _ _ c.requires.2 ((c.view_named_blocks.ensures (named (packet_of c.args.bytes.now)) c.pre.6)) c.view_ancestors.ensures

@@ -1,0 +1,16 @@
+-- The loop of `has_rival`: its invariant and its measure. Assumes nothing.
+use borrow.Author.Rules.{rules}
+use native.Mathlib.Omega.{arith}
+use mathlib.Core.Bool.{false}
+use mathlib.Core.Path.{ap, sym, ◌∙◌}
+use Rattle.protocol.specs.Words.{value}
+use Rattle.fork_choice.proofs.Held.{held}
+use Rattle.fork_choice.proofs.Scan.{left}
+use Rattle.settled.proofs.Rivals.{Search, rival-found, rivals-none, search-less, search-start, search-turn, search-end}
+use Rattle.settled.proofs.has_rival.Given as goal
+
+abbrev pub invariant-loop-d : goal.invariant-loop-d
+invariant-loop-d l = Search l.blocks l.used l.weights l.k l.t l.a (value l.parent.block.number) l.c l.d
+
+abbrev pub decreases-loop-d : goal.decreases-loop-d
+decreases-loop-d l = left l.used l.d

@@ -1,0 +1,25 @@
+-- `all_voted_sound` meets its contract. Assumes nothing.
+use borrow.Author.Rules.{rules}
+use native.Mathlib.Omega.{arith}
+use borrow.Author.Tests.{not-true, not-false}
+use Prim.Native.Nat.{◌-◌}
+use mathlib.Core.Path.{◌≡◌, refl, sym, ◌∙◌}
+use lib.ListN.{drop}
+use Rattle.protocol.specs.Lists.{all_pass}
+use Rattle.protocol.specs.Lent.{rows_of, make_block, make_vote}
+use Rattle.rows.proofs.Rows.{all_pass_lem, all-fail, all_end}
+use Rattle.soundness.specs.Parts.{voted_sound}
+use Rattle.soundness.proofs.all_voted_sound.Goals as goal
+
+pub returns-then-not-voted_sound : goal.returns-then-not-voted_sound
+returns-then-not-voted_sound c =
+    sym (c.loop-i.invariant
+    ∙ all-fail make_vote (voted_sound _) _ _ _ c.loop-i-test.true c.vote_at-row.ensures (sym c.voted_sound.ensures ∙ not-true _ c.if-not-voted_sound.true))
+
+pub loop-i-preserved : goal.loop-i-preserved
+loop-i-preserved c =
+    c.loop-i.invariant
+    ∙ all_pass_lem make_vote (voted_sound _) _ _ _ c.loop-i-test.true c.vote_at-row.ensures (sym c.voted_sound.ensures ∙ not-false _ c.if-not-voted_sound.false)
+
+pub returns : goal.returns
+returns c = sym (c.loop-i.invariant ∙ all_end make_vote (voted_sound _) _ _ _ c.loop-i-test.false)

@@ -1,0 +1,20 @@
+-- The loop of `all_voted_sound`: its invariant and its measure. Assumes nothing.
+use borrow.Author.Rules.{rules}
+use native.Mathlib.Omega.{arith}
+use borrow.Author.Tests.{not-true, not-false}
+use Prim.Native.Nat.{◌-◌}
+use mathlib.Core.Path.{◌≡◌, refl, sym, ◌∙◌}
+use lib.ListN.{drop}
+use Rattle.protocol.specs.Lists.{all_pass}
+use Rattle.protocol.specs.Lent.{rows_of, make_block, make_vote}
+use Rattle.rows.proofs.Rows.{all_pass_lem, all-fail, all_end}
+use Rattle.soundness.specs.Parts.{voted_sound}
+use Rattle.soundness.proofs.all_voted_sound.Given as goal
+
+abbrev pub invariant-loop-i : goal.invariant-loop-i
+invariant-loop-i l =
+    all_pass (voted_sound (rows_of make_block l.blocks l.blocks_used)) (rows_of make_vote l.votes l.votes_used)
+    ≡ all_pass (voted_sound (rows_of make_block l.blocks l.blocks_used)) (drop l.i (rows_of make_vote l.votes l.votes_used))
+
+abbrev pub decreases-loop-i : goal.decreases-loop-i
+decreases-loop-i l = l.votes_used - l.i

@@ -1,0 +1,68 @@
+-- `add_blocks` meets its contract. Assumes nothing.
+use borrow.Author.Rules.{rules}
+use borrow.Author.Tests.{not-true, not-false}
+use native.Mathlib.Omega.{arith}
+use Prim.Native.Nat.{◌-◌, ◌≤◌, ◌<◌}
+use mathlib.Core.Bool.{not}
+use mathlib.Core.Logic.{⊎_elim}
+use mathlib.Core.Path.{◌≡◌, refl, ap, sym, ◌∙◌}
+use lib.ListN.{length, get_or, take}
+use Rattle.protocol.specs.Entry.{Block}
+use Rattle.protocol.specs.Chain.{genesis}
+use Rattle.protocol.specs.Store.{Marked, entries}
+use Rattle.protocol.specs.Packet.{packet_of}
+use Rattle.protocol.specs.Lent.{rows_of, make_block, block_row}
+use Rattle.protocol.specs.Calls.Receive.{add_blocks}
+use Rattle.protocol.proofs.Lent.Rows.{block-codec}
+use Rattle.protocol.proofs.Store.New.{knows_block, adding-blocks}
+use Rattle.protocol.proofs.Packet.Numbers.{bytes-by-index}
+use Rattle.packets.proofs.Form.{counts-below}
+use Rattle.packets.proofs.Headers.{header-blocks}
+use Rattle.storing.specs.Grown.{Holds}
+use Rattle.storing.proofs.Turns.{after, room-now, add_begin, add-marks, add-end, turn-old, turn-room, turn-new}
+use Rattle.storing.proofs.add_blocks.Goals as goal
+
+pub loop-i-init : goal.loop-i-init
+loop-i-init c =
+    (
+      omega arith,
+      header-blocks _ c.header_of-h.ensures,
+      refl,
+      add_begin knows_block add_blocks adding-blocks block-codec _ _ (packet_of c.args.bytes.now).blocks c.requires.0 c.requires.1,
+    )
+
+-- the number of the row fits a word: the rows are in the table, and a packet has fewer than 65,536 blocks
+pub overflow_add-n : goal.overflow_add-n
+overflow_add-n c =
+    let bs = c.args.bytes.now in
+    let m = counts-below bs c.header_of-h.result c.header_of-h.ensures (bytes-by-index bs (λ j _. omega (arith, c.type_inv.bytes j))) in
+    omega (arith, m.0, c.loop-i-test.true, room-now knows_block add_blocks adding-blocks block-codec _ _ (packet_of bs).blocks c.pre.0)
+
+pub has-requires : goal.has-requires
+has-requires c = omega (arith, (omega (arith, c.loop-i.invariant.1, c.loop-i-test.true)), c.pre.2)
+
+pub append_block-requires : goal.append_block-requires
+append_block-requires c =
+    (
+      turn-room knows_block add_blocks adding-blocks block-codec _ _ (packet_of c.args.bytes.now).blocks c.loop-i.i c.loop-i.invariant.3 genesis
+          ((omega (arith, c.loop-i.invariant.1, c.loop-i-test.true))) (not-true _ ((sym (c.has.ensures ∙ c.pre.3 c.loop-i.i ((omega (arith, c.loop-i.invariant.1, c.loop-i-test.true))))) ∙ c.if-has.true)) c.pre.0 c.loop-i.invariant.2,
+      add-marks knows_block add_blocks adding-blocks block-codec _ _ (packet_of c.args.bytes.now).blocks c.loop-i.i c.loop-i.invariant.3,
+    )
+
+pub loop-i-preserved : goal.loop-i-preserved
+loop-i-preserved c =
+    (
+      omega arith,
+      c.loop-i.invariant.1,
+      ⊎_elim (λ w. ap length w.7 ∙ w.4.kept.0 ∙ c.loop-i.invariant.2) (λ w. ap length w.1 ∙ c.loop-i.invariant.2) c.if-has.branch,
+      ⊎_elim
+          (λ w. turn-new knows_block add_blocks adding-blocks block-codec _ _ (packet_of c.args.bytes.now).blocks c.loop-i.i c.loop-i.invariant.3 genesis
+          ((omega (arith, c.loop-i.invariant.1, c.loop-i-test.true))) (not-true _ ((sym (c.has.ensures ∙ c.pre.3 c.loop-i.i ((omega (arith, c.loop-i.invariant.1, c.loop-i-test.true))))) ∙ w.0.taken)) w.1.ensures (w.7 ∙ w.4.ensures.0) (w.8 ∙ w.4.ensures.1))
+          (λ w. rw (w.1, w.2) (turn-old knows_block add_blocks adding-blocks block-codec _ _ (packet_of c.args.bytes.now).blocks c.loop-i.i c.loop-i.invariant.3 genesis
+          ((omega (arith, c.loop-i.invariant.1, c.loop-i-test.true))) (not-false _ ((sym (c.has.ensures ∙ c.pre.3 c.loop-i.i ((omega (arith, c.loop-i.invariant.1, c.loop-i-test.true))))) ∙ w.0.left)))) c.if-has.branch,
+    )
+
+pub returns : goal.returns
+returns c =
+    add-end knows_block add_blocks adding-blocks block-codec _ _ (packet_of c.args.bytes.now).blocks c.loop-i.i c.loop-i.invariant.3
+    (omega (arith, c.loop-i.invariant.1, c.loop-i-test.false))

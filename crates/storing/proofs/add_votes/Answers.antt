@@ -1,0 +1,73 @@
+-- `add_votes` meets its contract. Assumes nothing.
+use borrow.Author.Rules.{rules}
+use native.Mathlib.Omega.{arith}
+use Prim.Native.Nat.{◌-◌, ◌≤◌, ◌<◌}
+use mathlib.Core.Bool.{not}
+use mathlib.Core.Logic.{⊎_elim}
+use mathlib.Core.Path.{◌≡◌, refl, ap, sym, ◌∙◌}
+use lib.ListN.{length, get_or, take}
+use Rattle.protocol.specs.Entry.{Vote}
+use Rattle.protocol.specs.Store.{Marked, entries}
+use Rattle.protocol.specs.Packet.{packet_of}
+use Rattle.protocol.specs.Lent.{rows_of, make_vote, vote_row}
+use Rattle.protocol.specs.Calls.Receive.{add_votes}
+use Rattle.protocol.proofs.Lent.Rows.{vote-codec}
+use Rattle.protocol.proofs.Store.New.{knows_vote}
+use Rattle.protocol.proofs.Store.Since.{adding-since}
+use Rattle.protocol.proofs.Packet.Numbers.{bytes-by-index}
+use Rattle.packets.specs.Header.{no_vote}
+use Rattle.packets.proofs.Form.{counts-below}
+use Rattle.packets.proofs.Headers.{header-votes}
+use Rattle.storing.specs.Grown.{Holds}
+use Rattle.storing.proofs.Turns.{after, room-now, add_begin, add-marks, add-end, turn-old, turn-room, turn-new}
+use Rattle.storing.proofs.Since.{since-old, since-new, since-known}
+use Rattle.storing.proofs.add_votes.Goals as goal
+
+pub loop-i-init : goal.loop-i-init
+loop-i-init c =
+    (
+      omega arith,
+      header-votes _ c.header_of-h.ensures,
+      refl,
+      add_begin _ _ (adding-since c.args.from) vote-codec _ _ (packet_of c.args.bytes.now).votes c.requires.0 c.requires.1,
+    )
+
+-- the number of the row fits a word: the rows are in the table, and a packet has fewer than 65,536 votes
+pub overflow_add-n : goal.overflow_add-n
+overflow_add-n c =
+    let bs = c.args.bytes.now in
+    let m = counts-below bs c.header_of-h.result c.header_of-h.ensures (bytes-by-index bs (λ j _. omega (arith, c.type_inv.bytes j))) in
+    omega (arith, m.1, c.loop-i-test.true, room-now _ _ (adding-since c.args.from) vote-codec _ _ (packet_of bs).votes c.pre.0)
+
+pub has-requires : goal.has-requires
+has-requires c = omega (arith, (omega (arith, c.loop-i.invariant.1, c.loop-i-test.true)), c.pre.2)
+
+pub append_vote-requires : goal.append_vote-requires
+append_vote-requires c =
+    (
+      turn-room _ _ (adding-since c.args.from) vote-codec _ _ (packet_of c.args.bytes.now).votes c.loop-i.i c.loop-i.invariant.3 no_vote
+          ((omega (arith, c.loop-i.invariant.1, c.loop-i-test.true))) (since-new c.args.from _ _ c.vote_at-vote.ensures c.if-vote-from.true ((sym (c.has.ensures ∙ c.pre.3 c.loop-i.i ((omega (arith, c.loop-i.invariant.1, c.loop-i-test.true))))) ∙ c.if-has.true)) c.pre.0 c.loop-i.invariant.2,
+      add-marks _ _ (adding-since c.args.from) vote-codec _ _ (packet_of c.args.bytes.now).votes c.loop-i.i c.loop-i.invariant.3,
+    )
+
+pub loop-i-preserved : goal.loop-i-preserved
+loop-i-preserved c =
+    (
+      omega arith,
+      c.loop-i.invariant.1,
+      ⊎_elim (λ w. ap length w.9 ∙ w.6.kept.0 ∙ c.loop-i.invariant.2)
+          (⊎_elim (λ w. ap length w.4 ∙ c.loop-i.invariant.2) (λ w. ap length w.1 ∙ c.loop-i.invariant.2)) c.if-has.branch,
+      ⊎_elim
+          (λ w. turn-new _ _ (adding-since c.args.from) vote-codec _ _ (packet_of c.args.bytes.now).votes c.loop-i.i c.loop-i.invariant.3 no_vote
+          ((omega (arith, c.loop-i.invariant.1, c.loop-i-test.true))) (since-new c.args.from _ _ w.1.ensures w.3.taken ((sym (c.has.ensures ∙ c.pre.3 c.loop-i.i ((omega (arith, c.loop-i.invariant.1, c.loop-i-test.true))))) ∙ w.0.taken)) w.1.ensures (w.9 ∙ w.6.ensures.0) (w.10 ∙ w.6.ensures.1))
+          (⊎_elim
+          (λ w. rw (w.4, w.5) (turn-old _ _ (adding-since c.args.from) vote-codec _ _ (packet_of c.args.bytes.now).votes c.loop-i.i c.loop-i.invariant.3 no_vote
+          ((omega (arith, c.loop-i.invariant.1, c.loop-i-test.true))) (since-old c.args.from _ _ w.1.ensures w.3.left)))
+          (λ w. rw (w.1, w.2) (turn-old _ _ (adding-since c.args.from) vote-codec _ _ (packet_of c.args.bytes.now).votes c.loop-i.i c.loop-i.invariant.3 no_vote
+          ((omega (arith, c.loop-i.invariant.1, c.loop-i-test.true))) (since-known c.args.from _ _ _ ((sym (c.has.ensures ∙ c.pre.3 c.loop-i.i ((omega (arith, c.loop-i.invariant.1, c.loop-i-test.true))))) ∙ w.0.left))))) c.if-has.branch,
+    )
+
+pub returns : goal.returns
+returns c =
+    add-end _ _ (adding-since c.args.from) vote-codec _ _ (packet_of c.args.bytes.now).votes c.loop-i.i c.loop-i.invariant.3
+    (omega (arith, c.loop-i.invariant.1, c.loop-i-test.false))

@@ -1,0 +1,14 @@
+-- `sound_verdict` meets its contract. Assumes nothing.
+use borrow.Author.Rules.{rules}
+use borrow.Author.Tests.{not-true, not-false}
+use mathlib.Core.Path.{sym}
+use Rattle.protocol.specs.Refusal.{first}
+use Rattle.verdicts.proofs.Sequence.{unsound-refuse, sound-pass}
+use Rattle.verdicts.proofs.sound_verdict.Goals as goal
+
+pub returns-then-not-lent_sound : goal.returns-then-not-lent_sound
+returns-then-not-lent_sound c = unsound-refuse _ _ _ c.lent_sound.ensures (not-true _ c.if-not-lent_sound.true)
+
+pub returns : goal.returns
+unfolding first
+returns c = sym (sound-pass _ _ _ c.lent_sound.ensures (not-false _ c.if-not-lent_sound.false))

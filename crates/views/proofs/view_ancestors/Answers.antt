@@ -1,0 +1,36 @@
+-- `view_ancestors` meets its contract. Assumes nothing.
+use borrow.Author.Rules.{rules}
+use native.Mathlib.Omega.{arith}
+use Prim.Native.Nat.{◌≤◌}
+use mathlib.Core.Path.{◌≡◌, refl, ◌∙◌}
+use lib.ListN.{length}
+use Rattle.views.proofs.Indexed.{blocks-indexed}
+use Rattle.views.proofs.Pass.{Pass, pass-begin, pass-waits, pass-shows, pass-end}
+use Rattle.views.proofs.view_ancestors.Goals as goal
+
+pub loop-i-init : goal.loop-i-init
+loop-i-init c = (omega arith, refl, pass-begin _ _ c.requires.0 c.requires.1 c.requires.2)
+
+pub view_block-requires : goal.view_block-requires
+view_block-requires c =
+    let l = c.loop-i in
+    (omega arith, l.invariant.2.marks, l.invariant.2.ordered, blocks-indexed _ _ _ l.invariant.2.entered c.requires.3)
+
+pub loop-i-preserved-then-row : goal.loop-i-preserved-then-row
+loop-i-preserved-then-row c =
+    (
+      omega arith,
+      c.view_block.auto.0 ∙ c.loop-i.invariant.1,
+      pass-shows _ _ _ c.loop-i.i _ c.loop-i.invariant.2 (omega arith) (omega arith) c.block_at-row.ensures c.if-row.true (omega arith) c.view_block.ensures,
+    )
+
+pub loop-i-preserved : goal.loop-i-preserved
+loop-i-preserved c =
+    (
+      omega arith,
+      c.loop-i.invariant.1,
+      pass-waits _ _ _ c.loop-i.i _ c.loop-i.invariant.2 (omega arith) (omega arith) c.block_at-row.ensures c.if-row.false,
+    )
+
+pub returns : goal.returns
+returns c = pass-end _ _ _ c.loop-i.i (omega arith) c.loop-i.invariant.2

@@ -1,0 +1,17 @@
+-- The loop of `view_named_blocks`: its invariant and its measure. Assumes nothing.
+use borrow.Author.Rules.{rules}
+use native.Mathlib.Omega.{arith}
+use Prim.Native.Nat.{◌-◌, ◌≤◌}
+use mathlib.Core.Logic.{⊎_elim}
+use mathlib.Core.Path.{◌≡◌, refl, sym, ap, ◌∙◌}
+use lib.ListN.{length}
+use Rattle.protocol.proofs.Lent.Rows.{block-codec}
+use Rattle.views.specs.Named.{named_at}
+use Rattle.views.proofs.Named.{NamedTo, named-begin, named-turn, named-skip, named_end}
+use Rattle.views.proofs.view_named_blocks.Given as goal
+
+abbrev pub invariant-loop-j : goal.invariant-loop-j
+invariant-loop-j l = (l.j ≤ l.used) × (length l.blocks ≡ length l.initial.blocks) × NamedTo block-codec l.initial.blocks l.used (named_at l.before l.firsts) l.j l.blocks
+
+abbrev pub decreases-loop-j : goal.decreases-loop-j
+decreases-loop-j l = l.used - l.j

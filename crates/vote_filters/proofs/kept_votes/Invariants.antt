@@ -1,0 +1,17 @@
+-- The loop of `kept_votes`: its invariant and its measure. Assumes nothing.
+use borrow.Author.Rules.{rules}
+use native.Mathlib.Omega.{arith}
+use Prim.Native.Nat.{ℕ, ◌-◌, ◌≤◌}
+use mathlib.Core.Path.{◌≡◌, ap, sym, ◌∙◌}
+use lib.ListN.{length, length-replicate}
+use Rattle.protocol.specs.Limits.{loom}
+use Rattle.vote_filters.specs.Latest.{votes_of}
+use Rattle.vote_filters.proofs.Kept.{Dropped, dropped-none, dropped-more, dropped-all}
+use Rattle.vote_filters.proofs.Latest.{latest-zero}
+use Rattle.vote_filters.proofs.kept_votes.Given as goal
+
+abbrev pub invariant-loop-v : goal.invariant-loop-v
+invariant-loop-v l = (l.v ≤ loom.nodes) × (length l.slots ≡ loom.nodes) × Dropped (votes_of l.whole l.votes l.used) l.expiry l.t l.dropped l.v l.slots l.numbers
+
+abbrev pub decreases-loop-v : goal.decreases-loop-v
+decreases-loop-v l = 64 - l.v

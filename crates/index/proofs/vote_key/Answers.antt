@@ -8,7 +8,7 @@ use Rattle.index.proofs.vote_key.Goals as goal
 pub returns : goal.returns
 returns c =
     let v = c.args.vote in
-    let h : v.number.lower < 2 ^ 64 = omega (arith, c.well-formed) in
+    let h : v.number.lower < 2 ^ 64 = omega (arith, c.well_formed) in
     let l = sym (lower-join v.number.lower v.number.upper h) in
     let u = sym (upper-join v.number.lower v.number.upper h) in
     λ i. record { a = l i; b = v.slot; c = v.voter; d = u i }

@@ -16,7 +16,7 @@ unfolding kept_in
 returns c =
     let a = c.args in
     let n = a.n in
-    let h : n.lower < 2 ^ 64 = omega (arith, c.well-formed) in
+    let h : n.lower < 2 ^ 64 = omega (arith, c.well_formed) in
     let l = sym (lower-join n.lower n.upper h) in
     let u = sym (upper-join n.lower n.upper h) in
     λ i. set (set a.words.now (2 * a.i) (l i)) (2 * a.i + 1) (u i)

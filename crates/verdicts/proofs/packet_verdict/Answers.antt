@@ -60,7 +60,7 @@ pub returns-then-not-formed : goal.returns-then-not-formed
 returns-then-not-formed c =
     (
       misformed _ _ _ _ c.indexed_verdict-begun.ensures.0 c.in_default.is c.too_long-long.ensures c.if-long.false
-          c.well-formed-2.ensures (not-true _ c.if-not-formed.true),
+          c.well_formed-2.ensures (not-true _ c.if-not-formed.true),
       λ n e. absurd (not-counted e),
     )
 
@@ -99,7 +99,7 @@ pub returns-then-admitted-block_count : goal.returns-then-admitted-block_count
 returns-then-admitted-block_count c =
     let o = (c) in
     let t = o.before.before.before in (
-      block_refused _ _ _ _ t.before.before.before.before.before.indexed-verdict.ensures.0 t.enum_told.given.1 o.before.before.too_long.ensures o.if1.left o.before.well-formed.ensures (not-false _ c.if-not-formed.left)
+      block_refused _ _ _ _ t.before.before.before.before.before.indexed-verdict.ensures.0 t.enum_told.given.1 o.before.before.too_long.ensures o.if1.left o.before.well_formed.ensures (not-false _ c.if-not-formed.left)
           (header-blocks _ c.header_of-header.ensures) c.admit_blocks-admitted.ensures.0 c.if-admitted-block_count.true,
       λ n e. absurd (not-counted e),
     )
@@ -124,7 +124,7 @@ returns-then-vote-vote_count c =
     let o = (c) in
     let t = o.before.before.before in
     let h = c.header_of-header.ensures in (
-      vote-refused _ _ _ _ t.before.before.before.before.before.indexed-verdict.ensures.0 t.enum_told.given.1 o.before.before.too_long.ensures o.if1.left o.before.well-formed.ensures (not-false _ c.if-not-formed.left)
+      vote-refused _ _ _ _ t.before.before.before.before.before.indexed-verdict.ensures.0 t.enum_told.given.1 o.before.before.too_long.ensures o.if1.left o.before.well_formed.ensures (not-false _ c.if-not-formed.left)
           (header-blocks _ h) c.admit_blocks-admitted.ensures.0 c.if-admitted-block_count.left (header-votes _ h) c.admit_votes-vote.ensures.0 c.if-vote-vote_count.true,
       λ n e. absurd (not-counted e),
     )
@@ -134,7 +134,7 @@ returns-then-not-header_allowed c =
     (header_refused _ _ _ _ c.header_allowed.result ((let o = (c) in
     let t = o.before.before.before in
     let h = c.header_of-header.ensures in
-    entries-passed _ _ _ _ t.before.before.before.before.before.indexed-verdict.ensures.0 t.enum_told.given.1 o.before.before.too_long.ensures o.if1.left o.before.well-formed.ensures (not-false _ c.if-not-formed.left)
+    entries-passed _ _ _ _ t.before.before.before.before.before.indexed-verdict.ensures.0 t.enum_told.given.1 o.before.before.too_long.ensures o.if1.left o.before.well_formed.ensures (not-false _ c.if-not-formed.left)
     (header-blocks _ h) c.admit_blocks-admitted.ensures.0 c.if-admitted-block_count.left (header-votes _ h) c.admit_votes-vote.ensures.0 c.if-vote-vote_count.false c.header_allowed.ensures)) (not-true _ c.if-not-header_allowed.true), λ n e. absurd (not-counted e))
 
 pub packet_span-vote_span-requires : goal.packet_span-vote_span-requires
@@ -188,7 +188,7 @@ returns q =
     let o = (i.before.before.before.before) in
     let t = o.before.before.before in
     let h = i.before.before.header_of.ensures in
-    entries-passed _ _ _ _ t.before.before.before.before.before.indexed-verdict.ensures.0 t.enum_told.given.1 o.before.before.too_long.ensures o.if1.left o.before.well-formed.ensures (not-false _ f.if2.left)
+    entries-passed _ _ _ _ t.before.before.before.before.before.indexed-verdict.ensures.0 t.enum_told.given.1 o.before.before.too_long.ensures o.if1.left o.before.well_formed.ensures (not-false _ f.if2.left)
     (header-blocks _ h) a.admit-blocks.ensures.0 d.if3.left (header-votes _ h) v.admit-votes.ensures.0 w.if4.false a.header-allowed.ensures)) (not-false _ k.before.before.before.before.before.before.if5.left),
       λ o e. (
         counts-new _ _ ((t.before.before.before.before.before.before.before.before.before.before.before.before.before.before.before)).args.beat _ k.before.before.before.before.before.kept_from.ensures ((let d = a.before.before.before.before.before.before.before.before in (d.before.before.before.before.before.before.admit-blocks.ensures.1 ((omega (arith, d.if3.false, header-blocks _ d.before.before.before.before.before.before.before.before.before.before.before.before.header_of.ensures)))).0)) q.new_votes-new_votes.ensures.0 e,

@@ -92,7 +92,7 @@ returns c =
     let vs = section (row_bytes (vote_widths n)) (sent_from a.proposal vote_words a.votes.now 0 a.votes-used) in
     let us = c.put_five.new.0 in
     let size = c.put_section-size.ensures.0 in
-    let low : a.number.lower < 2 ^ 64 = omega (arith, c.well-formed) in
+    let low : a.number.lower < 2 ^ 64 = omega (arith, c.well_formed) in
     let front-size : length head ≡ 13 + n = row-length (vote_widths n) row ∙ omega arith in
     let first = c.put_five.ensures ∙ sets_over a.buf.now head (omega (arith, front-size, (let a = c.args in
     omega (arith, c.requires.3, sent-room a.proposal a.width a.blocks.now a.blocks-used a.votes.now a.votes-used c.requires.0 c.upper_bytes-upper.result c.upper_bytes-upper.ensures.0 (block_words_lem c) (vote-words c))))) in

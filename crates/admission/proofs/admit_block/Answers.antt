@@ -21,33 +21,33 @@ overflow_add-n b =
 
 pub known_block-parent_link-requires : goal.known_block-parent_link-requires
 known_block-parent_link-requires c =
-    (c.pre.0, omega (arith, c.pre.2), omega (arith, (let bs = c.args.bytes.now in
+    (c.requires.0, omega (arith, c.requires.2), omega (arith, (let bs = c.args.bytes.now in
     let fit = read_fits bs (bytes-by-index bs (λ j _. omega (arith, c.type_inv.bytes j))) in
-    omega (arith, c.requires.2, fit.block_count))), c.pre.4)
+    omega (arith, c.requires.2, fit.block_count))), c.requires.4)
 
 pub block_of-parent-requires : goal.block_of-parent-requires
 block_of-parent-requires c =
-    (c.pre.0, omega (arith, c.pre.2, linked-within _ c.known_block-parent_link.ensures))
+    (c.requires.0, omega (arith, c.requires.2, linked-within _ c.known_block-parent_link.ensures))
 
 pub join_block-link-requires : goal.join_block-link-requires
 join_block-link-requires c =
-    (c.pre.0, c.pre.2, c.pre.3, c.pre.4, ap (λ (x : Block). x.number) c.block_at-b.ensures)
+    (c.requires.0, c.requires.2, c.requires.3, c.requires.4, ap (λ (x : Block). x.number) c.block_at-b.ensures)
 
 pub block_of-earlier-requires : goal.block_of-earlier-requires
 block_of-earlier-requires c =
-    (c.pre.0, omega (arith, c.pre.2, linked-within _ c.join_block-link.ensures.0))
+    (c.requires.0, omega (arith, c.requires.2, linked-within _ c.join_block-link.ensures.0))
 
 pub note_first-requires : goal.note_first-requires
 note_first-requires c =
-    omega (arith, first-most _ c.join_block-link.ensures.0, c.pre.5)
+    omega (arith, first-most _ c.join_block-link.ensures.0, c.requires.5)
 
 pub returns : goal.returns
 returns c =
     let i = c.args.i in
-    let h = c.pre.2 in (
+    let h = c.requires.2 in (
       block-told _ _ _ c.block_at-b.ensures (link-told _ _ _ i (omega arith) _ refl c.known_block-parent_link.ensures c.Block-of.ensures)
           (link-told _ _ _ i (omega arith) _ (block-key _ _ _ i ∙ ap (λ (x : Block). number_key x.number) (sym c.block_at-b.ensures)) c.join_block-link.ensures.0 c.block_of-earlier.ensures) c.block_allowed-allowed.ensures,
       block_new_lem _ _ _ i (omega arith) _ c.join_block-link.ensures.0,
       c.join_block-link.ensures.1,
-      blocks-next _ _ _ c.pre.1 i _ _ _ h c.join_block-link.ensures.0 c.pre.5 c.note_first.ensures c.pre.6,
+      blocks-next _ _ _ c.requires.1 i _ _ _ h c.join_block-link.ensures.0 c.requires.5 c.note_first.ensures c.requires.6,
     )

@@ -38,19 +38,19 @@ loop-i-init c =
 pub admit_block-checked-requires : goal.admit_block-checked-requires
 admit_block-checked-requires c =
     let h = (omega (arith, c.loop-i.invariant.0, c.loop-i-test.true)) in (
-      c.pre.0,
-      c.pre.1,
+      c.requires.0,
+      c.requires.1,
       h,
-      (omega (arith, c.pre.2.0, h), omega (arith, c.pre.2.1, links-within c.args.salt c.loop-i.i _ h, c.loop-i.invariant.3)),
+      (omega (arith, c.requires.2.0, h), omega (arith, c.requires.2.1, links-within c.args.salt c.loop-i.i _ h, c.loop-i.invariant.3)),
       c.loop-i.invariant.6,
-      omega (arith, c.pre.4, h, c.loop-i.invariant.4),
+      omega (arith, c.requires.4, h, c.loop-i.invariant.4),
       c.loop-i.invariant.7,
     )
 
 pub returns-then-not-checked : goal.returns-then-not-checked
 returns-then-not-checked c =
     let l = c.loop-i in (
-      sym (l.invariant.8 ∙ block-bad _ _ _ l.i ((omega (arith, c.loop-i.invariant.0, c.loop-i-test.true))) (sym c.admit_block-checked.ensures.0 ∙ not-true _ c.if-not-checked.true)),
+      sym (l.invariant.8 ∙ block-bad _ _ _ l.i ((omega (arith, c.loop-i.invariant.0, c.loop-i-test.true))) (sym c.admit_block-checked.ensures.0 ∙ c.if-not-checked.true)),
       λ h. absurd (omega (arith, h, (omega (arith, c.loop-i.invariant.0, c.loop-i-test.true)))),
     )
 
@@ -71,7 +71,7 @@ loop-i-preserved c =
       count_turn knows_block add_blocks adding-blocks _ (packet_of c.args.bytes.now).blocks _ genesis _ l.i ((omega (arith, c.loop-i.invariant.0, c.loop-i-test.true))) l.invariant.5 c.admit_block-checked.ensures.1,
       c.admit_block-checked.ensures.2,
       c.admit_block-checked.ensures.3,
-      l.invariant.8 ∙ block-good _ _ _ l.i ((omega (arith, c.loop-i.invariant.0, c.loop-i-test.true))) (sym c.admit_block-checked.ensures.0 ∙ not-false _ c.if-not-checked.false),
+      l.invariant.8 ∙ block-good _ _ _ l.i ((omega (arith, c.loop-i.invariant.0, c.loop-i-test.true))) (sym c.admit_block-checked.ensures.0 ∙ c.if-not-checked.false),
     )
 
 pub returns : goal.returns

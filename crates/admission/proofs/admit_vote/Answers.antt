@@ -31,31 +31,31 @@ known_block-link-requires v =
 
 pub block_of-block-requires : goal.block_of-block-requires
 block_of-block-requires c =
-    (c.pre.0, omega (arith, c.pre.2, linked-within _ c.known_block-link.ensures))
+    (c.requires.0, omega (arith, c.requires.2, linked-within _ c.known_block-link.ensures))
 
 pub returns-then-not-vote_allowed : goal.returns-then-not-vote_allowed
 returns-then-not-vote_allowed c =
-    (sym (not-true _ c.if-not-vote_allowed.true) ∙ (let a = c.args in
-    let l : length (packet_of a.bytes.now).blocks ≤ a.known = omega (arith, c.pre.2) in
+    (sym c.if-not-vote_allowed.true ∙ (let a = c.args in
+    let l : length (packet_of a.bytes.now).blocks ≤ a.known = omega (arith, c.requires.2) in
     let p = packet_of a.bytes.now in
     let E = entries (rows_of make_block a.blocks.now a.used) in
-    vote-told _ _ _ _ (link-told _ _ _ a.known (omega (arith, c.pre.2)) _ refl c.known_block-link.ensures c.Block-of.ensures) c.vote_allowed.ensures
+    vote-told _ _ _ _ (link-told _ _ _ a.known (omega (arith, c.requires.2)) _ refl c.known_block-link.ensures c.Block-of.ensures) c.vote_allowed.ensures
     ∙ ap (λ (bs : List Block). vote_allowed a.nodes a.slot (add_blocks E bs) (vote_of c.vote_at-vote.result)) (take_all a.known p.blocks l)
     ∙ ap (vote_allowed a.nodes a.slot (add_blocks E p.blocks)) c.vote_at-vote.ensures), λ e. absurd (false≢true e))
 
 pub note_first-requires : goal.note_first-requires
 note_first-requires c =
-    omega (arith, first_found _ c.known_block-link.ensures ((vote-found _ _ _ _ _ c.Block-of.ensures (sym c.vote_allowed.ensures ∙ not-false _ c.if-not-vote_allowed.false))), c.requires.5)
+    omega (arith, first_found _ c.known_block-link.ensures ((vote-found _ _ _ _ _ c.Block-of.ensures (sym c.vote_allowed.ensures ∙ c.if-not-vote_allowed.false))), c.requires.5)
 
 pub returns : goal.returns
 returns c =
     (
-      sym (not-false _ c.if-not-vote_allowed.false) ∙ (let a = c.args in
-    let l : length (packet_of a.bytes.now).blocks ≤ a.known = omega (arith, c.pre.2) in
+      sym c.if-not-vote_allowed.false ∙ (let a = c.args in
+    let l : length (packet_of a.bytes.now).blocks ≤ a.known = omega (arith, c.requires.2) in
     let p = packet_of a.bytes.now in
     let E = entries (rows_of make_block a.blocks.now a.used) in
-    vote-told _ _ _ _ (link-told _ _ _ a.known (omega (arith, c.pre.2)) _ refl c.known_block-link.ensures c.Block-of.ensures) c.vote_allowed.ensures
+    vote-told _ _ _ _ (link-told _ _ _ a.known (omega (arith, c.requires.2)) _ refl c.known_block-link.ensures c.Block-of.ensures) c.vote_allowed.ensures
     ∙ ap (λ (bs : List Block). vote_allowed a.nodes a.slot (add_blocks E bs) (vote_of c.vote_at-vote.result)) (take_all a.known p.blocks l)
     ∙ ap (vote_allowed a.nodes a.slot (add_blocks E p.blocks)) c.vote_at-vote.ensures),
-      λ z. voted-next _ _ _ c.pre.1 c.args.i _ c.args.known _ _ _ c.pre.3 c.vote_at-vote.ensures c.pre.2 c.known_block-link.ensures ((vote-found _ _ _ _ _ c.Block-of.ensures (sym c.vote_allowed.ensures ∙ not-false _ c.if-not-vote_allowed.false))) c.pre.5 c.note_first.ensures c.pre.6,
+      λ z. voted-next _ _ _ c.requires.1 c.args.i _ c.args.known _ _ _ c.requires.3 c.vote_at-vote.ensures c.requires.2 c.known_block-link.ensures ((vote-found _ _ _ _ _ c.Block-of.ensures (sym c.vote_allowed.ensures ∙ c.if-not-vote_allowed.false))) c.requires.5 c.note_first.ensures c.requires.6,
     )

@@ -32,19 +32,19 @@ loop-i-init c =
 
 pub admit_vote-requires : goal.admit_vote-requires
 admit_vote-requires c =
-    (c.pre.0, c.pre.1, c.loop-i.invariant.0, (omega (arith, c.loop-i.invariant.1, c.loop-i-test.true)), c.loop-i.invariant.4, omega (arith, c.pre.3, c.loop-i.invariant.0, c.loop-i.invariant.3), c.loop-i.invariant.5)
+    (c.requires.0, c.requires.1, c.loop-i.invariant.0, (omega (arith, c.loop-i.invariant.1, c.loop-i-test.true)), c.loop-i.invariant.4, omega (arith, c.requires.3, c.loop-i.invariant.0, c.loop-i.invariant.3), c.loop-i.invariant.5)
 
 pub returns-then-not-admit_vote : goal.returns-then-not-admit_vote
 returns-then-not-admit_vote c =
     let l = c.loop-i in (
-      sym (l.invariant.6 ∙ vote-bad _ _ _ _ l.i ((omega (arith, c.loop-i.invariant.1, c.loop-i-test.true))) refl (sym c.admit_vote.ensures.0 ∙ not-true _ c.if-not-admit_vote.true)),
+      sym (l.invariant.6 ∙ vote-bad _ _ _ _ l.i ((omega (arith, c.loop-i.invariant.1, c.loop-i-test.true))) refl (sym c.admit_vote.ensures.0 ∙ c.if-not-admit_vote.true)),
       λ h. absurd (omega (arith, h, (omega (arith, c.loop-i.invariant.1, c.loop-i-test.true)))),
     )
 
 pub loop-i-preserved : goal.loop-i-preserved
 loop-i-preserved c =
     let l = c.loop-i in
-    let e : c.admit_vote.result ≡ true = not-false _ c.if-not-admit_vote.false in (
+    let e : c.admit_vote.result ≡ true = c.if-not-admit_vote.false in (
       l.invariant.0,
       l.invariant.1,
       omega (arith, c.loop-i-test.true),

@@ -30,12 +30,12 @@ begin bs h e k =
 
 pub returns-then-not-is_proposal : goal.returns-then-not-is_proposal
 unfolding header_allowed
-returns-then-not-is_proposal c = rw (← header-kind _ c.header_of-h.ensures, sym c.is_proposal.ensures ∙ not-true _ c.if-not-is_proposal.true)
+returns-then-not-is_proposal c = rw (← header-kind _ c.header_of-h.ensures, sym c.is_proposal.ensures ∙ c.if-not-is_proposal.true)
 
 pub loop-i-init : goal.loop-i-init
 loop-i-init c =
     let e = c.header_of-h.ensures in
-    (omega (arith, header-blocks _ e), begin _ _ e (sym c.is_proposal.ensures ∙ not-false _ c.if-not-is_proposal.false))
+    (omega (arith, header-blocks _ e), begin _ _ e (sym c.is_proposal.ensures ∙ c.if-not-is_proposal.false))
 
 pub returns-then-has_slot : goal.returns-then-has_slot
 returns-then-has_slot c =

@@ -23,7 +23,7 @@ slot-told from {a} {b} e q = ap (λ (v : Vote). leb from v.slot) e ∙ sym (ap (
 
 pub join_vote-link-requires : goal.join_vote-link-requires
 join_vote-link-requires c =
-    (c.pre.0, c.pre.2, c.pre.3, c.pre.4, c.vote_at-vote.ensures)
+    (c.requires.0, c.requires.2, c.requires.3, c.requires.4, c.vote_at-vote.ensures)
 
 pub note_first-requires : goal.note_first-requires
 note_first-requires c =
@@ -31,8 +31,8 @@ note_first-requires c =
 
 pub returns-then-link-ne0 : goal.returns-then-link-ne0
 returns-then-link-ne0 c =
-    (sym (simp (sym ((vote-new _ _ _ c.args.i (omega (arith, c.pre.2)) _ c.join_vote-link.ensures.0)) ∙ ne_eqb c.join_vote-link.result 0 (λ z. omega (arith, z, c.if-link-ne0.true)), and-false)), c.join_vote-link.ensures.1, (votes-next _ _ _ c.pre.1 c.args.i _ _ _ c.pre.2 c.join_vote-link.ensures.0 c.pre.5 c.note_first.ensures c.pre.6))
+    (sym (simp (sym ((vote-new _ _ _ c.args.i (omega (arith, c.requires.2)) _ c.join_vote-link.ensures.0)) ∙ ne_eqb c.join_vote-link.result 0 (λ z. omega (arith, z, c.if-link-ne0.true)), and-false)), c.join_vote-link.ensures.1, (votes-next _ _ _ c.requires.1 c.args.i _ _ _ c.requires.2 c.join_vote-link.ensures.0 c.requires.5 c.note_first.ensures c.requires.6))
 
 pub returns : goal.returns
 returns c =
-    (slot-told c.args.from c.vote_at-vote.ensures (sym ((vote-new _ _ _ c.args.i (omega (arith, c.pre.2)) _ c.join_vote-link.ensures.0)) ∙ eq-eqb c.join_vote-link.result 0 (omega (arith, c.if-link-ne0.false))), c.join_vote-link.ensures.1, (votes-next _ _ _ c.pre.1 c.args.i _ _ _ c.pre.2 c.join_vote-link.ensures.0 c.pre.5 c.note_first.ensures c.pre.6))
+    (slot-told c.args.from c.vote_at-vote.ensures (sym ((vote-new _ _ _ c.args.i (omega (arith, c.requires.2)) _ c.join_vote-link.ensures.0)) ∙ eq-eqb c.join_vote-link.result 0 (omega (arith, c.if-link-ne0.false))), c.join_vote-link.ensures.1, (votes-next _ _ _ c.requires.1 c.args.i _ _ _ c.requires.2 c.join_vote-link.ensures.0 c.requires.5 c.note_first.ensures c.requires.6))

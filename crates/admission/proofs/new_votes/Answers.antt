@@ -35,12 +35,12 @@ loop-i-init c =
 pub is_new_vote-requires : goal.is_new_vote-requires
 is_new_vote-requires c =
     let h = (omega (arith, c.loop-i.invariant.0, c.loop-i-test.true)) in (
-      c.pre.0,
-      c.pre.1,
+      c.requires.0,
+      c.requires.1,
       h,
-      (omega (arith, c.pre.2.0, h), omega (arith, c.pre.2.1, links-within c.args.salt c.loop-i.i _ h, c.loop-i.invariant.3)),
+      (omega (arith, c.requires.2.0, h), omega (arith, c.requires.2.1, links-within c.args.salt c.loop-i.i _ h, c.loop-i.invariant.3)),
       c.loop-i.invariant.6,
-      omega (arith, c.pre.4, h, c.loop-i.invariant.4),
+      omega (arith, c.requires.4, h, c.loop-i.invariant.4),
       c.loop-i.invariant.7,
     )
 

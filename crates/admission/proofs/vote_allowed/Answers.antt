@@ -11,9 +11,9 @@ returns-then-nodes-vote c = simp (le-ltb _ _ c.if-nodes-vote.true)
 pub returns-then-not-within : goal.returns-then-not-within
 unfolding vote_passes
 returns-then-not-within c =
-    rw (lt-ltb _ _ c.if-nodes-vote.false, ← c.within.ensures, not-true c.within.result c.if-not-within.true)
+    rw (lt-ltb _ _ c.if-nodes-vote.false, ← c.within.ensures, c.if-not-within.true)
 
 pub returns : goal.returns
 unfolding vote_passes
 returns c =
-    rw (lt-ltb _ _ c.if-nodes-vote.false, ← c.within.ensures, not-false c.within.result c.if-not-within.false, ← c.at_most.ensures)
+    rw (lt-ltb _ _ c.if-nodes-vote.false, ← c.within.ensures, c.if-not-within.false, ← c.at_most.ensures)

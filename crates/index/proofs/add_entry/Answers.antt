@@ -12,7 +12,7 @@ use Rattle.index.proofs.Shapes.{roots-first}
 use Rattle.index.proofs.add_entry.Goals as goal
 
 pub link_at-link-requires : goal.link_at-link-requires
-link_at-link-requires c = omega (arith, c.entry_root-at.ensures.1, roots-first c.args.salt c.args.n, c.pre.2.room)
+link_at-link-requires c = omega (arith, c.entry_root-at.ensures.1, roots-first c.args.salt c.args.n, c.requires.2.room)
 
 pub put_link-requires : goal.put_link-requires
 put_link-requires c =
@@ -22,12 +22,12 @@ put_link-requires c =
 pub returns-then-link-eq0 : goal.returns-then-link-eq0
 returns-then-link-eq0 c =
     let c = (c) in
-    added-put (descent-none c.pre.2 ((descent-root c.pre.2 c.args.key refl _ c.link_at-link.ensures c.entry_root-at.ensures.0 refl (omega (arith, c.entry_root-at.ensures.1, roots-first c.args.salt c.args.n)))) c.if-link-eq0.true) c.pre.3 refl c.put_link.ensures
+    added-put (descent-none c.requires.2 ((descent-root c.requires.2 c.args.key refl _ c.link_at-link.ensures c.entry_root-at.ensures.0 refl (omega (arith, c.entry_root-at.ensures.1, roots-first c.args.salt c.args.n)))) c.if-link-eq0.true) c.requires.3 refl c.put_link.ensures
 
 pub descend_entries-spot-requires : goal.descend_entries-spot-requires
 descend_entries-spot-requires c =
     let c = (c) in
-    (c.pre.0, c.pre.2, (descent-root c.pre.2 c.args.key refl _ c.link_at-link.ensures c.entry_root-at.ensures.0 refl (omega (arith, c.entry_root-at.ensures.1, roots-first c.args.salt c.args.n))))
+    (c.requires.0, c.requires.2, (descent-root c.requires.2 c.args.key refl _ c.link_at-link.ensures c.entry_root-at.ensures.0 refl (omega (arith, c.entry_root-at.ensures.1, roots-first c.args.salt c.args.n))))
 
 pub put_link-requires-then-found-eq0 : goal.put_link-requires-then-found-eq0
 put_link-requires-then-found-eq0 c =

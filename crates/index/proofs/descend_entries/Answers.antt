@@ -27,13 +27,13 @@ returns-then-same_key c =
 pub entry_child-at-requires : goal.entry_child-at-requires
 entry_child-at-requires c =
     omega (arith, (let a = c.args in
-    links-within a.salt _ a.n (omega (arith, c.loop-link.invariant.few, c.loop-link-test.true))), c.pre.1.room)
+    links-within a.salt _ a.n (omega (arith, c.loop-link.invariant.few, c.loop-link-test.true))), c.requires.1.room)
 
 pub link_at-link-requires : goal.link_at-link-requires
 link_at-link-requires c =
     omega (arith, ((let h = child-within c.args.salt (c.loop-link.link - 1) c.loop-link.digits in
     (omega (arith, c.entry_child-at.ensures, h.0), omega (arith, c.entry_child-at.ensures, h.1, (let a = c.args in
-    links-within a.salt _ a.n (omega (arith, c.loop-link.invariant.few, c.loop-link-test.true))))))).1, c.pre.1.room)
+    links-within a.salt _ a.n (omega (arith, c.loop-link.invariant.few, c.loop-link-test.true))))))).1, c.requires.1.room)
 
 pub loop-link-smaller : goal.loop-link-smaller
 loop-link-smaller c =

@@ -21,20 +21,20 @@ returns-then-link-ne0 c =
     let a = c.args in
     let g = c.find-link.ensures.hit (c.find-link.result - 1) (omega (arith, c.if-link-ne0.true)) in (
       block-early a.blocks.now a.used a.bytes.now a.i ((let a = c.args in (c.number_key-key.ensures ∙ ap number_key c.requires.4) ∙ block-past a.blocks.now a.used a.bytes.now a.i)) c.find-link.ensures c.if-link-ne0.true,
-      record { table = c.pre.3.table; packet = index-unwanted c.pre.3.packet c.pre.2.1 (λ w. w _ g.is_row (g.has ∙ (c.number_key-key.ensures ∙ ap number_key c.requires.4))) },
+      record { table = c.requires.3.table; packet = index-unwanted c.requires.3.packet c.requires.2.1 (λ w. w _ g.is_row (g.has ∙ (c.number_key-key.ensures ∙ ap number_key c.requires.4))) },
     )
 
 pub add_entry-later-requires : goal.add_entry-later-requires
 add_entry-later-requires c =
-    (omega (arith, c.pre.1), c.pre.2, index-for c.pre.3.packet _ (c.find-link.ensures.none c.if-link-ne0.false), (c.number_key-key.ensures ∙ ap number_key c.requires.4))
+    (omega (arith, c.requires.1), c.requires.2, index-for c.requires.3.packet _ (c.find-link.ensures.none c.if-link-ne0.false), (c.number_key-key.ensures ∙ ap number_key c.requires.4))
 
 pub behind-requires : goal.behind-requires
 behind-requires c =
-    omega (arith, linked-within _ (added-points c.add_entry-later.ensures), c.pre.0, c.pre.2.0)
+    omega (arith, linked-within _ (added-points c.add_entry-later.ensures), c.requires.0, c.requires.2.0)
 
 pub returns : goal.returns
 returns c =
     let a = c.args in (
       block-late a.blocks.now a.used a.bytes.now a.i ((let a = c.args in (c.number_key-key.ensures ∙ ap number_key c.requires.4) ∙ block-past a.blocks.now a.used a.bytes.now a.i)) ((c.number_key-key.ensures ∙ ap number_key c.requires.4)) c.find-link.ensures c.if-link-ne0.false (added-points c.add_entry-later.ensures) c.behind.ensures,
-      record { table = c.pre.3.table; packet = added-index c.add_entry-later.ensures c.pre.2.1 c.pre.3.packet },
+      record { table = c.requires.3.table; packet = added-index c.add_entry-later.ensures c.requires.2.1 c.requires.3.packet },
     )

@@ -17,11 +17,11 @@ returns-then-link-ne0 c =
 
 pub find_entry-later-requires : goal.find_entry-later-requires
 find_entry-later-requires c =
-    (c.pre.1, index-for c.pre.3.packet _ (c.find-link.ensures.none c.if-link-ne0.false))
+    (c.requires.1, index-for c.requires.3.packet _ (c.find-link.ensures.none c.if-link-ne0.false))
 
 pub behind-requires : goal.behind-requires
 behind-requires c =
-    omega (arith, linked-within _ c.find_entry-later.ensures, c.pre.0, c.pre.2)
+    omega (arith, linked-within _ c.find_entry-later.ensures, c.requires.0, c.requires.2)
 
 pub returns : goal.returns
 returns c =

@@ -18,10 +18,10 @@ returns-then-clock c = simp (eq-eqb _ _ c.if-clock-ne0.false, ne_eqb _ _ c.if-cl
 pub returns-then-not-is_proposer : goal.returns-then-not-is_proposer
 unfolding proposed_now
 returns-then-not-is_proposer c =
-    simp (eq-eqb _ _ c.if-clock-ne0.false, eq-eqb _ _ c.if-clock.false, sym c.is_proposer.ensures ∙ not-true _ c.if-not-is_proposer.true)
+    simp (eq-eqb _ _ c.if-clock-ne0.false, eq-eqb _ _ c.if-clock.false, sym c.is_proposer.ensures ∙ c.if-not-is_proposer.true)
 
 pub returns : goal.returns
 unfolding proposed_now
 returns c =
-    simp (eq-eqb _ _ c.if-clock-ne0.false, eq-eqb _ _ c.if-clock.false, sym c.is_proposer.ensures ∙ not-false _ c.if-not-is_proposer.false)
+    simp (eq-eqb _ _ c.if-clock-ne0.false, eq-eqb _ _ c.if-clock.false, sym c.is_proposer.ensures ∙ c.if-not-is_proposer.false)
     (ap (λ b. eqb b.slot ((c.args.clock.seen / 3))) c.last_in_view-last.ensures)

@@ -11,7 +11,7 @@ use Rattle.packets.proofs.block_in.Goals as goal
 pub whole_block-requires : goal.whole_block-requires
 whole_block-requires c =
     let a = c.args in
-    let h : a.at + c.block_bytes.result ≤ length a.bytes.now = leb-true _ _ (sym c.fits2.ensures ∙ c.if-fits.true) in
+    let h : a.at + c.block_bytes.result ≤ length a.bytes.now = leb-true _ _ (sym c.fits.ensures ∙ c.if-fits.true) in
     (omega (arith, h, c.block_bytes.ensures.0), c.upper_bytes-upper.ensures.1)
 
 pub returns-then-fits : goal.returns-then-fits

@@ -30,14 +30,14 @@ returns-then-is_proposal c =
 pub returns-then-not-is_gossip : goal.returns-then-not-is_gossip
 returns-then-not-is_gossip c =
     sym ((formed-header c.args.bytes.now c.header_of-h.result c.header_of-h.ensures c.upper_bytes-upper.result c.upper_bytes-upper.ensures.0
-    (omega (arith, c.if-bytes-length.false, c.packet_length-length.ensures.0))) ∙ headed-wrong _ _ _ ((sym c.is_proposal.ensures ∙ c.if-is_proposal.false)) (sym c.is_gossip.ensures ∙ not-true _ c.if-not-is_gossip.true))
+    (omega (arith, c.if-bytes-length.false, c.packet_length-length.ensures.0))) ∙ headed-wrong _ _ _ ((sym c.is_proposal.ensures ∙ c.if-is_proposal.false)) (sym c.is_gossip.ensures ∙ c.if-not-is_gossip.true))
 
 pub returns-then-h-ne0 : goal.returns-then-h-ne0
 returns-then-h-ne0 c =
     sym ((formed-header c.args.bytes.now c.header_of-h.result c.header_of-h.ensures c.upper_bytes-upper.result c.upper_bytes-upper.ensures.0
-    (omega (arith, c.if-bytes-length.false, c.packet_length-length.ensures.0))) ∙ headed-slot _ _ _ ((sym c.is_proposal.ensures ∙ c.if-is_proposal.false)) ((sym c.is_gossip.ensures ∙ not-false _ c.if-not-is_gossip.false)) (λ z. omega (arith, c.if-h-ne0.true, z)))
+    (omega (arith, c.if-bytes-length.false, c.packet_length-length.ensures.0))) ∙ headed-slot _ _ _ ((sym c.is_proposal.ensures ∙ c.if-is_proposal.false)) ((sym c.is_gossip.ensures ∙ c.if-not-is_gossip.false)) (λ z. omega (arith, c.if-h-ne0.true, z)))
 
 pub returns : goal.returns
 returns c =
     c.is_zero.ensures ∙ sym ((formed-header c.args.bytes.now c.header_of-h.result c.header_of-h.ensures c.upper_bytes-upper.result c.upper_bytes-upper.ensures.0
-    (omega (arith, c.if-bytes-length.false, c.packet_length-length.ensures.0))) ∙ headed-gossip _ _ _ ((sym c.is_proposal.ensures ∙ c.if-is_proposal.false)) ((sym c.is_gossip.ensures ∙ not-false _ c.if-not-is_gossip.false)) (omega (arith, c.if-h-ne0.false)))
+    (omega (arith, c.if-bytes-length.false, c.packet_length-length.ensures.0))) ∙ headed-gossip _ _ _ ((sym c.is_proposal.ensures ∙ c.if-is_proposal.false)) ((sym c.is_gossip.ensures ∙ c.if-not-is_gossip.false)) (omega (arith, c.if-h-ne0.false)))

@@ -16,7 +16,7 @@ loop-i-init c = ranges-begin make_block (block_in_range _) _ _
 
 pub returns-then-not-block_clean : goal.returns-then-not-block_clean
 returns-then-not-block_clean c =
-    sym (c.loop-i.invariant ∙ mark-fails make_block (block_in_range _) _ _ _ c.loop-i-test.true c.block_clean.ensures (not-true _ c.if-not-block_clean.true))
+    sym (c.loop-i.invariant ∙ mark-fails make_block (block_in_range _) _ _ _ c.loop-i-test.true c.block_clean.ensures c.if-not-block_clean.true)
 
 pub returns-then-row-slot : goal.returns-then-row-slot
 returns-then-row-slot c =
@@ -26,7 +26,7 @@ returns-then-row-slot c =
 pub loop-i-preserved : goal.loop-i-preserved
 loop-i-preserved c =
     c.loop-i.invariant
-    ∙ row-passes make_block (block_in_range _) _ _ _ c.loop-i-test.true c.block_clean.ensures c.block_at-row.ensures (not-false _ c.if-not-block_clean.false) (le-leb _ _ c.if-row-slot.false)
+    ∙ row-passes make_block (block_in_range _) _ _ _ c.loop-i-test.true c.block_clean.ensures c.block_at-row.ensures c.if-not-block_clean.false (le-leb _ _ c.if-row-slot.false)
 
 pub returns : goal.returns
 returns c = sym (c.loop-i.invariant ∙ ranges-end make_block (block_in_range _) _ _ _ c.loop-i-test.false)

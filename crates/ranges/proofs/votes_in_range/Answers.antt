@@ -16,7 +16,7 @@ loop-i-init c = ranges-begin make_vote (vote_in_range _ _) _ _
 
 pub returns-then-not-vote_clean : goal.returns-then-not-vote_clean
 returns-then-not-vote_clean c =
-    sym (c.loop-i.invariant ∙ mark-fails make_vote (vote_in_range _ _) _ _ _ c.loop-i-test.true c.vote_clean.ensures (not-true _ c.if-not-vote_clean.true))
+    sym (c.loop-i.invariant ∙ mark-fails make_vote (vote_in_range _ _) _ _ _ c.loop-i-test.true c.vote_clean.ensures c.if-not-vote_clean.true)
 
 pub returns-then-row-nodes : goal.returns-then-row-nodes
 returns-then-row-nodes c =
@@ -27,13 +27,13 @@ pub returns-then-not-within : goal.returns-then-not-within
 returns-then-not-within c =
     sym (c.loop-i.invariant
     ∙ row-fails make_vote (vote_in_range _ _) _ _ _ c.loop-i-test.true c.vote_clean.ensures c.vote_at-row.ensures
-    (simp (lt-ltb _ _ c.if-row-nodes.false, sym c.within.ensures ∙ not-true _ c.if-not-within.true)))
+    (simp (lt-ltb _ _ c.if-row-nodes.false, sym c.within.ensures ∙ c.if-not-within.true)))
 
 pub loop-i-preserved : goal.loop-i-preserved
 loop-i-preserved c =
     c.loop-i.invariant
-    ∙ row-passes make_vote (vote_in_range _ _) _ _ _ c.loop-i-test.true c.vote_clean.ensures c.vote_at-row.ensures (not-false _ c.if-not-vote_clean.false)
-    (simp (lt-ltb _ _ c.if-row-nodes.false, sym c.within.ensures ∙ not-false _ c.if-not-within.false))
+    ∙ row-passes make_vote (vote_in_range _ _) _ _ _ c.loop-i-test.true c.vote_clean.ensures c.vote_at-row.ensures c.if-not-vote_clean.false
+    (simp (lt-ltb _ _ c.if-row-nodes.false, sym c.within.ensures ∙ c.if-not-within.false))
 
 pub returns : goal.returns
 returns c = sym (c.loop-i.invariant ∙ ranges-end make_vote (vote_in_range _ _) _ _ _ c.loop-i-test.false)

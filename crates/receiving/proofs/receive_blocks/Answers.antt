@@ -19,13 +19,13 @@ view_stood_on-requires c =
     let H = c.add_blocks.ensures in
     let n = used-added knows_block add_blocks adding-blocks block-codec c.args.blocks.now c.args.used.now (packet_of c.args.bytes.now).blocks H in
     let g = used_grows knows_block add_blocks adding-blocks block-codec c.args.blocks.now c.args.used.now (packet_of c.args.bytes.now).blocks H in (
-      omega (arith, c.add_blocks.auto.0, c.pre.0, n),
+      omega (arith, c.add_blocks.auto.0, c.requires.0, n),
       marks-held block-codec _ _ H,
-      rw (rows-held block-codec _ _ H) (accepted-carried _ _ c.pre.2),
+      rw (rows-held block-codec _ _ H) (accepted-carried _ _ c.requires.2),
       g,
-      omega (arith, c.pre.3),
-      omega (arith, c.pre.6, n),
-      blocks-agree _ _ _ _ H c.pre.5,
+      omega (arith, c.requires.3),
+      omega (arith, c.requires.6, n),
+      blocks-agree _ _ _ _ H c.requires.5,
     )
 
 pub returns-then-viewed : goal.returns-then-viewed

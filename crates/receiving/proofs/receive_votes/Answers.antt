@@ -17,10 +17,10 @@ view_named_votes-requires c =
     let H = c.add_votes.ensures in
     let n = used-added _ _ (adding-since c.args.from) vote-codec c.args.votes.now c.args.used.now (packet_of c.args.bytes.now).votes H in
     let g = used_grows _ _ (adding-since c.args.from) vote-codec c.args.votes.now c.args.used.now (packet_of c.args.bytes.now).votes H in (
-      omega (arith, c.add_votes.auto.0, c.pre.0, n),
+      omega (arith, c.add_votes.auto.0, c.requires.0, n),
       marks-held vote-codec _ _ H,
       g,
-      omega (arith, c.pre.2),
+      omega (arith, c.requires.2),
     )
 
 pub returns-then-viewed : goal.returns-then-viewed
@@ -28,7 +28,7 @@ returns-then-viewed c =
     let vs = (packet_of c.args.bytes.now).votes in
     rw (c.if-viewed.true, votes-viewed c.args.from (rows_of make_vote c.args.votes.now c.args.used.now) (packet_of c.args.bytes.now))
     (viewed-held vote-codec _ _ c.add_votes.ensures (λ v. any_pass (same_vote v) vs)
-    (c.view_named_votes.ensures (λ v. any_pass (same_vote v) vs) (votes-agree _ _ _ _ c.args.from c.add_votes.ensures c.pre.4)))
+    (c.view_named_votes.ensures (λ v. any_pass (same_vote v) vs) (votes-agree _ _ _ _ c.args.from c.add_votes.ensures c.requires.4)))
 
 pub returns-else-viewed : goal.returns-else-viewed
 returns-else-viewed c =

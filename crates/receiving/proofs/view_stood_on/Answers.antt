@@ -15,17 +15,17 @@ use Rattle.receiving.proofs.view_stood_on.Goals as goal
 pub build_blocks-requires : goal.build_blocks-requires
 build_blocks-requires c =
     let l = length-replicate {A = ℕ} 12288 0 in
-    (omega (arith, c.view_named_blocks.auto.0, c.pre.0), (omega (arith, c.pre.5), omega (arith, l)), blank-new 12288)
+    (omega (arith, c.view_named_blocks.auto.0, c.requires.0), (omega (arith, c.requires.5), omega (arith, l)), blank-new 12288)
 
 pub view_ancestors-requires : goal.view_ancestors-requires
 view_ancestors-requires c =
     (
-      omega (arith, c.view_named_blocks.auto.0, c.pre.0),
-      marks-named _ _ _ c.pre.2 ((c.view_named_blocks.ensures (named (packet_of c.args.bytes.now)) c.pre.6)),
-      ordered-named _ _ _ c.pre.2 ((c.view_named_blocks.ensures (named (packet_of c.args.bytes.now)) c.pre.6)),
+      omega (arith, c.view_named_blocks.auto.0, c.requires.0),
+      marks-named _ _ _ c.requires.2 ((c.view_named_blocks.ensures (named (packet_of c.args.bytes.now)) c.requires.6)),
+      ordered-named _ _ _ c.requires.2 ((c.view_named_blocks.ensures (named (packet_of c.args.bytes.now)) c.requires.6)),
       c.build_blocks.ensures.1,
     )
 
 pub returns : goal.returns
 returns c =
-    stood-viewed _ _ _ c.requires.2 ((c.view_named_blocks.ensures (named (packet_of c.args.bytes.now)) c.pre.6)) c.view_ancestors.ensures
+    stood-viewed _ _ _ c.requires.2 ((c.view_named_blocks.ensures (named (packet_of c.args.bytes.now)) c.requires.6)) c.view_ancestors.ensures

@@ -13,59 +13,59 @@ use Rattle.soundness.proofs.Whole.{no-settings, no-places, no-blocks-fit, no-vot
 use Rattle.soundness.proofs.sound_indexed.Goals as goal
 
 pub returns-then-not-settings_sound : goal.returns-then-not-settings_sound
-returns-then-not-settings_sound c = (no-settings _ _ _ _ _ _ (sym c.settings_sound.ensures ∙ not-true _ c.if-not-settings_sound.true), λ e. absurd (false≢true e))
+returns-then-not-settings_sound c = (no-settings _ _ _ _ _ _ (sym c.settings_sound.ensures ∙ c.if-not-settings_sound.true), λ e. absurd (false≢true e))
 
 pub returns-then-not-places_sound : goal.returns-then-not-places_sound
-returns-then-not-places_sound c = (no-places _ _ _ _ _ _ (sym c.places_sound.ensures ∙ not-true _ c.if-not-places_sound.true), λ e. absurd (false≢true e))
+returns-then-not-places_sound c = (no-places _ _ _ _ _ _ (sym c.places_sound.ensures ∙ c.if-not-places_sound.true), λ e. absurd (false≢true e))
 
 pub returns-then-not-fits : goal.returns-then-not-fits
-returns-then-not-fits c = (no-blocks-fit _ _ _ _ _ _ (sym c.fits-2.ensures ∙ not-true _ c.if-not-fits.true), λ e. absurd (false≢true e))
+returns-then-not-fits c = (no-blocks-fit _ _ _ _ _ _ (sym c.fits-2.ensures ∙ c.if-not-fits.true), λ e. absurd (false≢true e))
 
 pub returns-then-not-fits-2 : goal.returns-then-not-fits-2
-returns-then-not-fits-2 c = (no-votes-fit _ _ _ _ _ _ (sym c.fits3.ensures ∙ not-true _ c.if-not-fits-2.true), λ e. absurd (false≢true e))
+returns-then-not-fits-2 c = (no-votes-fit _ _ _ _ _ _ (sym c.fits3.ensures ∙ c.if-not-fits-2.true), λ e. absurd (false≢true e))
 
 pub returns-then-not-clock_sound : goal.returns-then-not-clock_sound
-returns-then-not-clock_sound c = (no-clock _ _ _ _ _ _ (sym c.clock_sound.ensures ∙ not-true _ c.if-not-clock_sound.true), λ e. absurd (false≢true e))
+returns-then-not-clock_sound c = (no-clock _ _ _ _ _ _ (sym c.clock_sound.ensures ∙ c.if-not-clock_sound.true), λ e. absurd (false≢true e))
 
 pub returns-then-not-blocks_in_range : goal.returns-then-not-blocks_in_range
-returns-then-not-blocks_in_range c = (no-block-ranges _ _ _ _ _ _ (sym c.blocks_in_range.ensures ∙ not-true _ c.if-not-blocks_in_range.true), λ e. absurd (false≢true e))
+returns-then-not-blocks_in_range c = (no-block-ranges _ _ _ _ _ _ (sym c.blocks_in_range.ensures ∙ c.if-not-blocks_in_range.true), λ e. absurd (false≢true e))
 
 pub returns-then-not-votes_in_range : goal.returns-then-not-votes_in_range
-returns-then-not-votes_in_range c = (no-vote-ranges _ _ _ _ _ _ (sym c.votes_in_range.ensures ∙ not-true _ c.if-not-votes_in_range.true), λ e. absurd (false≢true e))
+returns-then-not-votes_in_range c = (no-vote-ranges _ _ _ _ _ _ (sym c.votes_in_range.ensures ∙ c.if-not-votes_in_range.true), λ e. absurd (false≢true e))
 
 pub tables_sound-requires : goal.tables_sound-requires
 tables_sound-requires c =
-    let b = (let h = leb-true _ _ (sym c.fits-2.ensures ∙ not-false _ c.if-not-fits.false) in
-    let few = places-few _ _ (sym c.places_sound.ensures ∙ not-false _ c.if-not-places_sound.false) in
+    let b = (let h = leb-true _ _ (sym c.fits-2.ensures ∙ c.if-not-fits.false) in
+    let few = places-few _ _ (sym c.places_sound.ensures ∙ c.if-not-places_sound.false) in
     (rows.blocks-fit _ _ h, omega arith)) in
-    let v = (let h = leb-true _ _ (sym c.fits3.ensures ∙ not-false _ c.if-not-fits-2.false) in
-    let few = places-few _ _ (sym c.places_sound.ensures ∙ not-false _ c.if-not-places_sound.false) in
+    let v = (let h = leb-true _ _ (sym c.fits3.ensures ∙ c.if-not-fits-2.false) in
+    let few = places-few _ _ (sym c.places_sound.ensures ∙ c.if-not-places_sound.false) in
     (rows.votes-fit _ _ h, omega arith)) in
-    (b.0, v.0, (omega (arith, b.1), omega (arith, b.1, c.pre.0.1)), c.pre.1, (omega (arith, v.1), omega (arith, v.1, c.pre.2.1)), c.pre.3)
+    (b.0, v.0, (omega (arith, b.1), omega (arith, b.1, c.requires.0.1)), c.requires.1, (omega (arith, v.1), omega (arith, v.1, c.requires.2.1)), c.requires.3)
 
 pub returns : goal.returns
 returns c =
     (
       c.tables_sound.ensures.0
           ∙ tables-left _ _ _ _ _ _
-          (sym c.settings_sound.ensures ∙ not-false _ c.if-not-settings_sound.false)
-          (sym c.places_sound.ensures ∙ not-false _ c.if-not-places_sound.false)
-          (sym c.fits-2.ensures ∙ not-false _ c.if-not-fits.false)
-          (sym c.fits3.ensures ∙ not-false _ c.if-not-fits-2.false)
-          (sym c.clock_sound.ensures ∙ not-false _ c.if-not-clock_sound.false)
-          (sym c.blocks_in_range.ensures ∙ not-false _ c.if-not-blocks_in_range.false)
-          (sym c.votes_in_range.ensures ∙ not-false _ c.if-not-votes_in_range.false),
+          (sym c.settings_sound.ensures ∙ c.if-not-settings_sound.false)
+          (sym c.places_sound.ensures ∙ c.if-not-places_sound.false)
+          (sym c.fits-2.ensures ∙ c.if-not-fits.false)
+          (sym c.fits3.ensures ∙ c.if-not-fits-2.false)
+          (sym c.clock_sound.ensures ∙ c.if-not-clock_sound.false)
+          (sym c.blocks_in_range.ensures ∙ c.if-not-blocks_in_range.false)
+          (sym c.votes_in_range.ensures ∙ c.if-not-votes_in_range.false),
       c.tables_sound.ensures.1,
     )
 
 pub blocks_in_range-requires : goal.blocks_in_range-requires
 blocks_in_range-requires c =
-    ((let h = leb-true _ _ (sym c.fits-2.ensures ∙ not-false _ c.if-not-fits.false) in
-    let few = places-few _ _ (sym c.places_sound.ensures ∙ not-false _ c.if-not-places_sound.false) in
+    ((let h = leb-true _ _ (sym c.fits-2.ensures ∙ c.if-not-fits.false) in
+    let few = places-few _ _ (sym c.places_sound.ensures ∙ c.if-not-places_sound.false) in
     (rows.blocks-fit _ _ h, omega arith))).0
 
 pub votes_in_range-requires : goal.votes_in_range-requires
 votes_in_range-requires c =
-    ((let h = leb-true _ _ (sym c.fits3.ensures ∙ not-false _ c.if-not-fits-2.false) in
-    let few = places-few _ _ (sym c.places_sound.ensures ∙ not-false _ c.if-not-places_sound.false) in
+    ((let h = leb-true _ _ (sym c.fits3.ensures ∙ c.if-not-fits-2.false) in
+    let few = places-few _ _ (sym c.places_sound.ensures ∙ c.if-not-places_sound.false) in
     (rows.votes-fit _ _ h, omega arith))).0

@@ -27,14 +27,14 @@ block_at-voted-requires c =
 pub returns-then-voted-row : goal.returns-then-voted-row
 returns-then-voted-row c =
     sym ((let row = c.args.row in
-    tested_at (λ q. leb q.slot row.vote.slot) _ _ (value row.vote.number) row.viewed c.link-link.ensures c.if-link-eq0.false c.pre.unrepeated c.block_at-voted.ensures) ∙ fails _ (lt-leb _ _ c.if-voted-row.true))
+    tested_at (λ q. leb q.slot row.vote.slot) _ _ (value row.vote.number) row.viewed c.link-link.ensures c.if-link-eq0.false c.requires.unrepeated c.block_at-voted.ensures) ∙ fails _ (lt-leb _ _ c.if-voted-row.true))
 
 pub returns-then-row : goal.returns-then-row
 returns-then-row c =
     sym ((let row = c.args.row in
-    tested_at (λ q. leb q.slot row.vote.slot) _ _ (value row.vote.number) row.viewed c.link-link.ensures c.if-link-eq0.false c.pre.unrepeated c.block_at-voted.ensures) ∙ viewed-passes (le-leb _ _ c.if-voted-row.false) c.if-row.true)
+    tested_at (λ q. leb q.slot row.vote.slot) _ _ (value row.vote.number) row.viewed c.link-link.ensures c.if-link-eq0.false c.requires.unrepeated c.block_at-voted.ensures) ∙ viewed-passes (le-leb _ _ c.if-voted-row.false) c.if-row.true)
 
 pub returns : goal.returns
 returns c =
     sym ((let row = c.args.row in
-    tested_at (λ q. leb q.slot row.vote.slot) _ _ (value row.vote.number) row.viewed c.link-link.ensures c.if-link-eq0.false c.pre.unrepeated c.block_at-voted.ensures) ∙ waiting-passes _ (le-leb _ _ c.if-voted-row.false) c.if-row.false)
+    tested_at (λ q. leb q.slot row.vote.slot) _ _ (value row.vote.number) row.viewed c.link-link.ensures c.if-link-eq0.false c.requires.unrepeated c.block_at-voted.ensures) ∙ waiting-passes _ (le-leb _ _ c.if-voted-row.false) c.if-row.false)

@@ -36,16 +36,16 @@ pub overflow_add-n : goal.overflow_add-n
 overflow_add-n c =
     let bs = c.args.bytes.now in
     let m = counts-below bs c.header_of-h.result c.header_of-h.ensures (bytes-by-index bs (λ j _. omega (arith, c.type_inv.bytes j))) in
-    omega (arith, m.0, c.loop-i-test.true, room-now knows_block add_blocks adding-blocks block-codec _ _ (packet_of bs).blocks c.pre.0)
+    omega (arith, m.0, c.loop-i-test.true, room-now knows_block add_blocks adding-blocks block-codec _ _ (packet_of bs).blocks c.requires.0)
 
 pub has-requires : goal.has-requires
-has-requires c = omega (arith, (omega (arith, c.loop-i.invariant.1, c.loop-i-test.true)), c.pre.2)
+has-requires c = omega (arith, (omega (arith, c.loop-i.invariant.1, c.loop-i-test.true)), c.requires.2)
 
 pub append_block-requires : goal.append_block-requires
 append_block-requires c =
     (
       turn-room knows_block add_blocks adding-blocks block-codec _ _ (packet_of c.args.bytes.now).blocks c.loop-i.i c.loop-i.invariant.3 genesis
-          ((omega (arith, c.loop-i.invariant.1, c.loop-i-test.true))) (not-true _ ((sym (c.has.ensures ∙ c.pre.3 c.loop-i.i ((omega (arith, c.loop-i.invariant.1, c.loop-i-test.true))))) ∙ c.if-has.true)) c.pre.0 c.loop-i.invariant.2,
+          ((omega (arith, c.loop-i.invariant.1, c.loop-i-test.true))) (not-true _ ((sym (c.has.ensures ∙ c.requires.3 c.loop-i.i ((omega (arith, c.loop-i.invariant.1, c.loop-i-test.true))))) ∙ c.if-has.true)) c.requires.0 c.loop-i.invariant.2,
       add-marks knows_block add_blocks adding-blocks block-codec _ _ (packet_of c.args.bytes.now).blocks c.loop-i.i c.loop-i.invariant.3,
     )
 
@@ -57,9 +57,9 @@ loop-i-preserved c =
       ⊎_elim (λ w. ap length w.7 ∙ w.4.kept.0 ∙ c.loop-i.invariant.2) (λ w. ap length w.1 ∙ c.loop-i.invariant.2) c.if-has.branch,
       ⊎_elim
           (λ w. turn-new knows_block add_blocks adding-blocks block-codec _ _ (packet_of c.args.bytes.now).blocks c.loop-i.i c.loop-i.invariant.3 genesis
-          ((omega (arith, c.loop-i.invariant.1, c.loop-i-test.true))) (not-true _ ((sym (c.has.ensures ∙ c.pre.3 c.loop-i.i ((omega (arith, c.loop-i.invariant.1, c.loop-i-test.true))))) ∙ w.0.taken)) w.1.ensures (w.7 ∙ w.4.ensures.0) (w.8 ∙ w.4.ensures.1))
+          ((omega (arith, c.loop-i.invariant.1, c.loop-i-test.true))) (not-true _ ((sym (c.has.ensures ∙ c.requires.3 c.loop-i.i ((omega (arith, c.loop-i.invariant.1, c.loop-i-test.true))))) ∙ w.0.taken)) w.1.ensures (w.7 ∙ w.4.ensures.0) (w.8 ∙ w.4.ensures.1))
           (λ w. rw (w.1, w.2) (turn-old knows_block add_blocks adding-blocks block-codec _ _ (packet_of c.args.bytes.now).blocks c.loop-i.i c.loop-i.invariant.3 genesis
-          ((omega (arith, c.loop-i.invariant.1, c.loop-i-test.true))) (not-false _ ((sym (c.has.ensures ∙ c.pre.3 c.loop-i.i ((omega (arith, c.loop-i.invariant.1, c.loop-i-test.true))))) ∙ w.0.left)))) c.if-has.branch,
+          ((omega (arith, c.loop-i.invariant.1, c.loop-i-test.true))) (not-false _ ((sym (c.has.ensures ∙ c.requires.3 c.loop-i.i ((omega (arith, c.loop-i.invariant.1, c.loop-i-test.true))))) ∙ w.0.left)))) c.if-has.branch,
     )
 
 pub returns : goal.returns

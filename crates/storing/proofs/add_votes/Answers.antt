@@ -37,16 +37,16 @@ pub overflow_add-n : goal.overflow_add-n
 overflow_add-n c =
     let bs = c.args.bytes.now in
     let m = counts-below bs c.header_of-h.result c.header_of-h.ensures (bytes-by-index bs (λ j _. omega (arith, c.type_inv.bytes j))) in
-    omega (arith, m.1, c.loop-i-test.true, room-now _ _ (adding-since c.args.from) vote-codec _ _ (packet_of bs).votes c.pre.0)
+    omega (arith, m.1, c.loop-i-test.true, room-now _ _ (adding-since c.args.from) vote-codec _ _ (packet_of bs).votes c.requires.0)
 
 pub has-requires : goal.has-requires
-has-requires c = omega (arith, (omega (arith, c.loop-i.invariant.1, c.loop-i-test.true)), c.pre.2)
+has-requires c = omega (arith, (omega (arith, c.loop-i.invariant.1, c.loop-i-test.true)), c.requires.2)
 
 pub append_vote-requires : goal.append_vote-requires
 append_vote-requires c =
     (
       turn-room _ _ (adding-since c.args.from) vote-codec _ _ (packet_of c.args.bytes.now).votes c.loop-i.i c.loop-i.invariant.3 no_vote
-          ((omega (arith, c.loop-i.invariant.1, c.loop-i-test.true))) (since-new c.args.from _ _ c.vote_at-vote.ensures c.if-vote-from.true ((sym (c.has.ensures ∙ c.pre.3 c.loop-i.i ((omega (arith, c.loop-i.invariant.1, c.loop-i-test.true))))) ∙ c.if-has.true)) c.pre.0 c.loop-i.invariant.2,
+          ((omega (arith, c.loop-i.invariant.1, c.loop-i-test.true))) (since-new c.args.from _ _ c.vote_at-vote.ensures c.if-vote-from.true ((sym (c.has.ensures ∙ c.requires.3 c.loop-i.i ((omega (arith, c.loop-i.invariant.1, c.loop-i-test.true))))) ∙ c.if-has.true)) c.requires.0 c.loop-i.invariant.2,
       add-marks _ _ (adding-since c.args.from) vote-codec _ _ (packet_of c.args.bytes.now).votes c.loop-i.i c.loop-i.invariant.3,
     )
 
@@ -59,12 +59,12 @@ loop-i-preserved c =
           (⊎_elim (λ w. ap length w.4 ∙ c.loop-i.invariant.2) (λ w. ap length w.1 ∙ c.loop-i.invariant.2)) c.if-has.branch,
       ⊎_elim
           (λ w. turn-new _ _ (adding-since c.args.from) vote-codec _ _ (packet_of c.args.bytes.now).votes c.loop-i.i c.loop-i.invariant.3 no_vote
-          ((omega (arith, c.loop-i.invariant.1, c.loop-i-test.true))) (since-new c.args.from _ _ w.1.ensures w.3.taken ((sym (c.has.ensures ∙ c.pre.3 c.loop-i.i ((omega (arith, c.loop-i.invariant.1, c.loop-i-test.true))))) ∙ w.0.taken)) w.1.ensures (w.9 ∙ w.6.ensures.0) (w.10 ∙ w.6.ensures.1))
+          ((omega (arith, c.loop-i.invariant.1, c.loop-i-test.true))) (since-new c.args.from _ _ w.1.ensures w.3.taken ((sym (c.has.ensures ∙ c.requires.3 c.loop-i.i ((omega (arith, c.loop-i.invariant.1, c.loop-i-test.true))))) ∙ w.0.taken)) w.1.ensures (w.9 ∙ w.6.ensures.0) (w.10 ∙ w.6.ensures.1))
           (⊎_elim
           (λ w. rw (w.4, w.5) (turn-old _ _ (adding-since c.args.from) vote-codec _ _ (packet_of c.args.bytes.now).votes c.loop-i.i c.loop-i.invariant.3 no_vote
           ((omega (arith, c.loop-i.invariant.1, c.loop-i-test.true))) (since-old c.args.from _ _ w.1.ensures w.3.left)))
           (λ w. rw (w.1, w.2) (turn-old _ _ (adding-since c.args.from) vote-codec _ _ (packet_of c.args.bytes.now).votes c.loop-i.i c.loop-i.invariant.3 no_vote
-          ((omega (arith, c.loop-i.invariant.1, c.loop-i-test.true))) (since-known c.args.from _ _ _ ((sym (c.has.ensures ∙ c.pre.3 c.loop-i.i ((omega (arith, c.loop-i.invariant.1, c.loop-i-test.true))))) ∙ w.0.left))))) c.if-has.branch,
+          ((omega (arith, c.loop-i.invariant.1, c.loop-i-test.true))) (since-known c.args.from _ _ _ ((sym (c.has.ensures ∙ c.requires.3 c.loop-i.i ((omega (arith, c.loop-i.invariant.1, c.loop-i-test.true))))) ∙ w.0.left))))) c.if-has.branch,
     )
 
 pub returns : goal.returns

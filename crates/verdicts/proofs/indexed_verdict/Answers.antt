@@ -11,18 +11,18 @@ use Rattle.verdicts.proofs.indexed_verdict.Goals as goal
 pub returns-then-not-sound_indexed : goal.returns-then-not-sound_indexed
 unfolding beat_tests
 returns-then-not-sound_indexed c =
-    (unsound-refuse _ _ _ c.sound_indexed.ensures.0 (not-true _ c.if-not-sound_indexed.true), λ e. absurd (not-passed e))
+    (unsound-refuse _ _ _ c.sound_indexed.ensures.0 c.if-not-sound_indexed.true, λ e. absurd (not-passed e))
 
 pub returns-then-beat-clock : goal.returns-then-beat-clock
 unfolding beat_tests first node_of
 returns-then-beat-clock c =
-    (sym (sound-pass _ _ _ c.sound_indexed.ensures.0 (not-false _ c.if-not-sound_indexed.false) ∙ simp (lt-ltb _ _ c.if-beat-clock.true)), λ e. absurd (not-passed e))
+    (sym (sound-pass _ _ _ c.sound_indexed.ensures.0 c.if-not-sound_indexed.false ∙ simp (lt-ltb _ _ c.if-beat-clock.true)), λ e. absurd (not-passed e))
 
 pub returns-then-beat-gt-MAX_SLOT : goal.returns-then-beat-gt-MAX_SLOT
 unfolding beat_tests first node_of
 returns-then-beat-gt-MAX_SLOT c =
     (
-      sym (sound-pass _ _ _ c.sound_indexed.ensures.0 (not-false _ c.if-not-sound_indexed.false) ∙ simp (le-ltb _ _ c.if-beat-clock.false, lt-ltb _ _ c.if-beat-gt-MAX_SLOT.true)),
+      sym (sound-pass _ _ _ c.sound_indexed.ensures.0 c.if-not-sound_indexed.false ∙ simp (le-ltb _ _ c.if-beat-clock.false, lt-ltb _ _ c.if-beat-gt-MAX_SLOT.true)),
       λ c. absurd (not-passed c),
     )
 
@@ -30,6 +30,6 @@ pub returns : goal.returns
 unfolding beat_tests first node_of
 returns c =
     (
-      sym (sound-pass _ _ _ c.sound_indexed.ensures.0 (not-false _ c.if-not-sound_indexed.false) ∙ simp (le-ltb _ _ c.if-beat-clock.false, le-ltb _ _ c.if-beat-gt-MAX_SLOT.false)),
-      λ z. c.sound_indexed.ensures.1 (not-false _ c.if-not-sound_indexed.false),
+      sym (sound-pass _ _ _ c.sound_indexed.ensures.0 c.if-not-sound_indexed.false ∙ simp (le-ltb _ _ c.if-beat-clock.false, le-ltb _ _ c.if-beat-gt-MAX_SLOT.false)),
+      λ z. c.sound_indexed.ensures.1 c.if-not-sound_indexed.false,
     )

@@ -60,7 +60,7 @@ pub returns-then-not-formed : goal.returns-then-not-formed
 returns-then-not-formed c =
     (
       misformed _ _ _ _ c.indexed_verdict-begun.ensures.0 c.in_default.is c.too_long-long.ensures c.if-long.false
-          c.well_formed-2.ensures (not-true _ c.if-not-formed.true),
+          c.well_formed-2.ensures c.if-not-formed.true,
       λ n e. absurd (not-counted e),
     )
 
@@ -99,7 +99,7 @@ pub returns-then-admitted-block_count : goal.returns-then-admitted-block_count
 returns-then-admitted-block_count c =
     let o = (c) in
     let t = o.before.before.before in (
-      block_refused _ _ _ _ t.before.before.before.before.before.indexed-verdict.ensures.0 t.enum_told.given.1 o.before.before.too_long.ensures o.if1.left o.before.well_formed.ensures (not-false _ c.if-not-formed.left)
+      block_refused _ _ _ _ t.before.before.before.before.before.indexed-verdict.ensures.0 t.enum_told.given.1 o.before.before.too_long.ensures o.if1.left o.before.well_formed.ensures c.if-not-formed.false
           (header-blocks _ c.header_of-header.ensures) c.admit_blocks-admitted.ensures.0 c.if-admitted-block_count.true,
       λ n e. absurd (not-counted e),
     )
@@ -124,8 +124,8 @@ returns-then-vote-vote_count c =
     let o = (c) in
     let t = o.before.before.before in
     let h = c.header_of-header.ensures in (
-      vote-refused _ _ _ _ t.before.before.before.before.before.indexed-verdict.ensures.0 t.enum_told.given.1 o.before.before.too_long.ensures o.if1.left o.before.well_formed.ensures (not-false _ c.if-not-formed.left)
-          (header-blocks _ h) c.admit_blocks-admitted.ensures.0 c.if-admitted-block_count.left (header-votes _ h) c.admit_votes-vote.ensures.0 c.if-vote-vote_count.true,
+      vote-refused _ _ _ _ t.before.before.before.before.before.indexed-verdict.ensures.0 t.enum_told.given.1 o.before.before.too_long.ensures o.if1.left o.before.well_formed.ensures c.if-not-formed.false
+          (header-blocks _ h) c.admit_blocks-admitted.ensures.0 c.if-admitted-block_count.false (header-votes _ h) c.admit_votes-vote.ensures.0 c.if-vote-vote_count.true,
       λ n e. absurd (not-counted e),
     )
 
@@ -134,8 +134,8 @@ returns-then-not-header_allowed c =
     (header_refused _ _ _ _ c.header_allowed.result ((let o = (c) in
     let t = o.before.before.before in
     let h = c.header_of-header.ensures in
-    entries-passed _ _ _ _ t.before.before.before.before.before.indexed-verdict.ensures.0 t.enum_told.given.1 o.before.before.too_long.ensures o.if1.left o.before.well_formed.ensures (not-false _ c.if-not-formed.left)
-    (header-blocks _ h) c.admit_blocks-admitted.ensures.0 c.if-admitted-block_count.left (header-votes _ h) c.admit_votes-vote.ensures.0 c.if-vote-vote_count.false c.header_allowed.ensures)) (not-true _ c.if-not-header_allowed.true), λ n e. absurd (not-counted e))
+    entries-passed _ _ _ _ t.before.before.before.before.before.indexed-verdict.ensures.0 t.enum_told.given.1 o.before.before.too_long.ensures o.if1.left o.before.well_formed.ensures c.if-not-formed.false
+    (header-blocks _ h) c.admit_blocks-admitted.ensures.0 c.if-admitted-block_count.false (header-votes _ h) c.admit_votes-vote.ensures.0 c.if-vote-vote_count.false c.header_allowed.ensures)) c.if-not-header_allowed.true, λ n e. absurd (not-counted e))
 
 pub packet_span-vote_span-requires : goal.packet_span-vote_span-requires
 packet_span-vote_span-requires c =

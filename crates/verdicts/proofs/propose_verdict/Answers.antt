@@ -20,13 +20,13 @@ pub returns-then-not-joined : goal.returns-then-not-joined
 unfolding propose_tests first node_of
 returns-then-not-joined c =
     sym (passed-before _ _ _ 4 (λ p x. propose-front _ p x _ _) _ c.due_verdict-due.ensures c.in_default.is
-    ∙ simp (sym c.joined-joined.ensures ∙ not-true _ c.if-not-joined.true))
+    ∙ simp (sym c.joined-joined.ensures ∙ c.if-not-joined.true))
 
 pub returns-then-not-proposer : goal.returns-then-not-proposer
 unfolding propose_tests first node_of
 returns-then-not-proposer c =
     sym (passed-before _ _ _ 4 (λ p x. propose-front _ p x _ _) _ c.due_verdict-due.ensures c.in_default.is
-    ∙ simp (sym c.joined-joined.ensures ∙ not-false _ c.if-not-joined.false, sym c.is_proposer-proposer.ensures ∙ not-true _ c.if-not-proposer.true))
+    ∙ simp (sym c.joined-joined.ensures ∙ c.if-not-joined.false, sym c.is_proposer-proposer.ensures ∙ c.if-not-proposer.true))
 
 pub known_block-requires : goal.known_block-requires
 known_block-requires c =
@@ -37,8 +37,8 @@ unfolding propose_tests first node_of
 returns-then-known_block c =
     sym (passed-before _ _ _ 4 (λ p x. propose-front _ p x _ _) _ c.due_verdict-due.ensures c.in_default.is
     ∙ simp (
-      sym c.joined-joined.ensures ∙ not-false _ c.if-not-joined.false,
-      sym c.is_proposer-proposer.ensures ∙ not-false _ c.if-not-proposer.false,
+      sym c.joined-joined.ensures ∙ c.if-not-joined.false,
+      sym c.is_proposer-proposer.ensures ∙ c.if-not-proposer.false,
       sym c.known_block.ensures ∙ c.if-known_block.true,
     ))
 
@@ -47,8 +47,8 @@ unfolding propose_tests first node_of places_of
 returns-then-places_in-blocks_used c =
     sym (passed-before _ _ _ 4 (λ p x. propose-front _ p x _ _) _ c.due_verdict-due.ensures c.in_default.is
     ∙ simp (
-      sym c.joined-joined.ensures ∙ not-false _ c.if-not-joined.false,
-      sym c.is_proposer-proposer.ensures ∙ not-false _ c.if-not-proposer.false,
+      sym c.joined-joined.ensures ∙ c.if-not-joined.false,
+      sym c.is_proposer-proposer.ensures ∙ c.if-not-proposer.false,
       sym c.known_block.ensures ∙ c.if-known_block.false,
       length-rows_of,
       sym c.places_in.ensures,
@@ -60,8 +60,8 @@ unfolding propose_tests first node_of places_of
 returns c =
     sym (passed-before _ _ _ 4 (λ p x. propose-front _ p x _ _) _ c.due_verdict-due.ensures c.in_default.is
     ∙ simp (
-      sym c.joined-joined.ensures ∙ not-false _ c.if-not-joined.false,
-      sym c.is_proposer-proposer.ensures ∙ not-false _ c.if-not-proposer.false,
+      sym c.joined-joined.ensures ∙ c.if-not-joined.false,
+      sym c.is_proposer-proposer.ensures ∙ c.if-not-proposer.false,
       sym c.known_block.ensures ∙ c.if-known_block.false,
       length-rows_of,
       sym c.places_in.ensures,

@@ -10,21 +10,21 @@ use Rattle.verdicts.proofs.settled_verdict.Goals as goal
 
 pub returns-then-not-lent_sound : goal.returns-then-not-lent_sound
 unfolding settled_tests query_tests
-returns-then-not-lent_sound c = unsound-refuse _ _ _ c.lent_sound.ensures (not-true _ c.if-not-lent_sound.true)
+returns-then-not-lent_sound c = unsound-refuse _ _ _ c.lent_sound.ensures c.if-not-lent_sound.true
 
 pub returns-then-late : goal.returns-then-late
 unfolding settled_tests query_tests first node_of
 returns-then-late c =
-    sym (sound-pass _ _ _ c.lent_sound.ensures (not-false _ c.if-not-lent_sound.false) ∙ simp (sym c.slot_out_of_range-late.ensures ∙ c.if-late.true))
+    sym (sound-pass _ _ _ c.lent_sound.ensures c.if-not-lent_sound.false ∙ simp (sym c.slot_out_of_range-late.ensures ∙ c.if-late.true))
 
 pub returns-then-beyond : goal.returns-then-beyond
 unfolding settled_tests query_tests first node_of
 returns-then-beyond c =
-    sym (sound-pass _ _ _ c.lent_sound.ensures (not-false _ c.if-not-lent_sound.false)
+    sym (sound-pass _ _ _ c.lent_sound.ensures c.if-not-lent_sound.false
     ∙ simp (sym c.slot_out_of_range-late.ensures ∙ c.if-late.false, sym c.has_from-beyond.ensures ∙ c.if-beyond.true))
 
 pub returns : goal.returns
 unfolding settled_tests query_tests first node_of
 returns c =
-    sym (sound-pass _ _ _ c.lent_sound.ensures (not-false _ c.if-not-lent_sound.false)
+    sym (sound-pass _ _ _ c.lent_sound.ensures c.if-not-lent_sound.false
     ∙ simp (sym c.slot_out_of_range-late.ensures ∙ c.if-late.false, sym c.has_from-beyond.ensures ∙ c.if-beyond.false))

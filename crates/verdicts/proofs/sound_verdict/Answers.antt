@@ -7,8 +7,8 @@ use Rattle.verdicts.proofs.Sequence.{unsound-refuse, sound-pass}
 use Rattle.verdicts.proofs.sound_verdict.Goals as goal
 
 pub returns-then-not-lent_sound : goal.returns-then-not-lent_sound
-returns-then-not-lent_sound c = unsound-refuse _ _ _ c.lent_sound.ensures (not-true _ c.if-not-lent_sound.true)
+returns-then-not-lent_sound c = unsound-refuse _ _ _ c.lent_sound.ensures c.if-not-lent_sound.true
 
 pub returns : goal.returns
 unfolding first
-returns c = sym (sound-pass _ _ _ c.lent_sound.ensures (not-false _ c.if-not-lent_sound.false))
+returns c = sym (sound-pass _ _ _ c.lent_sound.ensures c.if-not-lent_sound.false)

@@ -16,7 +16,7 @@ pub returns-then-not-joined : goal.returns-then-not-joined
 unfolding vote_tests first node_of
 returns-then-not-joined c =
     sym (passed-before _ _ _ 4 (λ p x. vote-front _ p x _) _ c.due_verdict-due.ensures c.in_default.is
-    ∙ simp (sym c.joined.ensures ∙ not-true _ c.if-not-joined.true))
+    ∙ simp (sym c.joined.ensures ∙ c.if-not-joined.true))
 
 pub has_voted-requires : goal.has_voted-requires
 has_voted-requires c =
@@ -26,14 +26,14 @@ pub returns-then-has_voted : goal.returns-then-has_voted
 unfolding vote_tests first node_of
 returns-then-has_voted c =
     sym (passed-before _ _ _ 4 (λ p x. vote-front _ p x _) _ c.due_verdict-due.ensures c.in_default.is
-    ∙ simp (sym c.joined.ensures ∙ not-false _ c.if-not-joined.false, sym c.has_voted.ensures ∙ c.if-has_voted.true))
+    ∙ simp (sym c.joined.ensures ∙ c.if-not-joined.false, sym c.has_voted.ensures ∙ c.if-has_voted.true))
 
 pub returns-then-places_in-votes_used : goal.returns-then-places_in-votes_used
 unfolding vote_tests first node_of places_of
 returns-then-places_in-votes_used c =
     sym (passed-before _ _ _ 4 (λ p x. vote-front _ p x _) _ c.due_verdict-due.ensures c.in_default.is
     ∙ simp (
-      sym c.joined.ensures ∙ not-false _ c.if-not-joined.false,
+      sym c.joined.ensures ∙ c.if-not-joined.false,
       sym c.has_voted.ensures ∙ c.if-has_voted.false,
       length-rows_of,
       sym c.places_in.ensures,
@@ -45,7 +45,7 @@ unfolding vote_tests first node_of places_of
 returns c =
     sym (passed-before _ _ _ 4 (λ p x. vote-front _ p x _) _ c.due_verdict-due.ensures c.in_default.is
     ∙ simp (
-      sym c.joined.ensures ∙ not-false _ c.if-not-joined.false,
+      sym c.joined.ensures ∙ c.if-not-joined.false,
       sym c.has_voted.ensures ∙ c.if-has_voted.false,
       length-rows_of,
       sym c.places_in.ensures,

@@ -12,43 +12,43 @@ use Rattle.verdicts.proofs.write_verdict.Goals as goal
 
 pub returns-then-not-lent_sound : goal.returns-then-not-lent_sound
 unfolding write_tests
-returns-then-not-lent_sound c = unsound-refuse _ _ _ c.lent_sound.ensures (not-true _ c.if-not-lent_sound.true)
+returns-then-not-lent_sound c = unsound-refuse _ _ _ c.lent_sound.ensures c.if-not-lent_sound.true
 
 pub proposed_now-requires : goal.proposed_now-requires
 proposed_now-requires c =
-    let R = ready _ _ (sym c.lent_sound.ensures ∙ not-false _ c.if-not-lent_sound.false) in
+    let R = ready _ _ (sym c.lent_sound.ensures ∙ c.if-not-lent_sound.false) in
     (R.memory.block_words, R.settings.some)
 
 pub returns-then-not-proposed_now : goal.returns-then-not-proposed_now
 returns-then-not-proposed_now c =
-    no-proposal _ _ _ _ _ c.lent_sound.ensures (not-false _ c.if-not-lent_sound.false) c.if-proposal.true c.proposed_now.ensures (not-true _ c.if-not-proposed_now.true)
+    no-proposal _ _ _ _ _ c.lent_sound.ensures c.if-not-lent_sound.false c.if-proposal.true c.proposed_now.ensures c.if-not-proposed_now.true
 
 pub header_block-named-requires : goal.header_block-named-requires
 header_block-named-requires c =
-    (ready _ _ (sym c.lent_sound.ensures ∙ not-false _ c.if-not-lent_sound.false)).memory.block_words
+    (ready _ _ (sym c.lent_sound.ensures ∙ c.if-not-lent_sound.false)).memory.block_words
 
 pub too_wide-requires : goal.too_wide-requires
 unfolding node_in
 too_wide-requires c =
-    (readable _ _ (ready _ _ (sym c.lent_sound.ensures ∙ not-false _ c.if-not-lent_sound.false)), (header-fields _ _ _ c.header_block-named.ensures).1)
+    (readable _ _ (ready _ _ (sym c.lent_sound.ensures ∙ c.if-not-lent_sound.false)), (header-fields _ _ _ c.header_block-named.ensures).1)
 
 pub written_length-length-requires : goal.written_length-length-requires
 written_length-length-requires c =
-    readable _ _ (ready _ _ (sym c.lent_sound.ensures ∙ not-false _ c.if-not-lent_sound.false))
+    readable _ _ (ready _ _ (sym c.lent_sound.ensures ∙ c.if-not-lent_sound.false))
 
 pub returns-then-too_wide : goal.returns-then-too_wide
 returns-then-too_wide c =
-    met-wide _ _ _ _ _ c.lent_sound.ensures (not-false _ c.if-not-lent_sound.false)
+    met-wide _ _ _ _ _ c.lent_sound.ensures c.if-not-lent_sound.false
     (⊎_elim (λ c. inl (c.0.taken, sym c.1.ensures ∙ not-false _ c.2.left)) (λ c. inr c.left) c.if-proposal.branch) c.too_wide.ensures c.if-too_wide.true
 
 pub returns-then-buffer-length : goal.returns-then-buffer-length
 returns-then-buffer-length c =
-    short _ _ _ _ _ c.lent_sound.ensures (not-false _ c.if-not-lent_sound.false)
+    short _ _ _ _ _ c.lent_sound.ensures c.if-not-lent_sound.false
     (⊎_elim (λ c. inl (c.0.taken, sym c.1.ensures ∙ not-false _ c.2.left)) (λ c. inr c.left) c.if-proposal.branch) c.too_wide.ensures c.if-too_wide.false
     c.written_length-length.ensures c.if-buffer-length.true
 
 pub returns : goal.returns
 returns c =
-    enough _ _ _ _ _ c.lent_sound.ensures (not-false _ c.if-not-lent_sound.false)
+    enough _ _ _ _ _ c.lent_sound.ensures c.if-not-lent_sound.false
     (⊎_elim (λ c. inl (c.0.taken, sym c.1.ensures ∙ not-false _ c.2.left)) (λ c. inr c.left) c.if-proposal.branch) c.too_wide.ensures c.if-too_wide.false
     c.written_length-length.ensures c.if-buffer-length.false

@@ -20,7 +20,7 @@ pub returns-then-not-same : goal.returns-then-not-same
 returns-then-not-same c =
     (
       double-turn _ _ _ _ c.vote_at-new.ensures _ _ c.requires.4 c.slot_add-link.ensures.0 _ c.vote_at-first.ensures c.if-link-ne0.true (sym c.counts.ensures ∙ c.if-counts.true)
-          c.with.ensures (eqb-false _ _ (sym c.same.ensures ∙ not-true _ c.if-not-same.true)),
+          c.with.ensures (eqb-false _ _ (sym c.same.ensures ∙ c.if-not-same.true)),
       c.slot_add-link.ensures.1,
     )
 
@@ -28,7 +28,7 @@ pub returns-else-not-same : goal.returns-else-not-same
 returns-else-not-same c =
     (
       again-turn _ _ _ _ c.vote_at-new.ensures _ _ c.requires.4 c.slot_add-link.ensures.0 _ c.vote_at-first.ensures c.if-link-ne0.true (sym c.counts.ensures ∙ c.if-counts.true)
-          (eqb-true _ _ (sym c.same.ensures ∙ not-false _ c.if-not-same.false)),
+          (eqb-true _ _ (sym c.same.ensures ∙ c.if-not-same.false)),
       c.slot_add-link.ensures.1,
     )
 

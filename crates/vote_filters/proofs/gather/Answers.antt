@@ -17,11 +17,11 @@ loop-i-init c =
 
 pub equivocators_next-mask-requires : goal.equivocators_next-mask-requires
 equivocators_next-mask-requires c =
-    (omega arith, (omega arith, omega (arith, c.loop-i.invariant.3)), (λ i h. c.pre.2 i (omega arith)), c.loop-i.invariant.4, c.loop-i.invariant.5)
+    (omega arith, (omega arith, omega (arith, c.loop-i.invariant.3)), (λ i h. c.requires.2 i (omega arith)), c.loop-i.invariant.4, c.loop-i.invariant.5)
 
 pub latest_next-requires : goal.latest_next-requires
 latest_next-requires c =
-    (omega arith, (λ i h. c.pre.2 i (omega arith)), c.loop-i.invariant.1 ∙ c.pre.3, omega (arith, c.loop-i.invariant.2, c.pre.4), c.loop-i.invariant.6)
+    (omega arith, (λ i h. c.requires.2 i (omega arith)), c.loop-i.invariant.1 ∙ c.requires.3, omega (arith, c.loop-i.invariant.2, c.requires.4), c.loop-i.invariant.6)
 
 pub loop-i-preserved : goal.loop-i-preserved
 loop-i-preserved c =

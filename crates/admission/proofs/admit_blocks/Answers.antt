@@ -37,7 +37,7 @@ loop-i-init c =
 
 pub admit_block-checked-requires : goal.admit_block-checked-requires
 admit_block-checked-requires c =
-    let h = (omega (arith, c.loop-i.invariant.0, c.loop-i-test.true)) in (
+    let h : c.loop-i.i < length (packet_of c.args.bytes.now).blocks = omega (arith, c.loop-i.invariant.0, c.loop-i-test.true) in (
       c.requires.0,
       c.requires.1,
       h,

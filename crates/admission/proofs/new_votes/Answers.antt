@@ -34,7 +34,7 @@ loop-i-init c =
 
 pub is_new_vote-requires : goal.is_new_vote-requires
 is_new_vote-requires c =
-    let h = (omega (arith, c.loop-i.invariant.0, c.loop-i-test.true)) in (
+    let h : c.loop-i.i < length (packet_of c.args.bytes.now).votes = omega (arith, c.loop-i.invariant.0, c.loop-i-test.true) in (
       c.requires.0,
       c.requires.1,
       h,

@@ -10,21 +10,21 @@ use Rattle.changes.proofs.merge_votes.Goals as goal
 
 pub overflow_mul-kept : goal.overflow_mul-kept
 overflow_mul-kept c =
-    let f = (omega (
+    let f : c.move_up-kept.result ≤ c.args.used.now = omega (
       arith,
       c.move_up-kept.ensures.1,
       length-since c.args.from (rows_of make_vote c.args.votes.now c.args.used.now),
       length-rows_of make_vote c.args.votes.now c.args.used.now,
-    )) in search rules
+    ) in search rules
 
 pub zero-requires : goal.zero-requires
 zero-requires c =
-    let f = (omega (
+    let f : c.move_up-kept.result ≤ c.args.used.now = omega (
       arith,
       c.move_up-kept.ensures.1,
       length-since c.args.from (rows_of make_vote c.args.votes.now c.args.used.now),
       length-rows_of make_vote c.args.votes.now c.args.used.now,
-    )) in search rules
+    ) in search rules
 
 pub returns : goal.returns
 returns c =

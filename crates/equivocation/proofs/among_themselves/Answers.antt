@@ -23,7 +23,7 @@ loop-i-init c =
 
 pub join_slot-link-requires : goal.join_slot-link-requires
 join_slot-link-requires c =
-    let h = (omega (arith, c.loop-i.invariant.0, c.loop-i-test.true)) in (
+    let h : c.loop-i.i < length (packet_of c.args.bytes.now).votes = omega (arith, c.loop-i.invariant.0, c.loop-i-test.true) in (
       h,
       (omega (arith, c.requires.0.0, h), omega (arith, c.requires.0.1, links-within c.args.salt c.loop-i.i _ h, c.loop-i.invariant.2)),
       c.loop-i.invariant.3,

@@ -67,8 +67,8 @@ among_themselves-requires c =
 pub shape_of-links : goal.shape_of-links
 shape_of-links c =
     let m = c.packet_span-later_span.ensures.1 in
-    let e = (freed 81919 _ c.packet_span-span.ensures.1 ((((c)).before.before.before)).pre (c.among_themselves-among_one.new.1.1.0) c.free_all.new.0 ((c.among_themselves-among_one.auto.1.1.0 ∙ part_length 81919 _ c.packet_span-span.ensures.1 ((((c)).before.before.before)).requires))
-    (c.free_all.auto.0 ∙ ap length (part-back _ (c.among_themselves-among_one.new.1.1.0) ((drop c.packet_span-span.result ((((c)).before.before.before)).args.links.now)) ((c.among_themselves-among_one.auto.1.1.0 ∙ part_length 81919 _ c.packet_span-span.ensures.1 ((((c)).before.before.before)).requires))) ∙ (c.among_themselves-among_one.auto.1.1.0 ∙ part_length 81919 _ c.packet_span-span.ensures.1 ((((c)).before.before.before)).requires)) c.free_all.ensures) in
+    let e : c.free_all.new.0 ++ drop c.packet_span-span.result (c.among_themselves-among_one.new.1.1.0 ++ (drop c.packet_span-span.result ((((c)).before.before.before)).args.links.now)) ≡ replicate 81919 0 = freed 81919 _ c.packet_span-span.ensures.1 ((((c)).before.before.before)).pre (c.among_themselves-among_one.new.1.1.0) c.free_all.new.0 ((c.among_themselves-among_one.auto.1.1.0 ∙ part_length 81919 _ c.packet_span-span.ensures.1 ((((c)).before.before.before)).requires))
+    (c.free_all.auto.0 ∙ ap length (part-back _ (c.among_themselves-among_one.new.1.1.0) ((drop c.packet_span-span.result ((((c)).before.before.before)).args.links.now)) ((c.among_themselves-among_one.auto.1.1.0 ∙ part_length 81919 _ c.packet_span-span.ensures.1 ((((c)).before.before.before)).requires))) ∙ (c.among_themselves-among_one.auto.1.1.0 ∙ part_length 81919 _ c.packet_span-span.ensures.1 ((((c)).before.before.before)).requires)) c.free_all.ensures in
     back_whole _ c.among_themselves.new.1.1.0 _ (c.among_themselves.auto.1.1.0 ∙ part_length 81919 _ m e) (part-fits 81919 _ m e)
     ∙ ap length e ∙ sym (ap length ((((c)).before.before.before)).requires)
 

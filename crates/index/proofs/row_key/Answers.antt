@@ -14,38 +14,38 @@ use Rattle.index.proofs.row_key.Goals as goal
 
 pub overflow_mul-at : goal.overflow_mul-at
 overflow_mul-at c =
-    let r = (let a = c.args in
+    let r : let a = c.args in let w = c.offsets_of-o.result.words in w * a.j + w ≤ length a.words.now = let a = c.args in
     let w = c.offsets_of-o.result.words in
     let e = ap (λ (o : Offsets). o.words * (a.j + 1)) c.offsets_of-o.ensures.0 in
-    omega (arith, c.requires, e, rw (← add-one a.j) at (mul-suc w a.j))) in search rules
+    omega (arith, c.requires, e, rw (← add-one a.j) at (mul-suc w a.j)) in search rules
 
 pub overflow_add-a : goal.overflow_add-a
 overflow_add-a c =
-    let r = (let a = c.args in
+    let r : let a = c.args in let w = c.offsets_of-o.result.words in w * a.j + w ≤ length a.words.now = let a = c.args in
     let w = c.offsets_of-o.result.words in
     let e = ap (λ (c : Offsets). c.words * (a.j + 1)) c.offsets_of-o.ensures.0 in
-    omega (arith, c.requires, e, rw (← add-one a.j) at (mul-suc w a.j))) in let p = c.offsets_of-o.ensures.1 in search rules
+    omega (arith, c.requires, e, rw (← add-one a.j) at (mul-suc w a.j)) in let p = c.offsets_of-o.ensures.1 in search rules
 
 pub overflow_add-b : goal.overflow_add-b
 overflow_add-b c =
-    let r = (let a = c.args in
+    let r : let a = c.args in let w = c.offsets_of-o.result.words in w * a.j + w ≤ length a.words.now = let a = c.args in
     let w = c.offsets_of-o.result.words in
     let e = ap (λ (c : Offsets). c.words * (a.j + 1)) c.offsets_of-o.ensures.0 in
-    omega (arith, c.requires, e, rw (← add-one a.j) at (mul-suc w a.j))) in let p = c.offsets_of-o.ensures.2 in search rules
+    omega (arith, c.requires, e, rw (← add-one a.j) at (mul-suc w a.j)) in let p = c.offsets_of-o.ensures.2 in search rules
 
 pub overflow_add-c : goal.overflow_add-c
 overflow_add-c c =
-    let r = (let a = c.args in
+    let r : let a = c.args in let w = c.offsets_of-o.result.words in w * a.j + w ≤ length a.words.now = let a = c.args in
     let w = c.offsets_of-o.result.words in
     let e = ap (λ (c : Offsets). c.words * (a.j + 1)) c.offsets_of-o.ensures.0 in
-    omega (arith, c.requires, e, rw (← add-one a.j) at (mul-suc w a.j))) in let p = c.offsets_of-o.ensures.3 in search rules
+    omega (arith, c.requires, e, rw (← add-one a.j) at (mul-suc w a.j)) in let p = c.offsets_of-o.ensures.3 in search rules
 
 pub overflow_add-at : goal.overflow_add-at
 overflow_add-at c =
-    let r = (let a = c.args in
+    let r : let a = c.args in let w = c.offsets_of-o.result.words in w * a.j + w ≤ length a.words.now = let a = c.args in
     let w = c.offsets_of-o.result.words in
     let e = ap (λ (c : Offsets). c.words * (a.j + 1)) c.offsets_of-o.ensures.0 in
-    omega (arith, c.requires, e, rw (← add-one a.j) at (mul-suc w a.j))) in let p = c.offsets_of-o.ensures.4 in search rules
+    omega (arith, c.requires, e, rw (← add-one a.j) at (mul-suc w a.j)) in let p = c.offsets_of-o.ensures.4 in search rules
 
 pub upper_at-d-requires : goal.upper_at-d-requires
 upper_at-d-requires c =
@@ -56,24 +56,24 @@ upper_at-d-requires c =
 
 pub offset_bounds-words-a : goal.offset_bounds-words-a
 offset_bounds-words-a c =
-    let r = (let a = c.args in
+    let r : let a = c.args in let w = c.offsets_of-o.result.words in w * a.j + w ≤ length a.words.now = let a = c.args in
     let w = c.offsets_of-o.result.words in
     let e = ap (λ (c : Offsets). c.words * (a.j + 1)) c.offsets_of-o.ensures.0 in
-    omega (arith, c.requires, e, rw (← add-one a.j) at (mul-suc w a.j))) in let p = c.offsets_of-o.ensures.1 in search rules
+    omega (arith, c.requires, e, rw (← add-one a.j) at (mul-suc w a.j)) in let p = c.offsets_of-o.ensures.1 in search rules
 
 pub offset_bounds-words-b : goal.offset_bounds-words-b
 offset_bounds-words-b c =
-    let r = (let a = c.args in
+    let r : let a = c.args in let w = c.offsets_of-o.result.words in w * a.j + w ≤ length a.words.now = let a = c.args in
     let w = c.offsets_of-o.result.words in
     let e = ap (λ (c : Offsets). c.words * (a.j + 1)) c.offsets_of-o.ensures.0 in
-    omega (arith, c.requires, e, rw (← add-one a.j) at (mul-suc w a.j))) in let p = c.offsets_of-o.ensures.2 in search rules
+    omega (arith, c.requires, e, rw (← add-one a.j) at (mul-suc w a.j)) in let p = c.offsets_of-o.ensures.2 in search rules
 
 pub offset_bounds-words-c : goal.offset_bounds-words-c
 offset_bounds-words-c c =
-    let r = (let a = c.args in
+    let r : let a = c.args in let w = c.offsets_of-o.result.words in w * a.j + w ≤ length a.words.now = let a = c.args in
     let w = c.offsets_of-o.result.words in
     let e = ap (λ (c : Offsets). c.words * (a.j + 1)) c.offsets_of-o.ensures.0 in
-    omega (arith, c.requires, e, rw (← add-one a.j) at (mul-suc w a.j))) in let p = c.offsets_of-o.ensures.3 in search rules
+    omega (arith, c.requires, e, rw (← add-one a.j) at (mul-suc w a.j)) in let p = c.offsets_of-o.ensures.3 in search rules
 
 pub bounds-words-a : goal.bounds-words-a
 bounds-words-a c =

@@ -21,27 +21,30 @@ overflow_sub-written k =
 
 pub overflow_add-written : goal.overflow_add-written
 overflow_add-written c =
-    let f = (let x = c.packet_verdict-counted in
+    let f : let a = c.args in let n = c.in-New.new in
+    (1 ≤ a.blocks_used) × (a.blocks_used + n.blocks ≤ 67584) × (a.votes_used + n.votes ≤ 73728) = let c = c.packet_verdict-counted in
     let e = c.in-New.is in
-    let y = x.ensures.1 _ e in
-    let f = few-entries _ _ _ _ x.ensures.0 e y.0 y.1 (x.kept.1.1.1.1.1.1.1.1.0 ∙ length-replicate {A = ℕ} 1056 0) (x.kept.1.1.1.1.1.1.1.1.1.0 ∙ length-replicate {A = ℕ} 1152 0) in
-    (some-used _ _ _ _ x.ensures.0 e y.0, f.0, f.1)) in omega (arith, f.0, f.1)
+    let y = c.ensures.1 _ e in
+    let f = few-entries _ _ _ _ c.ensures.0 e y.0 y.1 (c.kept.1.1.1.1.1.1.1.1.0 ∙ length-replicate {A = ℕ} 1056 0) (c.kept.1.1.1.1.1.1.1.1.1.0 ∙ length-replicate {A = ℕ} 1152 0) in
+    (some-used _ _ _ _ c.ensures.0 e y.0, f.0, f.1) in omega (arith, f.0, f.1)
 
 pub overflow_add-kept : goal.overflow_add-kept
 overflow_add-kept c =
-    let f = (let x = c.packet_verdict-counted in
+    let f : let a = c.args in let n = c.in-New.new in
+    (1 ≤ a.blocks_used) × (a.blocks_used + n.blocks ≤ 67584) × (a.votes_used + n.votes ≤ 73728) = let c = c.packet_verdict-counted in
     let e = c.in-New.is in
-    let y = x.ensures.1 _ e in
-    let f = few-entries _ _ _ _ x.ensures.0 e y.0 y.1 (x.kept.1.1.1.1.1.1.1.1.0 ∙ length-replicate {A = ℕ} 1056 0) (x.kept.1.1.1.1.1.1.1.1.1.0 ∙ length-replicate {A = ℕ} 1152 0) in
-    (some-used _ _ _ _ x.ensures.0 e y.0, f.0, f.1)) in omega (arith, f.2)
+    let y = c.ensures.1 _ e in
+    let f = few-entries _ _ _ _ c.ensures.0 e y.0 y.1 (c.kept.1.1.1.1.1.1.1.1.0 ∙ length-replicate {A = ℕ} 1056 0) (c.kept.1.1.1.1.1.1.1.1.1.0 ∙ length-replicate {A = ℕ} 1152 0) in
+    (some-used _ _ _ _ c.ensures.0 e y.0, f.0, f.1) in omega (arith, f.2)
 
 pub packet_length-requires : goal.packet_length-requires
 packet_length-requires c =
-    let f = (let x = c.packet_verdict-counted in
+    let f : let a = c.args in let n = c.in-New.new in
+    (1 ≤ a.blocks_used) × (a.blocks_used + n.blocks ≤ 67584) × (a.votes_used + n.votes ≤ 73728) = let c = c.packet_verdict-counted in
     let e = c.in-New.is in
-    let y = x.ensures.1 _ e in
-    let f = few-entries _ _ _ _ x.ensures.0 e y.0 y.1 (x.kept.1.1.1.1.1.1.1.1.0 ∙ length-replicate {A = ℕ} 1056 0) (x.kept.1.1.1.1.1.1.1.1.1.0 ∙ length-replicate {A = ℕ} 1152 0) in
-    (some-used _ _ _ _ x.ensures.0 e y.0, f.0, f.1)) in (omega arith, omega (arith, f.0, f.1), omega (arith, f.2))
+    let y = c.ensures.1 _ e in
+    let f = few-entries _ _ _ _ c.ensures.0 e y.0 y.1 (c.kept.1.1.1.1.1.1.1.1.0 ∙ length-replicate {A = ℕ} 1056 0) (c.kept.1.1.1.1.1.1.1.1.1.0 ∙ length-replicate {A = ℕ} 1152 0) in
+    (some-used _ _ _ _ c.ensures.0 e y.0, f.0, f.1) in (omega arith, omega (arith, f.0, f.1), omega (arith, f.2))
 
 pub returns-in-Refuse : goal.returns-in-Refuse
 returns-in-Refuse c =

@@ -35,12 +35,12 @@ returns-then-not-votes_in_range c = (no-vote-ranges _ _ _ _ _ _ (sym c.votes_in_
 
 pub tables_sound-requires : goal.tables_sound-requires
 tables_sound-requires c =
-    let b = (let h = leb-true _ _ (sym c.fits-2.ensures ∙ c.if-not-fits.false) in
+    let b : let a = c.args in BlocksFit a.blocks_used a.blocks.now × (a.blocks_used ≤ loom.blocks) = let h = leb-true _ _ (sym c.fits-2.ensures ∙ c.if-not-fits.false) in
     let few = places-few _ _ (sym c.places_sound.ensures ∙ c.if-not-places_sound.false) in
-    (rows.blocks-fit _ _ h, omega arith)) in
-    let v = (let h = leb-true _ _ (sym c.fits3.ensures ∙ c.if-not-fits-2.false) in
+    (rows.blocks-fit _ _ h, omega arith) in
+    let v : let a = c.args in VotesFit a.votes_used a.votes.now × (a.votes_used ≤ loom.votes) = let h = leb-true _ _ (sym c.fits3.ensures ∙ c.if-not-fits-2.false) in
     let few = places-few _ _ (sym c.places_sound.ensures ∙ c.if-not-places_sound.false) in
-    (rows.votes-fit _ _ h, omega arith)) in
+    (rows.votes-fit _ _ h, omega arith) in
     (b.0, v.0, (omega (arith, b.1), omega (arith, b.1, c.requires.0.1)), c.requires.1, (omega (arith, v.1), omega (arith, v.1, c.requires.2.1)), c.requires.3)
 
 pub returns : goal.returns

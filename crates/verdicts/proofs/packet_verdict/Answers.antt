@@ -75,21 +75,24 @@ packet_span-block_span-requires c =
 pub admit_blocks-admitted-requires : goal.admit_blocks-admitted-requires
 admit_blocks-admitted-requires c =
     let t = ((((c)).before.before.before)) in
-    let T = (t.before.before.before.before.before.indexed-verdict.ensures.1 t.enum_told.given.1) in
-    let l = (let s = (t.before.before.before.before.before.before.before.before.before.before.before.before.before.before.before) in
-    let x = t.before.before.before.before.before.indexed-verdict in (
+    let T : let a = ((t.before.before.before.before.before.before.before.before.before.before.before.before.before.before.before)).args in let x = t.before.before.before.before.before.indexed_verdict in
+    TablesIndexed a.blocks.now a.blocks_used x.last.1.1.1.1.1.1.1.0 a.votes.now a.votes_used x.last.1.1.1.1.1.1.1.1.0 = t.before.before.before.before.before.indexed_verdict.ensures.1 t.enum_told.given.1 in
+    let l : let s = (t.before.before.before.before.before.before.before.before.before.before.before.before.before.before.before) in let x = t.before.before.before.before.before.indexed_verdict in
+    (length x.last.1.1.1.1.1.1.1.0 ≡ 12288) × (length x.last.1.1.1.1.1.1.1.1.0 ≡ length s.args.vote_links.now)
+    × (length s.args.block_firsts.now ≡ 1056) × (length s.args.vote_firsts.now ≡ 1152) = let s = (t.before.before.before.before.before.before.before.before.before.before.before.before.before.before.before) in
+    let x = t.before.before.before.before.before.indexed_verdict in (
       x.kept.1.1.1.1.1.1.1.0 ∙ length-replicate {A = ℕ} 12288 0,
       x.kept.1.1.1.1.1.1.1.1.0,
       ap length s.pre.0 ∙ length-replicate {A = ℕ} 1056 0,
       ap length s.pre.1 ∙ length-replicate {A = ℕ} 1152 0,
-    )) in (
+    ) in (
       T.blocks.fit,
       T.blocks.unrepeated,
       part_room 81919 _ c.packet_span-block_span.ensures.1 ((t.before.before.before.before.before.before.before.before.before.before.before.before.before.before.before)).pre.4 c.salt_for-salt.result ((let bs = ((t.before.before.before.before.before.before.before.before.before.before.before.before.before.before.before)).args.bytes.now in
     let fit = read_fits bs (bytes-by-index bs (λ j _. omega (arith, t.before.before.before.before.before.before.before.before.before.before.before.before.shared-slice-known3.given j))) in
     (fit.block_count, fit.vote_count))).0 (rw (sym (header-blocks _ c.header_of-header.ensures)) (omega (arith, c.packet_span-block_span.ensures.0))),
       joined.blocks-begin _ _ _ T.blocks.index (part-blank 81919 _ c.packet_span-block_span.ensures.1 ((t.before.before.before.before.before.before.before.before.before.before.before.before.before.before.before)).pre.4) (part_room 81919 _ c.packet_span-block_span.ensures.1 ((t.before.before.before.before.before.before.before.before.before.before.before.before.before.before.before)).pre.4 c.salt_for-salt.result {count = 0} (omega arith) (first-links c.salt_for-salt.result c.header_of-header.result.blocks c.packet_span-block_span.ensures.0)),
-      omega (arith, ((sound-before _ _ _ t.before.before.before.before.before.indexed-verdict.ensures.0 t.enum_told.given.1)).few-blocks, ((let bs = ((t.before.before.before.before.before.before.before.before.before.before.before.before.before.before.before)).args.bytes.now in
+      omega (arith, ((sound-before _ _ _ t.before.before.before.before.before.indexed_verdict.ensures.0 t.enum_told.given.1)).few-blocks, ((let bs = ((t.before.before.before.before.before.before.before.before.before.before.before.before.before.before.before)).args.bytes.now in
     let fit = read_fits bs (bytes-by-index bs (λ j _. omega (arith, t.before.before.before.before.before.before.before.before.before.before.before.before.shared-slice-known3.given j))) in
     (fit.block_count, fit.vote_count))).0, l.2),
       subst⁻¹ (BlocksSeen _ _ _ 0) ((t.before.before.before.before.before.before.before.before.before.before.before.before.before.before.before)).pre.0 (blocks-begin _ _ _ 1056),
@@ -99,7 +102,7 @@ pub returns-then-admitted-block_count : goal.returns-then-admitted-block_count
 returns-then-admitted-block_count c =
     let o = (c) in
     let t = o.before.before.before in (
-      block_refused _ _ _ _ t.before.before.before.before.before.indexed-verdict.ensures.0 t.enum_told.given.1 o.before.before.too_long.ensures o.if1.left o.before.well_formed.ensures c.if-not-formed.false
+      block_refused _ _ _ _ t.before.before.before.before.before.indexed_verdict.ensures.0 t.enum_told.given.1 o.before.before.too_long.ensures o.if1.left o.before.well_formed.ensures c.if-not-formed.false
           (header-blocks _ c.header_of-header.ensures) c.admit_blocks-admitted.ensures.0 c.if-admitted-block_count.true,
       λ n e. absurd (not-counted e),
     )
@@ -107,12 +110,13 @@ returns-then-admitted-block_count c =
 pub admit_votes-vote-requires : goal.admit_votes-vote-requires
 admit_votes-vote-requires c =
     let t = (short ((c))) in
-    let T = (t.before.before.before.before.before.indexed-verdict.ensures.1 t.enum_told.given.1) in
+    let T : let c = ((t.before.before.before.before.before.before.before.before.before.before.before.before.before.before.before)).args in let x = t.before.before.before.before.before.indexed_verdict in
+    TablesIndexed c.blocks.now c.blocks_used x.last.1.1.1.1.1.1.1.0 c.votes.now c.votes_used x.last.1.1.1.1.1.1.1.1.0 = t.before.before.before.before.before.indexed_verdict.ensures.1 t.enum_told.given.1 in
     let x = c.admit_blocks-admitted.ensures.1 ((omega (arith, c.if-admitted-block_count.false, header-blocks _ c.header_of-header.ensures))) in
-    (T.blocks.fit, T.blocks.unrepeated, subst⁻¹ (BlocksIndexed _ _ _ _ _ _) (part-back _ _ _ ((c.admit_blocks-admitted.auto.1.1.1.1.1.0 ∙ part_length 81919 _ ((c.packet_span-block_span.ensures)).1 (start ((short ((c))))).requires.4))) x.1, omega (arith, ((sound-before _ _ _ t.before.before.before.before.before.indexed-verdict.ensures.0 t.enum_told.given.1)).few-blocks, ((let bs = ((t.before.before.before.before.before.before.before.before.before.before.before.before.before.before.before)).args.bytes.now in
+    (T.blocks.fit, T.blocks.unrepeated, subst⁻¹ (BlocksIndexed _ _ _ _ _ _) (part-back _ _ _ ((c.admit_blocks-admitted.auto.1.1.1.1.1.0 ∙ part_length 81919 _ ((c.packet_span-block_span.ensures)).1 (start ((short ((c))))).requires.4))) x.1, omega (arith, ((sound-before _ _ _ t.before.before.before.before.before.indexed_verdict.ensures.0 t.enum_told.given.1)).few-blocks, ((let bs = ((t.before.before.before.before.before.before.before.before.before.before.before.before.before.before.before)).args.bytes.now in
     let fit = read_fits bs (bytes-by-index bs (λ j _. omega (arith, t.before.before.before.before.before.before.before.before.before.before.before.before.shared-slice-known3.given j))) in
     (fit.block_count, fit.vote_count))).0, ((let s = (t.before.before.before.before.before.before.before.before.before.before.before.before.before.before.before) in
-    let x = t.before.before.before.before.before.indexed-verdict in (
+    let x = t.before.before.before.before.before.indexed_verdict in (
       x.kept.1.1.1.1.1.1.1.0 ∙ length-replicate {A = ℕ} 12288 0,
       x.kept.1.1.1.1.1.1.1.1.0,
       ap length s.pre.0 ∙ length-replicate {A = ℕ} 1056 0,
@@ -124,7 +128,7 @@ returns-then-vote-vote_count c =
     let o = (c) in
     let t = o.before.before.before in
     let h = c.header_of-header.ensures in (
-      vote-refused _ _ _ _ t.before.before.before.before.before.indexed-verdict.ensures.0 t.enum_told.given.1 o.before.before.too_long.ensures o.if1.left o.before.well_formed.ensures c.if-not-formed.false
+      vote-refused _ _ _ _ t.before.before.before.before.before.indexed_verdict.ensures.0 t.enum_told.given.1 o.before.before.too_long.ensures o.if1.left o.before.well_formed.ensures c.if-not-formed.false
           (header-blocks _ h) c.admit_blocks-admitted.ensures.0 c.if-admitted-block_count.false (header-votes _ h) c.admit_votes-vote.ensures.0 c.if-vote-vote_count.true,
       λ n e. absurd (not-counted e),
     )
@@ -134,7 +138,7 @@ returns-then-not-header_allowed c =
     (header_refused _ _ _ _ c.header_allowed.result ((let o = (c) in
     let t = o.before.before.before in
     let h = c.header_of-header.ensures in
-    entries-passed _ _ _ _ t.before.before.before.before.before.indexed-verdict.ensures.0 t.enum_told.given.1 o.before.before.too_long.ensures o.if1.left o.before.well_formed.ensures c.if-not-formed.false
+    entries-passed _ _ _ _ t.before.before.before.before.before.indexed_verdict.ensures.0 t.enum_told.given.1 o.before.before.too_long.ensures o.if1.left o.before.well_formed.ensures c.if-not-formed.false
     (header-blocks _ h) c.admit_blocks-admitted.ensures.0 c.if-admitted-block_count.false (header-votes _ h) c.admit_votes-vote.ensures.0 c.if-vote-vote_count.false c.header_allowed.ensures)) c.if-not-header_allowed.true, λ n e. absurd (not-counted e))
 
 pub packet_span-vote_span-requires : goal.packet_span-vote_span-requires
@@ -146,26 +150,29 @@ packet_span-vote_span-requires c =
 pub new_votes-new_votes-requires : goal.new_votes-new_votes-requires
 new_votes-new_votes-requires c =
     let t = (((((c)).before.before.before))) in
-    let T = (t.before.before.before.before.before.indexed-verdict.ensures.1 t.enum_told.given.1) in
-    let l = (let s = (t.before.before.before.before.before.before.before.before.before.before.before.before.before.before.before) in
-    let x = t.before.before.before.before.before.indexed-verdict in (
+    let T : let c = ((t.before.before.before.before.before.before.before.before.before.before.before.before.before.before.before)).args in let x = t.before.before.before.before.before.indexed_verdict in
+    TablesIndexed c.blocks.now c.blocks_used x.last.1.1.1.1.1.1.1.0 c.votes.now c.votes_used x.last.1.1.1.1.1.1.1.1.0 = t.before.before.before.before.before.indexed_verdict.ensures.1 t.enum_told.given.1 in
+    let l : let s = (t.before.before.before.before.before.before.before.before.before.before.before.before.before.before.before) in let x = t.before.before.before.before.before.indexed_verdict in
+    (length x.last.1.1.1.1.1.1.1.0 ≡ 12288) × (length x.last.1.1.1.1.1.1.1.1.0 ≡ length s.args.vote_links.now)
+    × (length s.args.block_firsts.now ≡ 1056) × (length s.args.vote_firsts.now ≡ 1152) = let s = (t.before.before.before.before.before.before.before.before.before.before.before.before.before.before.before) in
+    let x = t.before.before.before.before.before.indexed_verdict in (
       x.kept.1.1.1.1.1.1.1.0 ∙ length-replicate {A = ℕ} 12288 0,
       x.kept.1.1.1.1.1.1.1.1.0,
       ap length s.pre.0 ∙ length-replicate {A = ℕ} 1056 0,
       ap length s.pre.1 ∙ length-replicate {A = ℕ} 1152 0,
-    )) in
+    ) in
     let m = c.packet_span-vote_span.ensures.1 in
     (
-      ((sound-before _ _ _ t.before.before.before.before.before.indexed-verdict.ensures.0 t.enum_told.given.1)).memory.vote-words,
+      ((sound-before _ _ _ t.before.before.before.before.before.indexed_verdict.ensures.0 t.enum_told.given.1)).memory.vote_words,
       T.unrepeated,
       part_room 81919 _ m ((freed 81919 _ ((c.packet_span-block_span.ensures)).1 (start ((short ((c))))).requires.4 (c.admit_blocks-admitted.new.1.1.1.1.1.0) c.free_all.new.0 ((c.admit_blocks-admitted.auto.1.1.1.1.1.0 ∙ part_length 81919 _ ((c.packet_span-block_span.ensures)).1 (start ((short ((c))))).requires.4))
-    (c.free_all.auto.0 ∙ ap length (part-back _ (c.admit_blocks-admitted.new.1.1.1.1.1.0) ((drop c.packet_span-block_span.result (start ((short ((c))))).args.packet-links.now)) ((c.admit_blocks-admitted.auto.1.1.1.1.1.0 ∙ part_length 81919 _ ((c.packet_span-block_span.ensures)).1 (start ((short ((c))))).requires.4))) ∙ (c.admit_blocks-admitted.auto.1.1.1.1.1.0 ∙ part_length 81919 _ ((c.packet_span-block_span.ensures)).1 (start ((short ((c))))).requires.4)) c.free_all.ensures)) c.salt_for-salt.result ((let bs = ((t.before.before.before.before.before.before.before.before.before.before.before.before.before.before.before)).args.bytes.now in
+    (c.free_all.auto.0 ∙ ap length (part-back _ (c.admit_blocks-admitted.new.1.1.1.1.1.0) ((drop c.packet_span-block_span.result (start ((short ((c))))).args.packet_links.now)) ((c.admit_blocks-admitted.auto.1.1.1.1.1.0 ∙ part_length 81919 _ ((c.packet_span-block_span.ensures)).1 (start ((short ((c))))).requires.4))) ∙ (c.admit_blocks-admitted.auto.1.1.1.1.1.0 ∙ part_length 81919 _ ((c.packet_span-block_span.ensures)).1 (start ((short ((c))))).requires.4)) c.free_all.ensures)) c.salt_for-salt.result ((let bs = ((t.before.before.before.before.before.before.before.before.before.before.before.before.before.before.before)).args.bytes.now in
     let fit = read_fits bs (bytes-by-index bs (λ j _. omega (arith, t.before.before.before.before.before.before.before.before.before.before.before.before.shared-slice-known3.given j))) in
     (fit.block_count, fit.vote_count))).1 (rw (sym (header-votes _ c.header_of-header.ensures)) (omega (arith, c.packet_span-vote_span.ensures.0))),
       joined.votes-begin _ _ _ T.votes (part-blank 81919 _ m ((freed 81919 _ ((c.packet_span-block_span.ensures)).1 (start ((short ((c))))).requires.4 (c.admit_blocks-admitted.new.1.1.1.1.1.0) c.free_all.new.0 ((c.admit_blocks-admitted.auto.1.1.1.1.1.0 ∙ part_length 81919 _ ((c.packet_span-block_span.ensures)).1 (start ((short ((c))))).requires.4))
-    (c.free_all.auto.0 ∙ ap length (part-back _ (c.admit_blocks-admitted.new.1.1.1.1.1.0) ((drop c.packet_span-block_span.result (start ((short ((c))))).args.packet-links.now)) ((c.admit_blocks-admitted.auto.1.1.1.1.1.0 ∙ part_length 81919 _ ((c.packet_span-block_span.ensures)).1 (start ((short ((c))))).requires.4))) ∙ (c.admit_blocks-admitted.auto.1.1.1.1.1.0 ∙ part_length 81919 _ ((c.packet_span-block_span.ensures)).1 (start ((short ((c))))).requires.4)) c.free_all.ensures))) (part_room 81919 _ m ((freed 81919 _ ((c.packet_span-block_span.ensures)).1 (start ((short ((c))))).requires.4 (c.admit_blocks-admitted.new.1.1.1.1.1.0) c.free_all.new.0 ((c.admit_blocks-admitted.auto.1.1.1.1.1.0 ∙ part_length 81919 _ ((c.packet_span-block_span.ensures)).1 (start ((short ((c))))).requires.4))
-    (c.free_all.auto.0 ∙ ap length (part-back _ (c.admit_blocks-admitted.new.1.1.1.1.1.0) ((drop c.packet_span-block_span.result (start ((short ((c))))).args.packet-links.now)) ((c.admit_blocks-admitted.auto.1.1.1.1.1.0 ∙ part_length 81919 _ ((c.packet_span-block_span.ensures)).1 (start ((short ((c))))).requires.4))) ∙ (c.admit_blocks-admitted.auto.1.1.1.1.1.0 ∙ part_length 81919 _ ((c.packet_span-block_span.ensures)).1 (start ((short ((c))))).requires.4)) c.free_all.ensures)) c.salt_for-salt.result (omega arith) (first-links c.salt_for-salt.result c.header_of-header.result.votes c.packet_span-vote_span.ensures.0)),
-      omega (arith, ((sound-before _ _ _ t.before.before.before.before.before.indexed-verdict.ensures.0 t.enum_told.given.1)).few-votes, ((let bs = ((t.before.before.before.before.before.before.before.before.before.before.before.before.before.before.before)).args.bytes.now in
+    (c.free_all.auto.0 ∙ ap length (part-back _ (c.admit_blocks-admitted.new.1.1.1.1.1.0) ((drop c.packet_span-block_span.result (start ((short ((c))))).args.packet_links.now)) ((c.admit_blocks-admitted.auto.1.1.1.1.1.0 ∙ part_length 81919 _ ((c.packet_span-block_span.ensures)).1 (start ((short ((c))))).requires.4))) ∙ (c.admit_blocks-admitted.auto.1.1.1.1.1.0 ∙ part_length 81919 _ ((c.packet_span-block_span.ensures)).1 (start ((short ((c))))).requires.4)) c.free_all.ensures))) (part_room 81919 _ m ((freed 81919 _ ((c.packet_span-block_span.ensures)).1 (start ((short ((c))))).requires.4 (c.admit_blocks-admitted.new.1.1.1.1.1.0) c.free_all.new.0 ((c.admit_blocks-admitted.auto.1.1.1.1.1.0 ∙ part_length 81919 _ ((c.packet_span-block_span.ensures)).1 (start ((short ((c))))).requires.4))
+    (c.free_all.auto.0 ∙ ap length (part-back _ (c.admit_blocks-admitted.new.1.1.1.1.1.0) ((drop c.packet_span-block_span.result (start ((short ((c))))).args.packet_links.now)) ((c.admit_blocks-admitted.auto.1.1.1.1.1.0 ∙ part_length 81919 _ ((c.packet_span-block_span.ensures)).1 (start ((short ((c))))).requires.4))) ∙ (c.admit_blocks-admitted.auto.1.1.1.1.1.0 ∙ part_length 81919 _ ((c.packet_span-block_span.ensures)).1 (start ((short ((c))))).requires.4)) c.free_all.ensures)) c.salt_for-salt.result (omega arith) (first-links c.salt_for-salt.result c.header_of-header.result.votes c.packet_span-vote_span.ensures.0)),
+      omega (arith, ((sound-before _ _ _ t.before.before.before.before.before.indexed_verdict.ensures.0 t.enum_told.given.1)).few-votes, ((let bs = ((t.before.before.before.before.before.before.before.before.before.before.before.before.before.before.before)).args.bytes.now in
     let fit = read_fits bs (bytes-by-index bs (λ j _. omega (arith, t.before.before.before.before.before.before.before.before.before.before.before.before.shared-slice-known3.given j))) in
     (fit.block_count, fit.vote_count))).1, l.3),
       subst⁻¹ (VotesSeen _ _ _ 0) ((t.before.before.before.before.before.before.before.before.before.before.before.before.before.before.before)).pre.1 (votes-begin _ _ _ 1152),
@@ -178,8 +185,8 @@ returns q =
     let t = (((((a.before.before.before.before.before.before.before.before.before.before.before.before.before.before.before.before.before.before.before.before.before.before)).before.before.before))) in
     let v = a.before.before.before.before in
     let b = (v.before.before.before.before.before.before.before.before.before.before) in
-    let named = v.admit-votes.ensures.1 (omega (arith, a.before.if4.left, header-votes _ b.before.before.before.before.before.before.header_of.ensures)) in (
-      all-passed _ _ _ _ a.header-allowed.result ((let w = a.before in
+    let named = v.admit_votes.ensures.1 (omega (arith, a.before.if4.left, header-votes _ b.before.before.before.before.before.before.header_of.ensures)) in (
+      all-passed _ _ _ _ a.header_allowed.result ((let w = a.before in
     let v = w.before.before.before in
     let d = v.before.before.before.before in
     let a = d.before.before.before.before.before.before in
@@ -188,24 +195,24 @@ returns q =
     let o = (i.before.before.before.before) in
     let t = o.before.before.before in
     let h = i.before.before.header_of.ensures in
-    entries-passed _ _ _ _ t.before.before.before.before.before.indexed-verdict.ensures.0 t.enum_told.given.1 o.before.before.too_long.ensures o.if1.left o.before.well_formed.ensures (not-false _ f.if2.left)
-    (header-blocks _ h) a.admit-blocks.ensures.0 d.if3.left (header-votes _ h) v.admit-votes.ensures.0 w.if4.false a.header-allowed.ensures)) (not-false _ k.before.before.before.before.before.before.if5.left),
+    entries-passed _ _ _ _ t.before.before.before.before.before.indexed_verdict.ensures.0 t.enum_told.given.1 o.before.before.too_long.ensures o.if1.left o.before.well_formed.ensures (not-false _ f.if2.left)
+    (header-blocks _ h) a.admit_blocks.ensures.0 d.if3.left (header-votes _ h) v.admit_votes.ensures.0 w.if4.false a.header_allowed.ensures)) (not-false _ k.before.before.before.before.before.before.if5.left),
       λ o e. (
-        counts-new _ _ ((t.before.before.before.before.before.before.before.before.before.before.before.before.before.before.before)).args.beat _ k.before.before.before.before.before.kept_from.ensures ((let d = a.before.before.before.before.before.before.before.before in (d.before.before.before.before.before.before.admit-blocks.ensures.1 ((omega (arith, d.if3.false, header-blocks _ d.before.before.before.before.before.before.before.before.before.before.before.before.header_of.ensures)))).0)) q.new_votes-new_votes.ensures.0 e,
+        counts-new _ _ ((t.before.before.before.before.before.before.before.before.before.before.before.before.before.before.before)).args.beat _ k.before.before.before.before.before.kept_from.ensures ((let d = a.before.before.before.before.before.before.before.before in (d.before.before.before.before.before.before.admit_blocks.ensures.1 ((omega (arith, d.if3.false, header-blocks _ d.before.before.before.before.before.before.before.before.before.before.before.before.header_of.ensures)))).0)) q.new_votes-new_votes.ensures.0 e,
         record {
-          blocks-fit = omega (arith, ((sound-before _ _ _ t.before.before.before.before.before.indexed-verdict.ensures.0 t.enum_told.given.1)).few-blocks, ((let bs = ((t.before.before.before.before.before.before.before.before.before.before.before.before.before.before.before)).args.bytes.now in
+          blocks-fit = omega (arith, ((sound-before _ _ _ t.before.before.before.before.before.indexed_verdict.ensures.0 t.enum_told.given.1)).few-blocks, ((let bs = ((t.before.before.before.before.before.before.before.before.before.before.before.before.before.before.before)).args.bytes.now in
     let fit = read_fits bs (bytes-by-index bs (λ j _. omega (arith, t.before.before.before.before.before.before.before.before.before.before.before.before.shared-slice-known3.given j))) in
     (fit.block_count, fit.vote_count))).0, ((let s = (t.before.before.before.before.before.before.before.before.before.before.before.before.before.before.before) in
-    let x = t.before.before.before.before.before.indexed-verdict in (
+    let x = t.before.before.before.before.before.indexed_verdict in (
       x.kept.1.1.1.1.1.1.1.0 ∙ length-replicate {A = ℕ} 12288 0,
       x.kept.1.1.1.1.1.1.1.1.0,
       ap length s.pre.0 ∙ length-replicate {A = ℕ} 1056 0,
       ap length s.pre.1 ∙ length-replicate {A = ℕ} 1152 0,
-    ))).2, b.admit-blocks.kept.1.1.1.1.1.1.1.0, v.admit-votes.kept.1.1.1.1.1.1.1.1.0);
-          votes-fit = omega (arith, ((sound-before _ _ _ t.before.before.before.before.before.indexed-verdict.ensures.0 t.enum_told.given.1)).few-votes, ((let bs = ((t.before.before.before.before.before.before.before.before.before.before.before.before.before.before.before)).args.bytes.now in
+    ))).2, b.admit_blocks.kept.1.1.1.1.1.1.1.0, v.admit_votes.kept.1.1.1.1.1.1.1.1.0);
+          votes-fit = omega (arith, ((sound-before _ _ _ t.before.before.before.before.before.indexed_verdict.ensures.0 t.enum_told.given.1)).few-votes, ((let bs = ((t.before.before.before.before.before.before.before.before.before.before.before.before.before.before.before)).args.bytes.now in
     let fit = read_fits bs (bytes-by-index bs (λ j _. omega (arith, t.before.before.before.before.before.before.before.before.before.before.before.before.shared-slice-known3.given j))) in
     (fit.block_count, fit.vote_count))).1, ((let s = (t.before.before.before.before.before.before.before.before.before.before.before.before.before.before.before) in
-    let x = t.before.before.before.before.before.indexed-verdict in (
+    let x = t.before.before.before.before.before.indexed_verdict in (
       x.kept.1.1.1.1.1.1.1.0 ∙ length-replicate {A = ℕ} 12288 0,
       x.kept.1.1.1.1.1.1.1.1.0,
       ap length s.pre.0 ∙ length-replicate {A = ℕ} 1056 0,
@@ -245,7 +252,7 @@ shape_of-vote_links-then-not-formed c =
 pub slice_bounds-admit_blocks-end : goal.slice_bounds-admit_blocks-end
 slice_bounds-admit_blocks-end c =
     sym ((let s = start (((((c)).before.before.before))) in
-    let x = (begun (((((c)).before.before.before)))).indexed-verdict in (
+    let x = (begun (((((c)).before.before.before)))).indexed_verdict in (
       x.kept.1.1.1.1.1.1.1.0 ∙ length-replicate {A = ℕ} 12288 0,
       x.kept.1.1.1.1.1.1.1.1.0,
       ap length s.pre.0 ∙ length-replicate {A = ℕ} 1056 0,
@@ -268,10 +275,10 @@ pub slice_bounds-admit_votes-end : goal.slice_bounds-admit_votes-end
 slice_bounds-admit_votes-end c = sym (lengths (((((c)).before.before.before)))).0
 
 pub slice_bounds-admit_votes-end-2 : goal.slice_bounds-admit_votes-end-2
-slice_bounds-admit_votes-end-2 c = (back_fits _ (c.admit_blocks-admitted.new.1.1.1.1.1.0) ((drop c.packet_span-block_span.result (start ((short ((c))))).args.packet-links.now)) ((c.admit_blocks-admitted.auto.1.1.1.1.1.0 ∙ part_length 81919 _ ((c.packet_span-block_span.ensures)).1 (start ((short ((c))))).requires.4)))
+slice_bounds-admit_votes-end-2 c = (back_fits _ (c.admit_blocks-admitted.new.1.1.1.1.1.0) ((drop c.packet_span-block_span.result (start ((short ((c))))).args.packet_links.now)) ((c.admit_blocks-admitted.auto.1.1.1.1.1.0 ∙ part_length 81919 _ ((c.packet_span-block_span.ensures)).1 (start ((short ((c))))).requires.4)))
 
 pub slice_bounds-admit_votes-end-3 : goal.slice_bounds-admit_votes-end-3
-slice_bounds-admit_votes-end-3 c = sym ((back-length _ (c.admit_blocks-admitted.new.1.1.1.1.1.0) ((drop c.packet_span-block_span.result (start ((short ((c))))).args.packet-links.now)) ((c.admit_blocks-admitted.auto.1.1.1.1.1.0 ∙ part_length 81919 _ ((c.packet_span-block_span.ensures)).1 (start ((short ((c))))).requires.4))))
+slice_bounds-admit_votes-end-3 c = sym ((back-length _ (c.admit_blocks-admitted.new.1.1.1.1.1.0) ((drop c.packet_span-block_span.result (start ((short ((c))))).args.packet_links.now)) ((c.admit_blocks-admitted.auto.1.1.1.1.1.0 ∙ part_length 81919 _ ((c.packet_span-block_span.ensures)).1 (start ((short ((c))))).requires.4))))
 
 pub shape_of-vote_links-then-vote-vote_count : goal.shape_of-vote_links-then-vote-vote_count
 shape_of-vote_links-then-vote-vote_count c = (lengths (passed (fitted ((c))))).1
@@ -282,7 +289,7 @@ shape_of-packet_links-then-vote-vote_count c = whole ((c))
 pub shape_of-vote_links-then-not-header_allowed : goal.shape_of-vote_links-then-not-header_allowed
 shape_of-vote_links-then-not-header_allowed c =
     ((let s = start ((((((c)).before.before.before)))) in
-    let x = (begun ((((((c)).before.before.before))))).indexed-verdict in (
+    let x = (begun ((((((c)).before.before.before))))).indexed_verdict in (
       x.kept.1.1.1.1.1.1.1.0 ∙ length-replicate {A = ℕ} 12288 0,
       x.kept.1.1.1.1.1.1.1.1.0,
       ap length s.pre.0 ∙ length-replicate {A = ℕ} 1056 0,
@@ -301,12 +308,12 @@ slice_bounds-free_all-end-2 c = sym ((back-length _ (back ((c))) (behind ((c))) 
 pub slice_bounds-new_votes-end : goal.slice_bounds-new_votes-end
 slice_bounds-new_votes-end c =
     part-fits 81919 _ c.packet_span-vote_span.ensures.1 ((freed 81919 _ ((c.packet_span-block_span.ensures)).1 (start ((short ((c))))).requires.4 (c.admit_blocks-admitted.new.1.1.1.1.1.0) c.free_all.new.0 ((c.admit_blocks-admitted.auto.1.1.1.1.1.0 ∙ part_length 81919 _ ((c.packet_span-block_span.ensures)).1 (start ((short ((c))))).requires.4))
-    (c.free_all.auto.0 ∙ ap length (part-back _ (c.admit_blocks-admitted.new.1.1.1.1.1.0) ((drop c.packet_span-block_span.result (start ((short ((c))))).args.packet-links.now)) ((c.admit_blocks-admitted.auto.1.1.1.1.1.0 ∙ part_length 81919 _ ((c.packet_span-block_span.ensures)).1 (start ((short ((c))))).requires.4))) ∙ (c.admit_blocks-admitted.auto.1.1.1.1.1.0 ∙ part_length 81919 _ ((c.packet_span-block_span.ensures)).1 (start ((short ((c))))).requires.4)) c.free_all.ensures))
+    (c.free_all.auto.0 ∙ ap length (part-back _ (c.admit_blocks-admitted.new.1.1.1.1.1.0) ((drop c.packet_span-block_span.result (start ((short ((c))))).args.packet_links.now)) ((c.admit_blocks-admitted.auto.1.1.1.1.1.0 ∙ part_length 81919 _ ((c.packet_span-block_span.ensures)).1 (start ((short ((c))))).requires.4))) ∙ (c.admit_blocks-admitted.auto.1.1.1.1.1.0 ∙ part_length 81919 _ ((c.packet_span-block_span.ensures)).1 (start ((short ((c))))).requires.4)) c.free_all.ensures))
 
 pub slice_bounds-new_votes-end-2 : goal.slice_bounds-new_votes-end-2
 slice_bounds-new_votes-end-2 c =
     sym (part_length 81919 _ c.packet_span-vote_span.ensures.1 ((freed 81919 _ ((c.packet_span-block_span.ensures)).1 (start ((short ((c))))).requires.4 (c.admit_blocks-admitted.new.1.1.1.1.1.0) c.free_all.new.0 ((c.admit_blocks-admitted.auto.1.1.1.1.1.0 ∙ part_length 81919 _ ((c.packet_span-block_span.ensures)).1 (start ((short ((c))))).requires.4))
-    (c.free_all.auto.0 ∙ ap length (part-back _ (c.admit_blocks-admitted.new.1.1.1.1.1.0) ((drop c.packet_span-block_span.result (start ((short ((c))))).args.packet-links.now)) ((c.admit_blocks-admitted.auto.1.1.1.1.1.0 ∙ part_length 81919 _ ((c.packet_span-block_span.ensures)).1 (start ((short ((c))))).requires.4))) ∙ (c.admit_blocks-admitted.auto.1.1.1.1.1.0 ∙ part_length 81919 _ ((c.packet_span-block_span.ensures)).1 (start ((short ((c))))).requires.4)) c.free_all.ensures)))
+    (c.free_all.auto.0 ∙ ap length (part-back _ (c.admit_blocks-admitted.new.1.1.1.1.1.0) ((drop c.packet_span-block_span.result (start ((short ((c))))).args.packet_links.now)) ((c.admit_blocks-admitted.auto.1.1.1.1.1.0 ∙ part_length 81919 _ ((c.packet_span-block_span.ensures)).1 (start ((short ((c))))).requires.4))) ∙ (c.admit_blocks-admitted.auto.1.1.1.1.1.0 ∙ part_length 81919 _ ((c.packet_span-block_span.ensures)).1 (start ((short ((c))))).requires.4)) c.free_all.ensures)))
 
 pub shape_of-vote_firsts : goal.shape_of-vote_firsts
 shape_of-vote_firsts c = c.new_votes-new_votes.auto.1.1.1.1.1.1.1.0

@@ -25,7 +25,7 @@ keep-requires c = omega (arith, (omega (arith, c.requires.1 c.args.i (omega arit
 
 pub returns-then-is_later : goal.returns-then-is_later
 returns-then-is_later c =
-    let h = (omega (arith, c.requires.1 c.args.i (omega arith), ap (λ o. o.entry.voter) c.vote_at-row.ensures)) in
+    let h : c.vote_at-row.result.vote.voter < loom.nodes = omega (arith, c.requires.1 c.args.i (omega arith), ap (λ o. o.entry.voter) c.vote_at-row.ensures) in
     new-turn _ _ _ _ c.vote_at-row.ensures _ _ c.requires.4 (sym c.counts.ensures ∙ c.if-counts.true) (ltb-true _ _ (sym c.is_later.ensures ∙ c.if-is_later.true))
     (omega arith) (omega arith) c.keep.ensures
 

@@ -14,7 +14,7 @@ wide false = (refl, omega arith)
 
 pub overflow_add-result : goal.overflow_add-result
 overflow_add-result c =
-    let n = (⊎_elim (λ w. w.1 ∙ rw w.0.taken refl) (λ w. w.1 ∙ rw w.0.left refl) c.if-proposal.branch) in
+    let n : c.if-proposal.kind ≡ cond c.args.proposal 1 0 = ⊎_elim (λ w. w.1 ∙ rw w.0.taken refl) (λ w. w.1 ∙ rw w.0.left refl) c.if-proposal.branch in
     let h = (wide c.args.proposal).1 in
     search rules
 

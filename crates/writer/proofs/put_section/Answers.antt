@@ -9,33 +9,33 @@ use Rattle.writer.proofs.put_section.Goals as goal
 
 pub put_number-requires : goal.put_number-requires
 put_number-requires c =
-    let h = (let a = c.args in
-    omega (arith, c.requires.2, section-size a.widths (sent_from a.proposal a.words a.rows.now a.from a.used))) in search rules
+    let h : let a = c.args in 2 + length (entries_bytes a.widths (sent_from a.proposal a.words a.rows.now a.from a.used)) ≤ length a.buf.now = let a = c.args in
+    omega (arith, c.requires.2, section-size a.widths (sent_from a.proposal a.words a.rows.now a.from a.used)) in search rules
 
 pub slice_bounds-put_rows-count : goal.slice_bounds-put_rows-count
 slice_bounds-put_rows-count c =
-    let h = (let a = c.args in
-    omega (arith, c.requires.2, section-size a.widths (sent_from a.proposal a.words a.rows.now a.from a.used))) in search rules
+    let h : let a = c.args in 2 + length (entries_bytes a.widths (sent_from a.proposal a.words a.rows.now a.from a.used)) ≤ length a.buf.now = let a = c.args in
+    omega (arith, c.requires.2, section-size a.widths (sent_from a.proposal a.words a.rows.now a.from a.used)) in search rules
 
 pub slice_bounds-put_rows-start : goal.slice_bounds-put_rows-start
 slice_bounds-put_rows-start c =
-    let h = (let a = c.args in
-    omega (arith, c.requires.2, section-size a.widths (sent_from a.proposal a.words a.rows.now a.from a.used))) in search rules
+    let h : let a = c.args in 2 + length (entries_bytes a.widths (sent_from a.proposal a.words a.rows.now a.from a.used)) ≤ length a.buf.now = let a = c.args in
+    omega (arith, c.requires.2, section-size a.widths (sent_from a.proposal a.words a.rows.now a.from a.used)) in search rules
 
 pub slice_bounds-put_rows-end : goal.slice_bounds-put_rows-end
 slice_bounds-put_rows-end c =
-    let h = (let a = c.args in
-    omega (arith, c.requires.2, section-size a.widths (sent_from a.proposal a.words a.rows.now a.from a.used))) in search rules
+    let h : let a = c.args in 2 + length (entries_bytes a.widths (sent_from a.proposal a.words a.rows.now a.from a.used)) ≤ length a.buf.now = let a = c.args in
+    omega (arith, c.requires.2, section-size a.widths (sent_from a.proposal a.words a.rows.now a.from a.used)) in search rules
 
 pub put_rows-size-requires : goal.put_rows-size-requires
 put_rows-size-requires c =
-    let h = (let a = c.args in
-    omega (arith, c.requires.2, section-size a.widths (sent_from a.proposal a.words a.rows.now a.from a.used))) in search rules
+    let h : let a = c.args in 2 + length (entries_bytes a.widths (sent_from a.proposal a.words a.rows.now a.from a.used)) ≤ length a.buf.now = let a = c.args in
+    omega (arith, c.requires.2, section-size a.widths (sent_from a.proposal a.words a.rows.now a.from a.used)) in search rules
 
 pub overflow_add-result : goal.overflow_add-result
 overflow_add-result c =
-    let h = (let a = c.args in
-    omega (arith, c.requires.2, section-size a.widths (sent_from a.proposal a.words a.rows.now a.from a.used))) in omega (arith, h, c.put_rows-size.ensures.0)
+    let h : let a = c.args in 2 + length (entries_bytes a.widths (sent_from a.proposal a.words a.rows.now a.from a.used)) ≤ length a.buf.now = let a = c.args in
+    omega (arith, c.requires.2, section-size a.widths (sent_from a.proposal a.words a.rows.now a.from a.used)) in omega (arith, h, c.put_rows-size.ensures.0)
 
 pub returns : goal.returns
 returns c =

@@ -16,14 +16,14 @@ pub returns-then-is_wide : goal.returns-then-is_wide
 returns-then-is_wide c =
     let l = c.loop-i in
     let sent = sym c.selects.ensures ∙ c.if-selects.true in
-    let wide = sym c.is_Is_wide.ensures ∙ c.if-is_wide.true in
+    let wide = sym c.is_wide.ensures ∙ c.if-is_wide.true in
     sym (l.invariant ∙ any-hit make_block (wide_block c.args.proposal) _ _ _ c.loop-i-test.true c.block_at-row.ensures (rw (sent, wide) refl))
 
 pub returns-then-is_wide-2 : goal.returns-then-is_wide-2
 returns-then-is_wide-2 c =
     let l = c.loop-i in
     let sent = sym c.selects.ensures ∙ c.if-selects.true in
-    let narrow = sym c.is_Is_wide.ensures ∙ c.if-is_wide.false in
+    let narrow = sym c.is_wide.ensures ∙ c.if-is_wide.false in
     let wide = sym c.is_wide-then-selects.ensures ∙ c.if-is_wide-2.true in
     sym (l.invariant ∙ any-hit make_block (wide_block c.args.proposal) _ _ _ c.loop-i-test.true c.block_at-row.ensures (rw (sent, narrow, wide) refl))
 

@@ -16,7 +16,7 @@ pub returns-then-is_wide : goal.returns-then-is_wide
 returns-then-is_wide c =
     let l = c.loop-i in
     let sent = sym c.selects.ensures ∙ c.if-selects.true in
-    let wide = sym c.is_Is_wide.ensures ∙ c.if-is_wide.true in
+    let wide = sym c.is_wide.ensures ∙ c.if-is_wide.true in
     sym (l.invariant ∙ any-hit make_vote (wide_vote c.args.proposal) _ _ _ c.loop-i-test.true c.vote_at-row.ensures (rw (sent, wide) refl))
 
 pub loop-i-preserved : goal.loop-i-preserved

@@ -17,8 +17,8 @@ pub packet_length-requires : goal.packet_length-requires
 packet_length-requires c =
     let a = c.args in (
       c.upper_bytes-upper.ensures.1,
-      omega (arith, c.count_sent-b.ensures, c.requires.block_count, count_most a.proposal block_words a.blocks.now a.blocks-used 1),
-      omega (arith, c.count_sent-v.ensures, c.requires.vote_count, count_most a.proposal vote_words a.votes.now a.votes-used 0),
+      omega (arith, c.count_sent-b.ensures, c.requires.block_count, count_most a.proposal block_words a.blocks.now a.blocks_used 1),
+      omega (arith, c.count_sent-v.ensures, c.requires.vote_count, count_most a.proposal vote_words a.votes.now a.votes_used 0),
     )
 
 pub returns : goal.returns
@@ -26,4 +26,4 @@ returns c =
     let a = c.args in
     c.packet_length.ensures.0
     ∙ rw (c.upper_bytes-upper.ensures.0, c.count_sent-b.ensures, c.count_sent-v.ensures)
-    (sym (sent-size a.proposal a.width a.blocks.now a.blocks-used a.votes.now a.votes-used c.requires))
+    (sym (sent-size a.proposal a.width a.blocks.now a.blocks_used a.votes.now a.votes_used c.requires))

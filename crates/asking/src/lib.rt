@@ -603,22 +603,27 @@ fn print(to: i32, a: Reply) {
     }
 }
 
-// What a program answers. Reads one byte more than any allows, so that what is too long is seen.
+// Prints what a program answers to an input.
+pub fn answer(program: Program, input: &[u8], to: i32) {
+    match program {
+        Program::Chainask => {
+            print(to, asked(input));
+        }
+        Program::Silentask => {
+            print(to, asked_with_silent(input));
+        }
+        Program::Fitask => {
+            print(to, fit_asked(input));
+        }
+        Program::Pairask => {
+            print(to, pair_asked(input));
+        }
+    }
+}
+
+// The same of what is read. Reads one byte more than any program allows, so that what is too long is seen.
 pub fn ask(program: Program, from: i32, to: i32) {
     let mut buf = [0u8; 65537];
     let n = io::read_full(from, &mut buf);
-    match program {
-        Program::Chainask => {
-            print(to, asked(&buf[..n]));
-        }
-        Program::Silentask => {
-            print(to, asked_with_silent(&buf[..n]));
-        }
-        Program::Fitask => {
-            print(to, fit_asked(&buf[..n]));
-        }
-        Program::Pairask => {
-            print(to, pair_asked(&buf[..n]));
-        }
-    }
+    answer(program, &buf[..n], to);
 }

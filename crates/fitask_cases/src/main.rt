@@ -2,7 +2,8 @@
 #![tactic(auto)]
 
 use asking::Program;
+use std::io;
 
-fn main() {
-    ask_files::ask_all(Program::Fitask);
+fn main(rt: HostRuntime) -> io::Result<()> {
+    ask_files::ask_all(&rt, Program::Fitask)
 }

@@ -1,13 +1,6 @@
 -- `writer::too_wide` meets its contract. Assumes nothing.
-use mathlib.Core.Path.{◌≡◌, refl, sym, ◌∙◌}
-use mathlib.Core.Bool.{◌||◌}
-use lib.ListN.{drop}
-use borrow.Author.Rules.{rules}
-use Rattle.protocol.specs.Lists.{any_pass}
-use Rattle.protocol.specs.Words.{value, is_wide}
-use Rattle.protocol.specs.Calls.Write.{sent_of, too_wide}
-use Rattle.protocol.specs.Lent.{rows_of, make_block, make_vote}
-use Rattle.writer.specs.Sent.{node_in, wide_block, wide_vote}
+use mathlib.Core.Path.{refl, sym, ◌∙◌}
+use Rattle.protocol.specs.Words.{value}
 use Rattle.writer.proofs.Wide.{wide_enough, narrow-met}
 use Rattle.writer.proofs.too_wide.Goals as goal
 

@@ -1,9 +1,7 @@
 -- `move_up` meets its contract. Assumes nothing.
-use borrow.Author.Rules.{rules}
 use native.Mathlib.Omega.{arith}
-use Prim.Native.Nat.{◌+◌, ◌-◌, ◌≤◌}
+use Prim.Native.Nat.{◌+◌}
 use mathlib.Core.Path.{◌≡◌, refl, ap, ◌∙◌}
-use mathlib.Core.Logic.{⊎_elim}
 use lib.ListN.{length}
 use Rattle.protocol.specs.Words.{vote_of}
 use Rattle.protocol.specs.Store.{view_all}
@@ -11,6 +9,7 @@ use Rattle.protocol.specs.Lent.{stored, vote_row}
 use Rattle.protocol.proofs.Store.Since.{since-holds, since-fails}
 use Rattle.changes.proofs.MoveUp.{kept_to, moved_to, move-begin, kept-most, move-turn, move-skip, move-end}
 use Rattle.changes.proofs.move_up.Goals as goal
+use Rattle.changes.proofs.move_up.Goals.{then-from-vote, else-from-vote}
 
 pub loop-i-init : goal.loop-i-init
 loop-i-init c = let b = move-begin c.args.votes.now c.args.used c.args.from in (omega arith, refl, b.0, b.1)
@@ -32,21 +31,18 @@ loop-i-preserved c =
     let n = c.args.used in
     let from = c.args.from in
     let i = c.loop-i.i in
-    let kept = c.loop-i.auto in
+    let kept = c.loop-i.kept in
     let I = c.loop-i.invariant in
-    let m : (c.if-from-vote.votes ≡ moved_to ws n from (i + 1)) × (c.if-from-vote.auto ≡ length (kept_to ws n from (i + 1)))
-    = ⊎_elim (λ w.
-    let q = move-turn ws n from i kept c.loop-i-test.true I.3 I.2 c.vote_at-row.ensures (since-holds from (vote_of c.vote_at-row.result.vote) w.0.taken) w.2.ensures in
-    (w.5 ∙ q.0, w.6 ∙ q.1))
-    (λ w.
-    let q = move-skip ws n from i kept c.loop-i-test.true I.3 I.2 c.vote_at-row.ensures (since-fails from (vote_of c.vote_at-row.result.vote) w.0.left) in
-    (w.1 ∙ q.0, w.2 ∙ q.1))
-    c.if-from-vote.branch in (
-      omega (arith, c.loop-i-test.true),
-      ⊎_elim (λ w. ap length w.5 ∙ w.2.kept.0 ∙ I.1) (λ w. ap length w.1 ∙ I.1) c.if-from-vote.branch,
-      m.0,
-      m.1,
-    )
+    let m : (c.if-from-vote.votes ≡ moved_to ws n from (i + 1)) × (c.if-from-vote.kept ≡ length (kept_to ws n from (i + 1)))
+    = elim c.if-from-vote.branch [
+      | then-from-vote w ↦
+          let q = move-turn ws n from i kept c.loop-i-test.true I.3 I.2 c.vote_at-row.ensures (since-holds from (vote_of c.vote_at-row.result.vote) w.if-from-vote.true) w.put_vote.ensures in
+          (w.votes-is ∙ q.0, w.kept-is ∙ q.1)
+      | else-from-vote w ↦
+          let q = move-skip ws n from i kept c.loop-i-test.true I.3 I.2 c.vote_at-row.ensures (since-fails from (vote_of c.vote_at-row.result.vote) w.if-from-vote.false) in
+          (w.votes-is ∙ q.0, w.kept-is ∙ q.1)
+    ] in
+    (omega (arith, c.loop-i-test.true), omega (arith, c.if-from-vote.auto.votes, I.1), m.0, m.1)
 
 pub returns : goal.returns
 returns c =

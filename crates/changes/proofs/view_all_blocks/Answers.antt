@@ -1,13 +1,10 @@
 -- `view_all_blocks` meets its contract. Assumes nothing.
-use borrow.Author.Rules.{rules}
 use native.Mathlib.Omega.{arith}
-use Prim.Native.Nat.{◌-◌, ◌≤◌}
 use mathlib.Core.Bool.{true, or-true}
-use mathlib.Core.Path.{◌≡◌, refl, sym, ◌∙◌}
-use lib.ListN.{length}
+use mathlib.Core.Path.{refl, sym}
 use Rattle.protocol.specs.Store.{view_all}
 use Rattle.protocol.proofs.Lent.Rows.{block-codec}
-use Rattle.changes.proofs.View.{viewed_to, viewing-begin, viewing-turn, viewing-end}
+use Rattle.changes.proofs.View.{viewing-begin, viewing-turn, viewing-end}
 use Rattle.changes.proofs.view_all_blocks.Goals as goal
 
 pub loop-i-init : goal.loop-i-init
@@ -17,7 +14,7 @@ pub loop-i-preserved : goal.loop-i-preserved
 loop-i-preserved c =
     let a = c.args in (
       omega arith,
-      c.put_block.auto.0 ∙ c.loop-i.invariant.1,
+      omega arith,
       viewing-turn block-codec (λ b. true) a.blocks.now a.used c.loop-i.i (omega arith) c.loop-i.invariant.2 c.block_at-row.ensures
           (sym (or-true c.block_at-row.result.viewed)) c.put_block.ensures,
     )

@@ -1,13 +1,10 @@
 -- `view_all_votes` meets its contract. Assumes nothing.
-use borrow.Author.Rules.{rules}
 use native.Mathlib.Omega.{arith}
-use Prim.Native.Nat.{◌-◌, ◌≤◌}
 use mathlib.Core.Bool.{true, or-true}
-use mathlib.Core.Path.{◌≡◌, refl, sym, ◌∙◌}
-use lib.ListN.{length}
+use mathlib.Core.Path.{refl, sym}
 use Rattle.protocol.specs.Store.{view_all}
 use Rattle.protocol.proofs.Lent.Rows.{vote-codec}
-use Rattle.changes.proofs.View.{viewed_to, viewing-begin, viewing-turn, viewing-end}
+use Rattle.changes.proofs.View.{viewing-begin, viewing-turn, viewing-end}
 use Rattle.changes.proofs.view_all_votes.Goals as goal
 
 pub loop-at-init : goal.loop-at-init
@@ -17,7 +14,7 @@ pub loop-at-preserved : goal.loop-at-preserved
 loop-at-preserved c =
     let a = c.args in (
       omega arith,
-      c.put_vote.auto.0 ∙ c.loop-at.invariant.1,
+      omega arith,
       viewing-turn vote-codec (λ b. true) a.votes.now a.used c.loop-at.at (omega arith) c.loop-at.invariant.2 c.vote_at-row.ensures
           (sym (or-true c.vote_at-row.result.viewed)) c.put_vote.ensures,
     )

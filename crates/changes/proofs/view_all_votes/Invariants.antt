@@ -1,13 +1,10 @@
 -- The loop of `view_all_votes`: its invariant and its measure. Assumes nothing.
-use borrow.Author.Rules.{rules}
-use native.Mathlib.Omega.{arith}
 use Prim.Native.Nat.{◌-◌, ◌≤◌}
-use mathlib.Core.Bool.{true, or-true}
-use mathlib.Core.Path.{◌≡◌, refl, sym, ◌∙◌}
+use mathlib.Core.Bool.{true}
+use mathlib.Core.Path.{◌≡◌}
 use lib.ListN.{length}
-use Rattle.protocol.specs.Store.{view_all}
 use Rattle.protocol.proofs.Lent.Rows.{vote-codec}
-use Rattle.changes.proofs.View.{viewed_to, viewing-begin, viewing-turn, viewing-end}
+use Rattle.changes.proofs.View.{viewed_to}
 use Rattle.changes.proofs.view_all_votes.Given as goal
 
 abbrev pub invariant-loop-at : goal.invariant-loop-at

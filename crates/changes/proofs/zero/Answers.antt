@@ -1,9 +1,7 @@
 -- `zero` meets its contract. Assumes nothing.
-use borrow.Author.Rules.{rules}
 use native.Mathlib.Omega.{arith}
-use Prim.Native.Nat.{◌-◌, ◌≤◌}
 use mathlib.Core.Path.{◌≡◌, refl, ap, ◌∙◌}
-use lib.ListN.{length, length-set}
+use lib.ListN.{length-set}
 use Rattle.changes.proofs.Zeros.{filled_to, fill-begin, fill-turn}
 use Rattle.changes.proofs.zero.Goals as goal
 
@@ -12,8 +10,7 @@ loop-i-init c = (omega arith, c.requires.0, refl, fill-begin 0 c.args.first c.ar
 
 pub loop-i-preserved : goal.loop-i-preserved
 loop-i-preserved c =
-    let l = c.loop-i in
-    (
+    let l = c.loop-i in (
       omega arith,
       omega arith,
       simp length-set l.invariant.2,

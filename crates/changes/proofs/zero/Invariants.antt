@@ -1,10 +1,8 @@
 -- The loop of `zero`: its invariant and its measure. Assumes nothing.
-use borrow.Author.Rules.{rules}
-use native.Mathlib.Omega.{arith}
 use Prim.Native.Nat.{◌-◌, ◌≤◌}
-use mathlib.Core.Path.{◌≡◌, refl, ap, ◌∙◌}
-use lib.ListN.{length, length-set}
-use Rattle.changes.proofs.Zeros.{filled_to, fill-begin, fill-turn}
+use mathlib.Core.Path.{◌≡◌}
+use lib.ListN.{length}
+use Rattle.changes.proofs.Zeros.{filled_to}
 use Rattle.changes.proofs.zero.Given as goal
 
 abbrev pub invariant-loop-i : goal.invariant-loop-i

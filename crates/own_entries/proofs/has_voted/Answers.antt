@@ -1,17 +1,9 @@
 -- `has_voted` meets its contract. Assumes nothing.
-use borrow.Author.Rules.{rules}
-use Prim.Native.Nat.{ℕ, ◌-◌}
-use mathlib.Core.Path.{◌≡◌, sym, ◌∙◌}
-use mathlib.Core.Bool.{Bool, ◌&&◌}
-use lib.Dec.{eqb}
-use lib.ListN.{drop}
-use Rattle.protocol.specs.Entry.{Vote}
-use Rattle.protocol.specs.Lists.{any_pass}
-use Rattle.protocol.specs.Store.{Marked, entries}
-use Rattle.protocol.specs.Lent.{rows_of, make_vote}
+use mathlib.Core.Path.{sym, ◌∙◌}
+use Rattle.protocol.specs.Lent.{make_vote}
 use Rattle.rows.proofs.Rows.{any-hit, any-miss, any-end}
 use Rattle.rows.proofs.Views.{any-entries}
-use Rattle.own_entries.proofs.has_voted.Invariants.{is_of, is_row}
+use Rattle.own_entries.proofs.has_voted.Invariants.{is_row}
 use Rattle.own_entries.proofs.has_voted.Goals as goal
 
 pub loop-i-init : goal.loop-i-init

@@ -1,7 +1,6 @@
 -- The loop of `has_voted`: its invariant and its measure. Assumes nothing.
-use borrow.Author.Rules.{rules}
 use Prim.Native.Nat.{ℕ, ◌-◌}
-use mathlib.Core.Path.{◌≡◌, sym, ◌∙◌}
+use mathlib.Core.Path.{◌≡◌}
 use mathlib.Core.Bool.{Bool, ◌&&◌}
 use lib.Dec.{eqb}
 use lib.ListN.{drop}
@@ -9,8 +8,6 @@ use Rattle.protocol.specs.Entry.{Vote}
 use Rattle.protocol.specs.Lists.{any_pass}
 use Rattle.protocol.specs.Store.{Marked, entries}
 use Rattle.protocol.specs.Lent.{rows_of, make_vote}
-use Rattle.rows.proofs.Rows.{any-hit, any-miss, any-end}
-use Rattle.rows.proofs.Views.{any-entries}
 use Rattle.own_entries.proofs.has_voted.Given as goal
 
 abbrev pub is_of : ℕ → ℕ → Vote → Bool

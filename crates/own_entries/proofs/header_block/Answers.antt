@@ -1,5 +1,4 @@
 -- `header_block` meets its contract: the block that a header names. Assumes nothing.
-use borrow.Author.Rules.{rules}
 use mathlib.Core.Path.{◌∙◌}
 use Rattle.own_entries.proofs.header_block.Goals as goal
 

@@ -1,5 +1,4 @@
 -- `joined` meets its contract. Assumes nothing.
-use borrow.Author.Rules.{rules}
 use Rattle.own_entries.proofs.Slots.{none_before, one-before}
 use Rattle.own_entries.proofs.joined.Goals as goal
 

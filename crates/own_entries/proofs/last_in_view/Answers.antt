@@ -1,15 +1,13 @@
 -- `last_in_view` meets its contract. Assumes nothing.
-use borrow.Author.Rules.{rules}
-use Prim.Native.Nat.{◌-◌, ◌≤◌}
 use mathlib.Core.Path.{◌≡◌, sym, ap, ◌∙◌}
-use mathlib.Core.Logic.{⊎_elim}
 use native.Mathlib.Omega.{arith}
 use Rattle.protocol.specs.Words.{block_of}
 use Rattle.protocol.specs.Store.{view_of}
-use Rattle.protocol.specs.Lent.{rows_of, make_block}
+use Rattle.protocol.specs.Lent.{rows_of}
 use Rattle.protocol.specs.Calls.Write.{last_block}
 use Rattle.own_entries.proofs.Last.{last_turn}
 use Rattle.own_entries.proofs.last_in_view.Goals as goal
+use Rattle.own_entries.proofs.last_in_view.Goals.{then-row, else-row}
 
 pub loop-i-init : goal.loop-i-init
 unfolding last_block view_of rows_of
@@ -21,7 +19,10 @@ loop-i-preserved c =
     let ws = c.args.blocks.now in
     let t = last_turn ws l.i c.block_at-row.ensures in (
       omega (arith, c.loop-i-test.true),
-      ⊎_elim (λ w. ap block_of w.2 ∙ sym (t ∙ rw w.0.taken)) (λ w. ap block_of w.1 ∙ l.invariant.1 ∙ sym (t ∙ rw w.0.left)) c.if-row.branch,
+      elim c.if-row.branch [
+        | then-row w ↦ ap block_of w.last-is ∙ sym (t ∙ rw w.if-row.true)
+        | else-row w ↦ ap block_of w.last-is ∙ l.invariant.1 ∙ sym (t ∙ rw w.if-row.false)
+      ],
     )
 
 pub returns : goal.returns

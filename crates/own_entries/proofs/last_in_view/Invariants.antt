@@ -1,14 +1,10 @@
 -- The loop of `last_in_view`: its invariant and its measure. Assumes nothing.
-use borrow.Author.Rules.{rules}
 use Prim.Native.Nat.{◌-◌, ◌≤◌}
-use mathlib.Core.Path.{◌≡◌, sym, ap, ◌∙◌}
-use mathlib.Core.Logic.{⊎_elim}
-use native.Mathlib.Omega.{arith}
+use mathlib.Core.Path.{◌≡◌}
 use Rattle.protocol.specs.Words.{block_of}
 use Rattle.protocol.specs.Store.{view_of}
 use Rattle.protocol.specs.Lent.{rows_of, make_block}
 use Rattle.protocol.specs.Calls.Write.{last_block}
-use Rattle.own_entries.proofs.Last.{last_turn}
 use Rattle.own_entries.proofs.last_in_view.Given as goal
 
 abbrev pub invariant-loop-i : goal.invariant-loop-i

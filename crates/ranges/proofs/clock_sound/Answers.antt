@@ -1,5 +1,4 @@
 -- `clock_sound` meets its contract. Assumes nothing.
-use borrow.Author.Rules.{rules}
 use borrow.Author.Tests.{le-leb, lt-leb}
 use Rattle.protocol.specs.Sound.{clock_sound}
 use Rattle.ranges.proofs.Beats.{merged-early, merged-late, merged-done}

@@ -1,5 +1,4 @@
 -- `fits` meets its contract. Assumes nothing.
-use borrow.Author.Rules.{rules}
 use mathlib.Core.Path.{ap}
 use lib.Dec.{leb}
 use Rattle.ranges.proofs.fits.Goals as goal

@@ -1,5 +1,4 @@
 -- `nodes_sound` meets its contract. Assumes nothing.
-use borrow.Author.Rules.{rules}
 use mathlib.Core.Path.{ap, ◌∙◌}
 use Rattle.protocol.specs.Sound.{in_range}
 use Rattle.ranges.proofs.nodes_sound.Goals as goal

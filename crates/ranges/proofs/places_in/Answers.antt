@@ -1,5 +1,4 @@
 -- `places_in` meets its contract. Assumes nothing.
-use borrow.Author.Rules.{rules}
 use borrow.Author.Tests.{eq-eqb, ne_eqb}
 use Rattle.protocol.specs.Lent.{places_in}
 use Rattle.ranges.proofs.places_in.Goals as goal

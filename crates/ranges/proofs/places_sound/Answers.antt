@@ -1,6 +1,4 @@
 -- `places_sound` meets its contract. Assumes nothing.
-use borrow.Author.Rules.{rules}
-use borrow.Author.Tests.{not-true, not-false}
 use mathlib.Core.Path.{sym, ◌∙◌}
 use Rattle.protocol.specs.Sound.{places_sound, in_range}
 use Rattle.ranges.proofs.places_sound.Goals as goal

@@ -1,6 +1,5 @@
 -- `settings_sound` meets its contract. Assumes nothing.
-use borrow.Author.Rules.{rules}
-use borrow.Author.Tests.{lt-ltb, le-ltb, not-true, not-false}
+use borrow.Author.Tests.{lt-ltb, le-ltb}
 use mathlib.Core.Path.{sym, ◌∙◌}
 use Rattle.protocol.specs.Sound.{settings_sound}
 use Rattle.ranges.proofs.settings_sound.Goals as goal

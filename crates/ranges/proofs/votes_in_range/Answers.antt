@@ -1,14 +1,9 @@
 -- `votes_in_range` meets its contract. Assumes nothing.
-use borrow.Author.Rules.{rules}
-use native.Mathlib.Omega.{arith}
-use borrow.Author.Tests.{lt-ltb, le-ltb, not-true, not-false}
-use Prim.Native.Nat.{◌-◌}
-use mathlib.Core.Bool.{◌&&◌}
-use mathlib.Core.Path.{◌≡◌, sym, ◌∙◌}
-use Rattle.protocol.specs.Lists.{all_pass}
-use Rattle.protocol.specs.Lent.{rows_of, make_vote, marks_sound}
+use borrow.Author.Tests.{lt-ltb, le-ltb}
+use mathlib.Core.Path.{sym, ◌∙◌}
+use Rattle.protocol.specs.Lent.{make_vote}
 use Rattle.ranges.specs.Rows.{vote_in_range}
-use Rattle.ranges.proofs.Rows.{ranges_from, ranges-begin, ranges-end, mark-fails, row-fails, row-passes}
+use Rattle.ranges.proofs.Rows.{ranges-begin, ranges-end, mark-fails, row-fails, row-passes}
 use Rattle.ranges.proofs.votes_in_range.Goals as goal
 
 pub loop-i-init : goal.loop-i-init

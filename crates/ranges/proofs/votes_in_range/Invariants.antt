@@ -1,14 +1,11 @@
 -- The loop of `votes_in_range`: its invariant and its measure. Assumes nothing.
-use borrow.Author.Rules.{rules}
-use native.Mathlib.Omega.{arith}
-use borrow.Author.Tests.{lt-ltb, le-ltb, not-true, not-false}
 use Prim.Native.Nat.{◌-◌}
 use mathlib.Core.Bool.{◌&&◌}
-use mathlib.Core.Path.{◌≡◌, sym, ◌∙◌}
+use mathlib.Core.Path.{◌≡◌}
 use Rattle.protocol.specs.Lists.{all_pass}
 use Rattle.protocol.specs.Lent.{rows_of, make_vote, marks_sound}
 use Rattle.ranges.specs.Rows.{vote_in_range}
-use Rattle.ranges.proofs.Rows.{ranges_from, ranges-begin, ranges-end, mark-fails, row-fails, row-passes}
+use Rattle.ranges.proofs.Rows.{ranges_from}
 use Rattle.ranges.proofs.votes_in_range.Given as goal
 
 abbrev pub invariant-loop-i : goal.invariant-loop-i

@@ -1,14 +1,12 @@
 -- `writer::count_sent` meets its contract: what is counted, with the rows to come, is the whole. Assumes nothing.
-use Prim.Native.Nat.{◌+◌, ◌-◌, ◌≤◌}
-use mathlib.Core.Path.{◌≡◌, sym, ap, ◌∙◌}
-use mathlib.Core.Logic.{⊎_elim}
+use mathlib.Core.Path.{sym, ap, ◌∙◌}
 use native.Mathlib.Omega.{arith}
 use lib.ListN.{length}
-use borrow.Author.Rules.{rules}
 use Rattle.writer.specs.declared.Row.{Row}
-use Rattle.writer.specs.Rows.{is_sent, sent_from}
+use Rattle.writer.specs.Rows.{is_sent}
 use Rattle.writer.proofs.Rows.{row_fits, count-sent, count-other, count-end}
 use Rattle.writer.proofs.count_sent.Goals as goal
+use Rattle.writer.proofs.count_sent.Goals.{then-is_sent, else-is_sent}
 
 pub loop-i-init : goal.loop-i-init
 loop-i-init c = (omega arith, omega arith)
@@ -23,10 +21,10 @@ loop-i-preserved c =
     let l = c.loop-i in
     let a = c.args in
     let told = ap (λ (r : Row). is_sent a.proposal r) (sym c.row_at-row.ensures) ∙ sym c.is_sent.ensures in
-    ⊎_elim
-    (λ w. (omega (arith, w.1), omega (arith, w.1, l.invariant.1, count-sent a.proposal a.words a.rows.now a.used l.i c.loop-i-test.true (told ∙ w.0.taken))))
-    (λ w. (omega (arith, w.1), omega (arith, w.1, l.invariant.1, count-other a.proposal a.words a.rows.now a.used l.i c.loop-i-test.true (told ∙ w.0.left))))
-    c.if-is_sent.branch
+    elim c.if-is_sent.branch [
+      | then-is_sent w ↦ (omega (arith, w.n-is), omega (arith, w.n-is, l.invariant.1, count-sent a.proposal a.words a.rows.now a.used l.i c.loop-i-test.true (told ∙ w.if-is_sent.true)))
+      | else-is_sent w ↦ (omega (arith, w.n-is), omega (arith, w.n-is, l.invariant.1, count-other a.proposal a.words a.rows.now a.used l.i c.loop-i-test.true (told ∙ w.if-is_sent.false)))
+    ]
 
 pub returns : goal.returns
 returns c =

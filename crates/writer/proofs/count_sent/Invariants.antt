@@ -1,13 +1,8 @@
 -- The loop of `count_sent`: its invariant and its measure. Assumes nothing.
 use Prim.Native.Nat.{◌+◌, ◌-◌, ◌≤◌}
-use mathlib.Core.Path.{◌≡◌, sym, ap, ◌∙◌}
-use mathlib.Core.Logic.{⊎_elim}
-use native.Mathlib.Omega.{arith}
+use mathlib.Core.Path.{◌≡◌}
 use lib.ListN.{length}
-use borrow.Author.Rules.{rules}
-use Rattle.writer.specs.declared.Row.{Row}
-use Rattle.writer.specs.Rows.{is_sent, sent_from}
-use Rattle.writer.proofs.Rows.{row_fits, count-sent, count-other, count-end}
+use Rattle.writer.specs.Rows.{sent_from}
 use Rattle.writer.proofs.count_sent.Given as goal
 
 abbrev pub invariant-loop-i : goal.invariant-loop-i

@@ -1,6 +1,5 @@
 -- `writer::is_sent` meets its contract. Assumes nothing.
 use mathlib.Core.Path.{refl}
-use borrow.Author.Rules.{rules}
 use Rattle.writer.proofs.is_sent.Goals as goal
 
 pub returns-then-proposal : goal.returns-then-proposal

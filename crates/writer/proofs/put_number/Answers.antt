@@ -1,11 +1,8 @@
 -- `writer::put_number` meets its contract: what is written, with the bytes to come, is the whole number. Assumes nothing.
-use Prim.Native.Nat.{◌+◌, ◌-◌, ◌≤◌}
+use Prim.Native.Nat.{◌+◌, ◌-◌}
 use mathlib.Core.Path.{◌≡◌, refl, sym, ◌∙◌}
 use native.Mathlib.Omega.{arith}
-use lib.ListN.{length, length-set}
-use lib.Seq.{sets}
-use borrow.Author.Rules.{rules}
-use Rattle.protocol.specs.Packet.{bytes_of}
+use lib.ListN.{length-set}
 use Rattle.writer.proofs.Positions.{number-turn, number-end}
 use Rattle.writer.proofs.put_number.Goals as goal
 

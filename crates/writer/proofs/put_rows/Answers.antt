@@ -1,10 +1,7 @@
 -- `writer::put_rows` meets its contract: what is written, with the rows to come, is the whole. Assumes nothing.
-use Prim.Native.Nat.{◌+◌, ◌-◌}
-use mathlib.Core.Path.{◌≡◌, refl, sym, ◌∙◌}
+use mathlib.Core.Path.{refl, sym, ◌∙◌}
 use native.Mathlib.Omega.{arith}
 use lib.ListN.{length}
-use lib.Seq.{sets}
-use borrow.Author.Rules.{rules}
 use Rattle.writer.specs.Rows.{sent_from, entries_bytes}
 use Rattle.writer.proofs.Positions.{sets_over}
 use Rattle.writer.proofs.Rows.{row_fits, bytes-turn, length-turn, bytes-end}
@@ -30,9 +27,9 @@ loop-i-preserved c =
     let a = c.args in
     let t = c.loop-i-test.true in
     let e = c.put_row-at.ensures.0 in (
-      c.put_row-at.auto.0 ∙ l.invariant.0,
+      omega arith,
       omega (arith, e, l.invariant.1, length-turn a.proposal a.words a.rows.now a.used a.widths l.i c.row_at-row.result t c.row_at-row.ensures),
-      l.invariant.2 ∙ bytes-turn a.proposal a.words a.rows.now a.used a.widths l.i l.at c.row_at-row.result l.buf c.put_row-at.new.0 t c.row_at-row.ensures c.put_row-at.ensures.1 ∙ rw e refl,
+      l.invariant.2 ∙ bytes-turn a.proposal a.words a.rows.now a.used a.widths l.i l.at c.row_at-row.result l.buf c.put_row-at.new.buf t c.row_at-row.ensures c.put_row-at.ensures.1 ∙ rw e refl,
     )
 
 pub returns : goal.returns

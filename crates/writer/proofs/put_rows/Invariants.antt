@@ -1,13 +1,9 @@
 -- The loop of `put_rows`: its invariant and its measure. Assumes nothing.
 use Prim.Native.Nat.{◌+◌, ◌-◌}
-use mathlib.Core.Path.{◌≡◌, refl, sym, ◌∙◌}
-use native.Mathlib.Omega.{arith}
+use mathlib.Core.Path.{◌≡◌}
 use lib.ListN.{length}
 use lib.Seq.{sets}
-use borrow.Author.Rules.{rules}
 use Rattle.writer.specs.Rows.{sent_from, entries_bytes}
-use Rattle.writer.proofs.Positions.{sets_over}
-use Rattle.writer.proofs.Rows.{row_fits, bytes-turn, length-turn, bytes-end}
 use Rattle.writer.proofs.put_rows.Given as goal
 
 abbrev pub invariant-loop-i : goal.invariant-loop-i

@@ -1,7 +1,6 @@
 -- `writer::upper_bytes` meets its contract. Assumes nothing.
 use mathlib.Core.Path.{refl}
 use native.Mathlib.Omega.{arith}
-use borrow.Author.Rules.{rules}
 use Rattle.writer.proofs.upper_bytes.Goals as goal
 
 pub returns-in-Narrow : goal.returns-in-Narrow

@@ -1,16 +1,10 @@
 -- `writer::wide_block` meets its contract. Assumes nothing.
-use Prim.Native.Nat.{◌-◌}
-use mathlib.Core.Path.{◌≡◌, refl, sym, ◌∙◌}
-use mathlib.Core.Bool.{false}
-use mathlib.Core.Logic.{⊎_elim}
-use lib.ListN.{drop}
-use borrow.Author.Rules.{rules}
-use Rattle.protocol.specs.Lists.{any_pass}
-use Rattle.protocol.specs.Lent.{rows_of, make_block}
-use Rattle.rows.specs.Rows.{marked_block}
+use mathlib.Core.Path.{refl, sym, ◌∙◌}
+use Rattle.protocol.specs.Lent.{make_block}
 use Rattle.rows.proofs.Rows.{any-hit, any-miss, any-end}
 use Rattle.writer.specs.Sent.{wide_block}
 use Rattle.writer.proofs.wide_block.Goals as goal
+use Rattle.writer.proofs.wide_block.Goals.{then-selects+else-is_wide+else-is_wide-2, else-selects}
 
 pub returns-then-is_wide : goal.returns-then-is_wide
 returns-then-is_wide c =
@@ -30,10 +24,11 @@ returns-then-is_wide-2 c =
 pub loop-i-preserved : goal.loop-i-preserved
 loop-i-preserved c =
     let l = c.loop-i in
-    l.invariant ∙ any-miss make_block (wide_block c.args.proposal) _ _ _ c.loop-i-test.true c.block_at-row.ensures ((⊎_elim
-    (λ w. rw (sym c.selects.ensures ∙ w.0.taken, sym w.1.ensures ∙ w.2.left, sym w.3.ensures ∙ w.4.left) refl)
-    (λ w. rw (sym c.selects.ensures ∙ w.left) refl)
-    c.if-selects.branch))
+    l.invariant ∙ any-miss make_block (wide_block c.args.proposal) _ _ _ c.loop-i-test.true c.block_at-row.ensures (elim c.if-selects.branch [
+      | then-selects+else-is_wide+else-is_wide-2 w ↦
+          rw (sym c.selects.ensures ∙ w.if-selects.true, sym w.is_wide.ensures ∙ w.if-is_wide.false, sym w.is_wide-then-selects.ensures ∙ w.if-is_wide-2.false) refl
+      | else-selects w ↦ rw (sym c.selects.ensures ∙ w.if-selects.false) refl
+    ])
 
 pub returns : goal.returns
 returns c = sym (c.loop-i.invariant ∙ any-end make_block _ _ _ _ c.loop-i-test.false)

@@ -1,14 +1,9 @@
 -- The loop of `wide_vote`: its invariant and its measure. Assumes nothing.
 use Prim.Native.Nat.{◌-◌}
-use mathlib.Core.Path.{◌≡◌, refl, sym, ◌∙◌}
-use mathlib.Core.Bool.{false}
-use mathlib.Core.Logic.{⊎_elim}
+use mathlib.Core.Path.{◌≡◌}
 use lib.ListN.{drop}
-use borrow.Author.Rules.{rules}
 use Rattle.protocol.specs.Lists.{any_pass}
 use Rattle.protocol.specs.Lent.{rows_of, make_vote}
-use Rattle.rows.specs.Rows.{marked_vote}
-use Rattle.rows.proofs.Rows.{any-hit, any-miss, any-end}
 use Rattle.writer.specs.Sent.{wide_vote}
 use Rattle.writer.proofs.wide_vote.Given as goal
 

@@ -1,7 +1,6 @@
 -- `writer::written_length` meets its contract. Assumes nothing.
 use mathlib.Core.Path.{sym, ◌∙◌}
 use native.Mathlib.Omega.{arith}
-use borrow.Author.Rules.{rules}
 use Rattle.protocol.specs.Lent.{block_words, vote_words}
 use Rattle.writer.proofs.Rows.{count_most}
 use Rattle.writer.proofs.Sent.{sent-size}

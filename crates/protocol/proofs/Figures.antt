@@ -3,7 +3,7 @@
 use Prim.Native.Nat.{ℕ, ◌+◌, ◌-◌, ◌≤◌}
 use mathlib.Core.Path.{◌≡◌, refl, sym, ap, ◌∙◌}
 use mathlib.Core.Bool.{Bool, true, false, not, ◌||◌, false≢true}
-use mathlib.Core.List.{List, [], ◌∷◌}
+use mathlib.Core.List.{List, [], ◌∷◌, ◌++◌}
 use native.Mathlib.Omega.{arith}
 use lib.Dec.{eqb, ltb}
 use lib.ListN.{length, length-append}
@@ -48,16 +48,22 @@ module _ (s : Settings) (pl : Places) (x : Node) (beat : ℕ) (bytes : List ℕ)
   abbrev f : Figures
   f = figures_of from x p
 
+  -- the last test of Receive is that of the places
+  places-last : (s' : Settings) (pl' : Places) → let last = kept_from s' x.clock.merged in receive_tests s' pl' x beat bytes
+      ≡ packet_tests s' pl' x beat bytes ++ (test 10 (ltb pl'.blocks (length (blocks_after x p)) || ltb pl'.votes (length (votes_after last x p))) ∷ [])
+  unfolding receive_tests packet_tests
+  places-last s' pl' = refl
+
   -- ---- on its own tables
 
   -- no test but that of the places refuses by 10
   not-ten : (v : Verdict) → first (packet_tests s pl x beat bytes) ≡ v → answer_unless v f ≡ in_place_of_ten f (receive s pl x beat bytes).answer
-  unfolding answer_unless in_place_of_ten receive receive_tests unless first
+  unfolding answer_unless in_place_of_ten receive unless first
   not-ten (refuse k) e =
       let other : eqb (refusal_number k) 10 ≡ false
       = not-true _ (refused-has (λ r. not (eqb (refusal_number r) 10)) (packet_tests s pl x beat bytes) k (unfold packet_tests all_pass in refl) (refuse-true (packet_tests s pl x beat bytes) k e)) in
-      rw (first-refuse (packet_tests s pl x beat bytes) _ k e, other)
-  not-ten pass e = rw (first-pass (packet_tests s pl x beat bytes) _ e) (go (ltb pl.blocks (length (blocks_after x p)) || ltb pl.votes (length (votes_after from x p))))
+      rw (places-last s pl, first-refuse (packet_tests s pl x beat bytes) _ k e, other)
+  not-ten pass e = rw (places-last s pl, first-pass (packet_tests s pl x beat bytes) _ e) (go (ltb pl.blocks (length (blocks_after x p)) || ltb pl.votes (length (votes_after from x p))))
     where
       go : (b : Bool) → answer_unless pass f ≡ in_place_of_ten f (unless (first (test 10 b ∷ [])) x (receive_answer from x beat p) (receive_into from (viewed_at_once x beat p) beat x p)).answer
       go true = refl
@@ -120,14 +126,14 @@ module _ (s : Settings) (pl : Places) (x : Node) (beat : ℕ) (bytes : List ℕ)
       tests-alike = rw (sound-holds G, sound-holds good, alike)
 
       enough : first (packet_tests s' pl' x beat bytes) ≡ pass → first (receive_tests s' pl' x beat bytes) ≡ pass
-      unfolding receive_tests first figures_of
+      unfolding first figures_of
       enough e =
-          first-pass (packet_tests s' pl' x beat bytes) _ e
+          ap first (places-last s' pl') ∙ first-pass (packet_tests s' pl' x beat bytes) _ e
           ∙ rw (le-ltb pl'.blocks (length (blocks_after x p)) (omega (arith, b)), le-ltb pl'.votes (length (votes_after from x p)) (omega (arith, v)))
 
       turned-away : (k : Refusal) → first (packet_tests s' pl' x beat bytes) ≡ refuse k → (receive s' pl' x beat bytes).answer ≡ refused k
-      unfolding receive receive_tests unless
-      turned-away k e = rw (first-refuse (packet_tests s' pl' x beat bytes) _ k e)
+      unfolding receive unless
+      turned-away k e = rw (places-last s' pl', first-refuse (packet_tests s' pl' x beat bytes) _ k e)
 
       -- then Receive is carried out, and Write after it
       received : first (packet_tests s' pl' x beat bytes) ≡ pass → receive s' pl' x beat bytes ≡ record { answer = done (receive_answer from x beat p); node = after }

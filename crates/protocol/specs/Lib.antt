@@ -21,4 +21,5 @@ pub mod RoundTrip
 pub mod CallList
 pub mod Removal
 pub mod Rack
+pub mod RackPackets
 pub mod Figures

@@ -4,30 +4,20 @@ use Rattle.std.specs.Prelude.{ℕ, ◌≤◌, ◌≡◌, Bool, true, false, ◌|
 use Rattle.protocol.specs.declared.Settings.{Settings}
 use Rattle.protocol.specs.declared.Profile.TheVariants.{Loom}
 use Rattle.protocol.specs.declared.Width.{Width}
-use Rattle.protocol.specs.Limits.{keeping_to}
 use Rattle.protocol.specs.Store.{Places, Node}
-use Rattle.protocol.specs.Refusal.{refusal_number, Answer, refused, done}
+use Rattle.protocol.specs.Refusal.{done}
 use Rattle.protocol.specs.Calls.Open.{open_node}
 use Rattle.protocol.specs.Calls.Query.{head_query, deep_query, fast_query, settled_query}
-use Rattle.protocol.specs.Calls.Fit.{fit_query}
-use Rattle.protocol.specs.Calls.Compare.{Comparison, first_refused, second_refused, compared, compare_query}
 use Rattle.protocol.specs.Calls.Write.{write}
-use Rattle.protocol.specs.CallList.{Call, call_answer, refused_by, meets, after_calls, meets_none}
+use Rattle.protocol.specs.CallList.{Call, call_answer, meets, after_calls, meets_none}
 
 -- the same settings with a loom's limits
 abbrev pub as_loom : Settings → Settings
-as_loom s = keeping_to Loom s
+as_loom s = record { profile = Loom; nodes = s.nodes; own = s.own; expiry = s.expiry; depth = s.depth }
 
 -- "until the rack lacks places or meets a packet too long for it": refused by 10 or 24
 abbrev pub by_room : ℕ → Bool
 by_room k = eqb k 10 || eqb k 24
-
--- of Compare: it, or one of its packets
-unfoldable pub compared_by : (ℕ → Bool) → Answer Comparison → Bool
-compared_by these (refused k) = these (refusal_number k)
-compared_by these (done (first_refused k)) = these (refusal_number k)
-compared_by these (done (second_refused k)) = these (refusal_number k)
-compared_by these (done (compared f)) = false
 
 unfoldable pub RackAsLoom : Type 0
 RackAsLoom =
@@ -40,17 +30,13 @@ RackAsLoom =
     (cs : List Call) → meets_none by_room s pl (open_node s pl old).node cs ≡ true →
     let x = after_calls s pl (open_node s pl old).node cs in
     let y = after_calls (as_loom s) pl' (open_node (as_loom s) pl' old').node cs in
-    -- "behaves as that loom": they hold the same entries, marks and clock; the next call that the rack does not refuse so, every question about a slot,
-    -- every question about packets that it does not refuse so, and every Write is answered alike, with the same buffer
+    -- "behaves as that loom": they hold the same entries, marks and clock; the next call that the rack does not refuse so, every question and every
+    -- Write is answered alike, with the same buffer
     (x ≡ y)
     × ((c : Call) → meets by_room s pl x c ≡ false → call_answer s pl x c ≡ call_answer (as_loom s) pl' y c)
     × ((t : ℕ) → head_query s pl x t ≡ head_query (as_loom s) pl' y t)
     × ((t : ℕ) → deep_query s pl x t ≡ deep_query (as_loom s) pl' y t)
     × ((t : ℕ) → fast_query s pl x t ≡ fast_query (as_loom s) pl' y t)
     × ((t set : ℕ) → settled_query s pl x t set ≡ settled_query (as_loom s) pl' y t set)
-    × ((beat : ℕ) (bytes : List ℕ) → refused_by by_room (fit_query s pl x beat bytes) ≡ false →
-    fit_query s pl x beat bytes ≡ fit_query (as_loom s) pl' y beat bytes)
-    × ((beat : ℕ) (one two : List ℕ) → compared_by by_room (compare_query s pl x beat one two) ≡ false →
-    compare_query s pl x beat one two ≡ compare_query (as_loom s) pl' y beat one two)
     × ((proposal : Bool) (width : Width) (buffer : List ℕ) →
     write s pl x proposal width buffer ≡ write (as_loom s) pl' y proposal width buffer)

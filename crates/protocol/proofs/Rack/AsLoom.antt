@@ -25,7 +25,8 @@ use Rattle.protocol.specs.Calls.Fit.{fit_query}
 use Rattle.protocol.specs.Calls.Compare.{fresh_verdict, refused_or, comparison, compare_query}
 use Rattle.protocol.specs.Calls.Write.{proposed_now, write_tests, write}
 use Rattle.protocol.specs.CallList.{Call, Receive, Propose, Vote, Merge, after_call, call_answer, received, named, merged, refused_by, meets, after_calls, meets_none}
-use Rattle.protocol.specs.Rack.{as_loom, by_room, compared_by, RackAsLoom}
+use Rattle.protocol.specs.Rack.{as_loom, by_room, RackAsLoom}
+use Rattle.protocol.specs.RackPackets.{compared_by, RackPacketsAsLoom}
 use Rattle.protocol.proofs.Basics.Tests.{and_left, and_right, neither}
 use Rattle.protocol.proofs.Store.Sound.{sound-true, sound-holds, sound-keeping-to, fresh-sound}
 use Rattle.protocol.proofs.Calls.Open.{opened, open-settings, open-places, open-sound}
@@ -203,4 +204,14 @@ rack-as-loom s pl pl' old old' d d' hb hv cs n =
     let R : Roomier s pl pl' = record { old = old'; opened = d'; blocks = hb; votes = hv } in
     let r = after_same R fresh (rw e at (open-sound s pl old d)) cs (rw e at n) in
     let x = after_calls s pl fresh cs in
-    rw (e, e', ← r.0) (refl, call-answer-same R x r.1, head-same R x r.1, deep-same R x r.1, fast-same R x r.1, settled_same R x r.1, fit_same R x r.1, compare_same R x r.1, write_same R x r.1)
+    rw (e, e', ← r.0) (refl, call-answer-same R x r.1, head-same R x r.1, deep-same R x r.1, fast-same R x r.1, settled_same R x r.1, write_same R x r.1)
+
+pub rack-packets-as-loom : RackPacketsAsLoom
+unfolding RackPacketsAsLoom
+rack-packets-as-loom s pl pl' old old' d d' hb hv cs n =
+    let e = opened s pl old d in
+    let e' = opened (as_loom s) pl' old' d' in
+    let R : Roomier s pl pl' = record { old = old'; opened = d'; blocks = hb; votes = hv } in
+    let r = after_same R fresh (rw e at (open-sound s pl old d)) cs (rw e at n) in
+    let x = after_calls s pl fresh cs in
+    rw (e, e', ← r.0) (fit_same R x r.1, compare_same R x r.1)

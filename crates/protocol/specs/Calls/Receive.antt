@@ -80,7 +80,21 @@ stood_on bs p b =
 
 -- ---- the call
 
--- all tests but that of the places
+unfoldable pub receive_tests : Settings → Places → Node → ℕ → List ℕ → List Test
+receive_tests s pl x beat bytes =
+    let p = packet_of bytes in
+    let from = kept_from s x.clock.merged in
+    unsound s pl x
+    ∷ wrong_beat x beat
+    ∷ test 24 ((limits_of s.profile).too_long (length bytes))
+    ∷ test 8 (not (well_formed bytes))
+    ∷ test_section 9 (first_bad_block (beat / 3) (entries x.blocks) p.blocks) p.blocks
+    ∷ test_section 20 (first_bad_vote s.nodes (beat / 3) (blocks_after x p) p.votes) p.votes
+    ∷ test 21 (not (header_allowed p))
+    ∷ test 10 (ltb pl.blocks (length (blocks_after x p)) || ltb pl.votes (length (votes_after from x p)))
+    ∷ []
+
+-- the same without that of the places
 unfoldable pub packet_tests : Settings → Places → Node → ℕ → List ℕ → List Test
 packet_tests s pl x beat bytes =
     let p = packet_of bytes in
@@ -92,13 +106,6 @@ packet_tests s pl x beat bytes =
     ∷ test_section 20 (first_bad_vote s.nodes (beat / 3) (blocks_after x p) p.votes) p.votes
     ∷ test 21 (not (header_allowed p))
     ∷ []
-
-unfoldable pub receive_tests : Settings → Places → Node → ℕ → List ℕ → List Test
-receive_tests s pl x beat bytes =
-    let p = packet_of bytes in
-    let from = kept_from s x.clock.merged in
-    packet_tests s pl x beat bytes
-    ++ (test 10 (ltb pl.blocks (length (blocks_after x p)) || ltb pl.votes (length (votes_after from x p))) ∷ [])
 
 -- how many of a packet's entries are new
 abbrev pub new_block_count : Node → Packet → ℕ
@@ -116,8 +123,8 @@ pub record Received : Type 0 where
 unfoldable pub receive_answer : ℕ → Node → ℕ → Packet → Received
 receive_answer from x beat p =
     record {
-      new_blocks = new_block_count x p;
-      new_votes = new_vote_count from x p;
+      new_blocks = length (blocks_after x p) - length x.blocks;
+      new_votes = length (votes_after from x p) - length x.votes;
       viewed = viewed_at_once x beat p;
     }
 

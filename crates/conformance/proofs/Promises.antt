@@ -14,7 +14,8 @@ use Rattle.protocol.specs.Lists.{any_pass, all_pass}
 use Rattle.protocol.specs.Store.{Places, Node}
 use Rattle.protocol.specs.Refusal.{by, by_entry, Test, refused, done, Outcome}
 use Rattle.protocol.specs.Refusal as rules
-use Rattle.protocol.specs.Calls.Receive.{packet_tests, receive_tests}
+use Rattle.protocol.specs.Calls.Receive.{receive_tests}
+use Rattle.protocol.specs.Calls.Fit.{packet_tests}
 use Rattle.protocol.specs.Calls.Propose.{propose_tests}
 use Rattle.protocol.specs.Calls.Vote.{vote_tests}
 use Rattle.protocol.specs.Calls.Merge.{merge_tests}

@@ -15,7 +15,8 @@ use Rattle.protocol.specs.Store.{waiting, in_view, all_waiting, entries, view_of
 use Rattle.protocol.specs.Sound.{in_range, settings_sound, places_sound, clock_sound, rest_sound, blocks_sound, votes_sound, sound}
 use Rattle.protocol.specs.Packet.{bytes_of, number_of, number_at, flat, section, entries_at, head_bytes, block_bytes, vote_bytes, packet_as, read_block, read_vote, packet_at, packet_bytes, packet_of, header_formed, well_formed}
 use Rattle.protocol.specs.Refusal.{by, by_entry, first, Answer, refused, Outcome, unless}
-use Rattle.protocol.specs.Calls.Receive.{add_block, add_blocks, add_vote, add_votes, blocks_after, votes_after, known_as, block_allowed, vote_allowed, header_allowed, first_bad_block, first_bad_vote, viewed_at_once, stood_on, packet_tests, receive_tests, Received, receive_answer, receive_into, receive}
+use Rattle.protocol.specs.Calls.Receive.{add_block, add_blocks, add_vote, add_votes, blocks_after, votes_after, known_as, block_allowed, vote_allowed, header_allowed, first_bad_block, first_bad_vote, viewed_at_once, stood_on, receive_tests, Received, receive_answer, receive_into, receive}
+use Rattle.protocol.specs.Calls.Fit.{packet_tests}
 
 abbrev pub block : ℕ → ℕ → ℕ → Block
 block x p s = record { number = x; parent = p; slot = s }

@@ -18,9 +18,9 @@ use Rattle.protocol.specs.Store.{entries, kept_from, Places, Node}
 use Rattle.protocol.specs.Sound.{settings_sound, places_sound, sound}
 use Rattle.protocol.specs.Packet.{Packet, packet_of}
 use Rattle.protocol.specs.Refusal.{Refusal, refusal_number, test, Verdict, pass, refuse, first, refused, done, unless, answer_unless}
-use Rattle.protocol.specs.Calls.Receive.{blocks_after, votes_after, viewed_at_once, packet_tests, receive_tests, receive_answer, receive_into, receive}
+use Rattle.protocol.specs.Calls.Receive.{blocks_after, votes_after, viewed_at_once, receive_tests, receive_answer, receive_into, receive}
 use Rattle.protocol.specs.Calls.Write.{after_genesis, gossip_of, sent_of, packet_out, too_wide, write_unless, write}
-use Rattle.protocol.specs.Calls.Fit.{Figures, figures_of, fit_query}
+use Rattle.protocol.specs.Calls.Fit.{packet_tests, Figures, figures_of, fit_query}
 use Rattle.protocol.specs.Removal.{others}
 use Rattle.protocol.specs.Figures.{in_place_of_ten, figures_in, receive_then_write, FiguresFound}
 use Rattle.protocol.proofs.Packet.Bytes.{packet-length}

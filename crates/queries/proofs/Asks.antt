@@ -22,8 +22,7 @@ use Rattle.protocol.specs.Refusal as rules
 use Rattle.protocol.specs.Refusal.{done, unsound}
 use Rattle.protocol.specs.Calls.Vote.{head_of}
 use Rattle.protocol.specs.Calls.Query.{query_tests, deep_of, fast_of, fast_query, settled_tests, settled_of}
-use Rattle.protocol.specs.Calls.Receive.{packet_tests, new_block_count, new_vote_count}
-use Rattle.protocol.specs.Calls.Fit.{figures_of}
+use Rattle.protocol.specs.Calls.Fit.{packet_tests, new_block_count, new_vote_count, figures_of}
 use Rattle.protocol.specs.Calls.Compare.{Comparison, compared, fresh_verdict, refused_or, comparison, compare_query}
 use Rattle.protocol.specs.Lent.{Lent, rows_of, make_block, make_vote, places_of, node_of, ask_lent}
 use Rattle.protocol.proofs.Basics.Tests.{neither}

@@ -9,13 +9,13 @@ use Rattle.protocol.specs.declared.Width.{Width}
 use Rattle.protocol.specs.Store.{kept_from}
 use Rattle.protocol.specs.Packet.{packet_of}
 use Rattle.protocol.specs.Refusal.{Refusal, pass, refuse, refused, done, unsound}
-use Rattle.protocol.specs.Calls.Receive.{viewed_at_once, packet_tests, receive_tests, receive_answer, receive_into, receive}
+use Rattle.protocol.specs.Calls.Receive.{viewed_at_once, receive_tests, receive_answer, receive_into, receive}
 use Rattle.protocol.specs.Calls.Propose.{base_of, propose_tests, propose_into, propose}
 use Rattle.protocol.specs.Calls.Vote.{head_of, vote_tests, vote_into, vote}
 use Rattle.protocol.specs.Calls.Merge.{merge_tests, merge_into, merge}
 use Rattle.protocol.specs.Calls.Query.{query_tests, deep_of, fast_of, settled_tests, settled_of, head_query, deep_query, fast_query, settled_query}
 use Rattle.protocol.specs.Calls.Write.{packet_out, over, write_tests, write}
-use Rattle.protocol.specs.Calls.Fit.{figures_of, fit_query}
+use Rattle.protocol.specs.Calls.Fit.{packet_tests, figures_of, fit_query}
 use Rattle.protocol.specs.Calls.Compare.{comparison, compare_query}
 use Rattle.protocol.specs.Lent.{Lent, places_of, node_of, store_node, call_lent, ask_lent, write_lent}
 use Rattle.verdicts.specs.Lent.{lent_verdict}

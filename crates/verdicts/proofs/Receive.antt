@@ -14,7 +14,8 @@ use Rattle.protocol.specs.Store.{entries, kept_from}
 use Rattle.protocol.specs.Packet.{packet_of, well_formed}
 use Rattle.protocol.specs.Refusal as rules
 use Rattle.protocol.specs.Refusal.{by, by_entry, test, test_section, pass, refuse, first}
-use Rattle.protocol.specs.Calls.Receive.{add_blocks, add_since, header_allowed, first_bad_block, first_bad_vote, blocks_after, votes_after, packet_tests, receive_tests}
+use Rattle.protocol.specs.Calls.Receive.{add_blocks, add_since, header_allowed, first_bad_block, first_bad_vote, blocks_after, votes_after, receive_tests}
+use Rattle.protocol.specs.Calls.Fit.{packet_tests}
 use Rattle.protocol.specs.Lent.{block_words, vote_words, Lent, rows_of, make_block, make_vote, places_in, places_of, node_of}
 use Rattle.verdicts.specs.declared.Verdict.{Verdict}
 use Rattle.verdicts.specs.declared.Verdict.TheVariants.{Pass, Refuse}

@@ -10,7 +10,8 @@ use Rattle.protocol.specs.Refusal.{by, Test, pass, refuse, first, unsound}
 use Rattle.protocol.specs.Lent.{Lent, places_of, node_of, lent_sound}
 use Rattle.protocol.proofs.Lent.Memory.{lent-true}
 use Rattle.protocol.proofs.Calls.Refusal.{first-pass, first-refuse}
-use Rattle.protocol.specs.Calls.Receive.{packet_tests, receive_tests}
+use Rattle.protocol.specs.Calls.Receive.{receive_tests}
+use Rattle.protocol.specs.Calls.Fit.{packet_tests}
 use Rattle.protocol.specs.Calls.Propose.{propose_tests}
 use Rattle.protocol.specs.Calls.Vote.{vote_tests}
 use Rattle.verdicts.specs.declared.Refusal.{Refusal}

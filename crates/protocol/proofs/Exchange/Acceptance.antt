@@ -18,7 +18,8 @@ use Rattle.protocol.specs.Store.{entries, kept_from, Places, Node}
 use Rattle.protocol.specs.Sound.{in_range, sound}
 use Rattle.protocol.specs.Packet.{Packet, packet_of, well_formed}
 use Rattle.protocol.specs.Refusal.{by, first, done, pass, refuse, unless}
-use Rattle.protocol.specs.Calls.Receive.{known_as, add_block, add_blocks, block_allowed, first_bad_block, blocks_after, votes_after, header_allowed, viewed_at_once, receive_answer, receive_into, packet_tests, receive_tests, receive}
+use Rattle.protocol.specs.Calls.Receive.{known_as, add_block, add_blocks, block_allowed, first_bad_block, blocks_after, votes_after, header_allowed, viewed_at_once, receive_answer, receive_into, receive_tests, receive}
+use Rattle.protocol.specs.Calls.Fit.{packet_tests}
 use Rattle.protocol.specs.Calls.Write.{after_genesis}
 use Rattle.protocol.proofs.Basics.Tests.{both, and_left, and_right}
 use Rattle.protocol.proofs.Chain.Find.{find-in}

@@ -12,7 +12,8 @@ use Rattle.protocol.specs.Limits.{limits_of}
 use Rattle.protocol.specs.Store.{entries, kept_from, Places, Node}
 use Rattle.protocol.specs.Packet.{Packet, packet_bytes, packet_of, header_formed, well_formed}
 use Rattle.protocol.specs.Refusal.{Test, test, test_section, first, Outcome, unless, unsound, wrong_beat}
-use Rattle.protocol.specs.Calls.Receive.{header_allowed, blocks_after, votes_after, first_bad_block, first_bad_vote, viewed_at_once, stood_on, Received, receive_answer, receive_into, packet_tests, receive_tests, receive}
+use Rattle.protocol.specs.Calls.Receive.{header_allowed, blocks_after, votes_after, first_bad_block, first_bad_vote, viewed_at_once, stood_on, Received, receive_answer, receive_into, receive_tests, receive}
+use Rattle.protocol.specs.Calls.Fit.{packet_tests}
 use Rattle.protocol.specs.RoundTrip.{WidthUnseen}
 use Rattle.protocol.proofs.Packet.Ranges.{BlockFits, VoteFits, FieldsFit, InRange}
 use Rattle.protocol.proofs.Packet.Numbers.{bytes-by-index, each_holds, each-true}

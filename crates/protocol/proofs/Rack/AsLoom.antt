@@ -16,12 +16,12 @@ use Rattle.protocol.specs.Sound.{sound}
 use Rattle.protocol.specs.Packet.{packet_of}
 use Rattle.protocol.specs.Refusal.{Refusal, refusal_number, Test, test, Verdict, pass, refuse, first, done, answer_unless}
 use Rattle.protocol.specs.Calls.Open.{open_node}
-use Rattle.protocol.specs.Calls.Receive.{blocks_after, votes_after, packet_tests, receive_tests, receive}
+use Rattle.protocol.specs.Calls.Receive.{blocks_after, votes_after, receive_tests, receive}
 use Rattle.protocol.specs.Calls.Propose.{base_of, propose_tests, propose}
 use Rattle.protocol.specs.Calls.Vote.{head_of, vote_tests, vote}
 use Rattle.protocol.specs.Calls.Merge.{merge_tests, merge}
 use Rattle.protocol.specs.Calls.Query.{query_tests, deep_of, fast_of, settled_tests, settled_of, head_query, deep_query, fast_query, settled_query}
-use Rattle.protocol.specs.Calls.Fit.{fit_query}
+use Rattle.protocol.specs.Calls.Fit.{packet_tests, fit_query}
 use Rattle.protocol.specs.Calls.Compare.{fresh_verdict, refused_or, comparison, compare_query}
 use Rattle.protocol.specs.Calls.Write.{proposed_now, write_tests, write}
 use Rattle.protocol.specs.CallList.{Call, Receive, Propose, Vote, Merge, after_call, call_answer, received, named, merged, refused_by, meets, after_calls, meets_none}

@@ -19,7 +19,8 @@ use Rattle.protocol.specs.Sound.{in_range, settings_sound, places_sound, clock_s
 use Rattle.protocol.specs.Packet.{bytes_of, number_of, number_at, flat, section, entries_at, head_bytes, block_bytes, vote_bytes, packet_as, read_block, read_vote, packet_at, packet_bytes, packet_of, header_formed, well_formed}
 use Rattle.protocol.specs.Refusal.{by, first, refused, done, unless}
 use Rattle.protocol.specs.Calls.Open.{open_tests, open_node}
-use Rattle.protocol.specs.Calls.Receive.{add_block, add_blocks, add_vote, add_votes, blocks_after, votes_after, known_as, block_allowed, vote_allowed, header_allowed, first_bad_block, first_bad_vote, viewed_at_once, packet_tests, receive_tests, receive_answer, receive_into, receive}
+use Rattle.protocol.specs.Calls.Receive.{add_block, add_blocks, add_vote, add_votes, blocks_after, votes_after, known_as, block_allowed, vote_allowed, header_allowed, first_bad_block, first_bad_vote, viewed_at_once, receive_tests, receive_answer, receive_into, receive}
+use Rattle.protocol.specs.Calls.Fit.{packet_tests}
 use Rattle.protocol.specs.Calls.Propose.{base_of, propose_tests, propose}
 use Rattle.protocol.specs.Calls.Vote.{head_of, vote_tests, vote}
 use Rattle.protocol.specs.Calls.Merge.{merge_tests, merge}

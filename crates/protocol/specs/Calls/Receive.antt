@@ -94,26 +94,6 @@ receive_tests s pl x beat bytes =
     ∷ test 10 (ltb pl.blocks (length (blocks_after x p)) || ltb pl.votes (length (votes_after from x p)))
     ∷ []
 
--- the same without that of the places
-unfoldable pub packet_tests : Settings → Places → Node → ℕ → List ℕ → List Test
-packet_tests s pl x beat bytes =
-    let p = packet_of bytes in
-    unsound s pl x
-    ∷ wrong_beat x beat
-    ∷ test 24 ((limits_of s.profile).too_long (length bytes))
-    ∷ test 8 (not (well_formed bytes))
-    ∷ test_section 9 (first_bad_block (beat / 3) (entries x.blocks) p.blocks) p.blocks
-    ∷ test_section 20 (first_bad_vote s.nodes (beat / 3) (blocks_after x p) p.votes) p.votes
-    ∷ test 21 (not (header_allowed p))
-    ∷ []
-
--- how many of a packet's entries are new
-abbrev pub new_block_count : Node → Packet → ℕ
-new_block_count x p = length (blocks_after x p) - length x.blocks
-
-abbrev pub new_vote_count : ℕ → Node → Packet → ℕ
-new_vote_count from x p = length (votes_after from x p) - length x.votes
-
 -- how many entries were new, and whether the packet came into view
 pub record Received : Type 0 where
   pub new_blocks : ℕ

@@ -360,9 +360,18 @@ pub fn header_of(bytes: &[u8]) -> Header
     }
 }
 
-// The length of a packet with so many blocks and votes, where the upper half of a number takes so many bytes. They may be more than the two
-// bytes of a count hold, as many as a table and a packet have together.
+// The length of a packet with so many blocks and votes, where the upper half of a number takes so many bytes.
 pub fn packet_length(upper: usize, blocks: u64, votes: u64) -> u64
+    requires { (upper ≤ 8) × (blocks < 65536) × (votes < 65536) }
+    ensures { (result ≡ size_of (8 + upper) blocks votes) × (result ≤ 3735520) }
+{
+    let block = block_bytes(upper) as u64;
+    let vote = vote_bytes(upper) as u64;
+    17 + upper as u64 + block * blocks + vote * votes
+}
+
+// The same where they may be more than the two bytes of a count hold, as many as a table and a packet have together.
+pub fn summed_length(upper: usize, blocks: u64, votes: u64) -> u64
     requires { (upper ≤ 8) × (blocks < 131072) × (votes < 131072) }
     ensures { (result ≡ size_of (8 + upper) blocks votes) × (result ≤ 7471072) }
 {

@@ -1,7 +1,7 @@
 -- One call after another on lent memory: the verdict of its answer, the memory that it leaves, and what `and_then` is. Assumes nothing.
-use Prim.Native.Nat.{ℕ, ◌+◌, ◌*◌, ◌-◌, ◌≤◌}
+use Prim.Native.Nat.{ℕ, ◌-◌, ◌≤◌}
 use mathlib.Core.Path.{◌≡◌, refl, ap, sym, ◌∙◌}
-use mathlib.Core.Bool.{Bool, true, cond}
+use mathlib.Core.Bool.{true}
 use mathlib.Core.List.{List}
 use native.Mathlib.Omega.{arith}
 use native.Mathlib.Nat.{le_of_eq}
@@ -12,7 +12,6 @@ use Rattle.protocol.specs.declared.Settings.{Settings}
 use Rattle.protocol.specs.Store.{Places, Node}
 use Rattle.protocol.specs.Refusal as rules
 use Rattle.protocol.specs.Calls.Open.{open_node}
-use Rattle.protocol.specs.Calls.Fit.{fit_query}
 use Rattle.protocol.specs.Packet.{number_at}
 use Rattle.protocol.specs.Lent.{block_words, vote_words, Lent, places_in, places_of, node_of, lent_sound, open_lent, call_lent}
 use Rattle.protocol.proofs.Lent.Open.{open_lent_lem, open-lent-answer, open-lent-node}
@@ -24,10 +23,10 @@ use Rattle.verdicts.specs.Verdict.{refusal_of, verdict_of}
 use Rattle.answers.specs.declared.Answer.{Answer}
 use Rattle.answers.specs.Answers.{Value, answer_of, map_answer}
 use Rattle.answers.specs.Promises.{Leaves, Opens}
-use Rattle.asking.specs.Reply.{verdict_in}
-use Rattle.asking.specs.Ask.{then_answer, and_then, Findings, figures, ask_all, ask_settled, ask_for, open_and_ask, open_and_compare, settings_in, ask_after, ask_with_silent, ask_two}
+use Rattle.asking.specs.ChainAnswer.{verdict_in}
+use Rattle.asking.specs.Ask.{then_answer, and_then, Findings, ask_all, ask_settled, ask_for, open_and_ask, settings_in, ask_after, ask_with_silent}
 use Rattle.asking.specs.declared.Question.{Question}
-use Rattle.asking.specs.declared.Question.TheVariants.{Chain, Settled, Fit}
+use Rattle.asking.specs.declared.Question.TheVariants.{Chain, Settled}
 
 -- ---- the verdict in an answer
 
@@ -119,30 +118,13 @@ pub places-are : (m : Lent) {b v : ℕ} → places_in block_words m.blocks ≡ b
 unfolding places_of
 places-are m b v = λ i. record { blocks = b i; votes = v i }
 
--- the code lends the bytes from one on to the last
-rest-is : (n : ℕ) (bs : List ℕ) → take (length bs - n) (drop n bs) ≡ drop n bs
-rest-is n bs = take_all (length bs - n) (drop n bs) (le_of_eq (length-drop n bs))
-
--- it lends the first packet's bytes, and those from its end on to the last
-abbrev first_lent : ℕ → List ℕ → List ℕ
-first_lent n bs = take (13 + n - 13) (drop 13 bs)
-
-abbrev second_lent : ℕ → List ℕ → List ℕ
-second_lent n bs = take (length bs - (13 + n)) (drop (13 + n) bs)
-
-module _ (bs : List ℕ) {s : Settings} {t : ℕ} {r : rules.Answer Findings} (S : s ≡ settings_in bs) (T : t ≡ number_at bs 5 4) where
-  pub ask-within : (n : ℕ) (question : Question) → n ≤ length bs → length bs ≤ 32768
-      → r ≡ open_and_ask s t (take (length bs - n) (drop n bs)) (ask_for s (3 * t + 2) t question bs) → r ≡ ask_after n question bs
-  unfolding ask_after
-  ask-within n question a b h = h ∙ rw (le-ltb _ _ a, le-ltb _ _ b, rest-is n bs, S, T) refl
-
-  module _ {n : ℕ} (a : 13 ≤ length bs) (b : length bs ≤ 65536) (e : n ≡ number_at bs 9 4) (l : n ≤ length bs - 13) where
-    pub two-within : (both : Bool) → r ≡ cond both (open_and_compare s t (first_lent n bs) (second_lent n bs)) (open_and_ask s t (first_lent n bs) (ask_for s (3 * t + 2) t Fit (second_lent n bs)))
-        → r ≡ ask_two both bs
-    unfolding ask_two
-    two-within both h =
-        let z : 13 + n - 13 ≡ n = omega arith in
-        h ∙ rw (le-ltb _ _ a, le-ltb _ _ b, ← e, le-ltb _ _ l, rest-is (13 + n) bs, z, S, T) refl
+-- the code lends the bytes from the n-th to the last
+pub ask-within : (bs : List ℕ) (n : ℕ) (question : Question) {s : Settings} {t : ℕ} {r : rules.Answer Findings} → n ≤ length bs → length bs ≤ 32768 → s ≡ settings_in bs
+    → t ≡ number_at bs 5 4 → r ≡ open_and_ask s t question (take (length bs - n) (drop n bs)) → r ≡ ask_after n question bs
+unfolding ask_after
+ask-within bs n question a b s t h =
+    let rest = take_all (length bs - n) (drop n bs) (le_of_eq (length-drop n bs)) in
+    h ∙ rw (le-ltb _ _ a, le-ltb _ _ b, rest, s, t) refl
 
 -- the set of silent nodes as code read it
 pub with-silent : (bs : List ℕ) {set : ℕ} {r : rules.Answer Findings} → set ≡ number_at bs 9 8 → r ≡ ask_after 17 (Settled set) bs → r ≡ ask_with_silent bs
@@ -151,15 +133,11 @@ with-silent bs e h = h ∙ ap (λ (x : ℕ). ask_after 17 (Settled x) bs) e
 
 -- ---- which question is asked
 
-module _ (s : Settings) (beat slot : ℕ) (second : List ℕ) (p : Places) (x : Node) {question : Question} {r : rules.Answer Findings} where
-  pub for-chain : question ≡ Chain → r ≡ ask_all s slot p x → r ≡ ask_for s beat slot question second p x
+module _ (s : Settings) (slot : ℕ) (p : Places) (x : Node) {question : Question} {r : rules.Answer Findings} where
+  pub for-chain : question ≡ Chain → r ≡ ask_all s slot p x → r ≡ ask_for s slot question p x
   unfolding ask_for
   for-chain e h = rw e h
 
-  pub for-settled : {silent : ℕ} → question ≡ Settled silent → r ≡ ask_settled s slot silent p x → r ≡ ask_for s beat slot question second p x
+  pub for-settled : {silent : ℕ} → question ≡ Settled silent → r ≡ ask_settled s slot silent p x → r ≡ ask_for s slot question p x
   unfolding ask_for
   for-settled e h = rw e h
-
-  pub for-fit : question ≡ Fit → r ≡ map_answer figures (fit_query s p x beat second) → r ≡ ask_for s beat slot question second p x
-  unfolding ask_for
-  for-fit e h = rw e h

@@ -1,3 +1,5 @@
 -- What a question is answered. Assumes nothing.
 pub mod Ask
-pub mod Reply
+pub mod ChainAnswer
+pub mod AskPackets
+pub mod PacketAnswer

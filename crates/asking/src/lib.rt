@@ -1,17 +1,19 @@
 // A question to a fresh node and its answers: what the programs `chainask`, `silentask`, `fitask` and `pairask` and the programs of their cases share.
-// The input begins with n (1 byte), E and K (2 each) and a slot (4). Then comes a packet; for `silentask` the set of silent nodes (8) stands before it, and
-// for `fitask` and `pairask` its length (4), and a second packet behind it. Node 0 receives the first packet and merges it, and is asked for the slot or
-// about the second; for `pairask` it receives nothing, and is asked about both.
+// The input is n (1 byte), E and K (2 each), a slot (4), and a packet; for `silentask` the set of silent nodes (8) stands before the packet. Node 0 receives
+// the packet and merges it. For `fitask` and `pairask` the length of the packet (4) stands before it, and a second packet behind it: `fitask` asks about that
+// one, and for `pairask` node 0 receives nothing, and is asked about both.
 // The tables and the input take 131 KB of stack.
 #![tactic(auto)]
 
-ghost use Rattle.std.specs.Prelude.{true, ◌≡◌, ◌+◌, ◌*◌, ◌^◌, ◌<◌, ◌≤◌};
+ghost use Rattle.std.specs.Prelude.{true, ◌≡◌, ◌^◌, ◌<◌, ◌≤◌};
 ghost use Rattle.protocol.specs.Lent.{block_words, vote_words, places_in, places_of, node_of, lent_sound};
 ghost use Rattle.verdicts.specs.Verdict.{verdict_of};
 ghost use Rattle.verdicts.specs.Lent.{lent, lent_at_entry};
 ghost use Rattle.answers.specs.Answers.{answer_of, found_of, fitted_of, map_answer};
-ghost use Rattle.asking.specs.Ask.{figures, ask_all, ask_settled, ask_for, merge_and_ask, receive_and_ask, open_and_ask, open_and_compare, settings_in, ask_after, ask_with, ask_with_silent, ask_two, fit_with, pair_with};
-ghost use Rattle.asking.specs.Reply.{reply_of, verdict_in, Gathers, TellsSettled};
+ghost use Rattle.asking.specs.Ask.{ask_all, ask_settled, ask_for, merge_and_ask, receive_and_ask, open_and_ask, settings_in, ask_after, ask_with, ask_with_silent};
+ghost use Rattle.asking.specs.ChainAnswer.{chain_answer_of, verdict_in, Gathers, TellsSettled};
+ghost use Rattle.asking.specs.AskPackets.{figures, ask_fit, merge_and_fit, receive_and_fit, open_and_fit, open_and_compare, ask_two, fit_with, pair_with};
+ghost use Rattle.asking.specs.PacketAnswer.{packet_answer_of};
 
 use answers::{Answer, Compared, Fitted, Found};
 use protocol::{Clock, Number, Profile, Settings};
@@ -26,23 +28,28 @@ pub enum Program {
     Pairask,
 }
 
-// What the node is asked for: head, deep and fast block, the settled block with this set of silent nodes, or how many places the second packet would take.
+// What the node is asked for: head, deep and fast block, or the settled block with this set of silent nodes.
 #[derive(Clone, Copy)]
 pub enum Question {
     Chain,
     Settled(u64),
-    Fit,
 }
 
-// The three answers, the settled block, the figures or what Compare answers, or the first refusal of a call.
+// The three answers or the settled block, or the first refusal of a call.
 #[derive(Clone, Copy)]
-pub enum Reply {
+pub enum ChainAnswer {
     Found {
         head: Number,
         deep: Number,
         fast: confirm::Choice,
     },
     Settled(Number),
+    Refused(Refusal),
+}
+
+// What Fit or Compare answers about packets, or the first refusal of a call.
+#[derive(Clone, Copy)]
+pub enum PacketAnswer {
     Figures(answers::Figures),
     Compared(Compared),
     Refused(Refusal),
@@ -61,23 +68,23 @@ pub fn verdict(answer: Answer) -> Verdict
 }
 
 // The answers of Head, Deep and Fast together. Head and Deep never answer Nothing.
-fn gathered(head: Found, deep: Found, fast: Found) -> Reply
-    ensures { Gathers (found_of head) (found_of deep) (found_of fast) (reply_of result) }
+fn gathered(head: Found, deep: Found, fast: Found) -> ChainAnswer
+    ensures { Gathers (found_of head) (found_of deep) (found_of fast) (chain_answer_of result) }
 {
     match head {
-        Found::Refused(refusal) => Reply::Refused(refusal),
-        Found::Nothing => Reply::Refused(Refusal::SlotOutOfRange),
+        Found::Refused(refusal) => ChainAnswer::Refused(refusal),
+        Found::Nothing => ChainAnswer::Refused(Refusal::SlotOutOfRange),
         Found::Block(first) => match deep {
-            Found::Refused(refusal) => Reply::Refused(refusal),
-            Found::Nothing => Reply::Refused(Refusal::SlotOutOfRange),
+            Found::Refused(refusal) => ChainAnswer::Refused(refusal),
+            Found::Nothing => ChainAnswer::Refused(Refusal::SlotOutOfRange),
             Found::Block(second) => match fast {
-                Found::Refused(refusal) => Reply::Refused(refusal),
-                Found::Nothing => Reply::Found {
+                Found::Refused(refusal) => ChainAnswer::Refused(refusal),
+                Found::Nothing => ChainAnswer::Found {
                     head: first,
                     deep: second,
                     fast: confirm::Choice::Nothing,
                 },
-                Found::Block(third) => Reply::Found {
+                Found::Block(third) => ChainAnswer::Found {
                     head: first,
                     deep: second,
                     fast: confirm::Choice::Chosen(third),
@@ -88,13 +95,13 @@ fn gathered(head: Found, deep: Found, fast: Found) -> Reply
 }
 
 // The answer of Settled, which is never Nothing.
-fn settled_reply(found: Found) -> Reply
-    ensures { TellsSettled (found_of found) (reply_of result) }
+fn settled_answer(found: Found) -> ChainAnswer
+    ensures { TellsSettled (found_of found) (chain_answer_of result) }
 {
     match found {
-        Found::Refused(refusal) => Reply::Refused(refusal),
-        Found::Nothing => Reply::Refused(Refusal::SlotOutOfRange),
-        Found::Block(block) => Reply::Settled(block),
+        Found::Refused(refusal) => ChainAnswer::Refused(refusal),
+        Found::Nothing => ChainAnswer::Refused(Refusal::SlotOutOfRange),
+        Found::Block(block) => ChainAnswer::Settled(block),
     }
 }
 
@@ -106,9 +113,9 @@ fn queried(
     votes: &[u64],
     votes_used: usize,
     slot: u64,
-) -> Reply
+) -> ChainAnswer
     requires { lent_sound settings (lent blocks.now votes.now blocks_used votes_used clock) ≡ true }
-    ensures { reply_of result ≡ ask_all settings slot (places_of (lent blocks.now votes.now blocks_used votes_used clock))
+    ensures { chain_answer_of result ≡ ask_all settings slot (places_of (lent blocks.now votes.now blocks_used votes_used clock))
         (node_of (lent blocks.now votes.now blocks_used votes_used clock)) }
 {
     let head = queries::head(
@@ -150,9 +157,9 @@ fn settled(
     votes_used: usize,
     slot: u64,
     silent: u64,
-) -> Reply
+) -> ChainAnswer
     requires { lent_sound settings (lent blocks.now votes.now blocks_used votes_used clock) ≡ true }
-    ensures { reply_of result ≡ ask_settled settings slot silent (places_of (lent blocks.now votes.now blocks_used votes_used clock))
+    ensures { chain_answer_of result ≡ ask_settled settings slot silent (places_of (lent blocks.now votes.now blocks_used votes_used clock))
         (node_of (lent blocks.now votes.now blocks_used votes_used clock)) }
 {
     let found = queries::settled(
@@ -165,33 +172,21 @@ fn settled(
         slot,
         silent,
     );
-    settled_reply(found)
+    settled_answer(found)
 }
 
-fn fit_reply(fitted: Fitted) -> Reply
-    ensures { reply_of result ≡ map_answer figures (fitted_of fitted) }
-{
-    match fitted {
-        Fitted::Figures(found) => Reply::Figures(found),
-        Fitted::Refused(refusal) => Reply::Refused(refusal),
-    }
-}
-
-// The question that is asked. The second packet is Fit's; the others do not look at it.
-fn replied(
+fn answered(
     settings: Settings,
     clock: Clock,
     blocks: &[u64],
     blocks_used: usize,
     votes: &[u64],
     votes_used: usize,
-    beat: u64,
     slot: u64,
     question: Question,
-    second: &[u8],
-) -> Reply
+) -> ChainAnswer
     requires { lent_sound settings (lent blocks.now votes.now blocks_used votes_used clock) ≡ true }
-    ensures { reply_of result ≡ ask_for settings beat slot question second.now (places_of (lent blocks.now votes.now blocks_used votes_used clock))
+    ensures { chain_answer_of result ≡ ask_for settings slot question (places_of (lent blocks.now votes.now blocks_used votes_used clock))
         (node_of (lent blocks.now votes.now blocks_used votes_used clock)) }
 {
     match question {
@@ -214,16 +209,6 @@ fn replied(
             slot,
             silent,
         ),
-        Question::Fit => fit_reply(queries::fit(
-            settings,
-            clock,
-            blocks,
-            blocks_used,
-            votes,
-            votes_used,
-            beat,
-            second,
-        )),
     }
 }
 
@@ -237,10 +222,9 @@ fn merged(
     beat: u64,
     slot: u64,
     question: Question,
-    second: &[u8],
-) -> Reply
+) -> ChainAnswer
     requires { lent_sound settings (lent blocks.old votes.old blocks_used.old votes_used.old clock) ≡ true }
-    ensures { reply_of result ≡ merge_and_ask settings beat (ask_for settings beat slot question second.now)
+    ensures { chain_answer_of result ≡ merge_and_ask settings beat slot question
         (places_of (lent_at_entry blocks blocks_used votes votes_used clock))
         (node_of (lent_at_entry blocks blocks_used votes votes_used clock)) }
 {
@@ -256,18 +240,16 @@ fn merged(
     let answer = moved.answer;
     let done = verdict(answer);
     match done {
-        Verdict::Refuse(refusal) => Reply::Refused(refusal),
-        Verdict::Pass => replied(
+        Verdict::Refuse(refusal) => ChainAnswer::Refused(refusal),
+        Verdict::Pass => answered(
             settings,
             moved.clock,
             blocks,
             *blocks_used,
             votes,
             *votes_used,
-            beat,
             slot,
             question,
-            second,
         ),
     }
 }
@@ -283,10 +265,9 @@ fn received(
     slot: u64,
     question: Question,
     packet: &[u8],
-    second: &[u8],
-) -> Reply
+) -> ChainAnswer
     requires { lent_sound settings (lent blocks.old votes.old blocks_used.old votes_used.old clock) ≡ true }
-    ensures { reply_of result ≡ receive_and_ask settings beat packet.now (ask_for settings beat slot question second.now)
+    ensures { chain_answer_of result ≡ receive_and_ask settings beat slot question packet.now
         (places_of (lent_at_entry blocks blocks_used votes votes_used clock))
         (node_of (lent_at_entry blocks blocks_used votes votes_used clock)) }
 {
@@ -303,7 +284,7 @@ fn received(
     let answer = moved.answer;
     let done = verdict(answer);
     match done {
-        Verdict::Refuse(refusal) => Reply::Refused(refusal),
+        Verdict::Refuse(refusal) => ChainAnswer::Refused(refusal),
         Verdict::Pass => merged(
             settings,
             moved.clock,
@@ -314,7 +295,6 @@ fn received(
             beat,
             slot,
             question,
-            second,
         ),
     }
 }
@@ -327,10 +307,9 @@ fn opened(
     slot: u64,
     question: Question,
     packet: &[u8],
-    second: &[u8],
-) -> Reply
+) -> ChainAnswer
     requires { (places_in block_words blocks.old ≡ 512) × (places_in vote_words votes.old ≡ 1024) × (slot < 2 ^ 32) }
-    ensures { reply_of result ≡ open_and_ask settings slot packet.now (ask_for settings (3 * slot + 2) slot question second.now) }
+    ensures { chain_answer_of result ≡ open_and_ask settings slot question packet.now }
 {
     let mut blocks_used = 0;
     let mut votes_used = 0;
@@ -351,7 +330,7 @@ fn opened(
     let answer = moved.answer;
     let done = verdict(answer);
     match done {
-        Verdict::Refuse(refusal) => Reply::Refused(refusal),
+        Verdict::Refuse(refusal) => ChainAnswer::Refused(refusal),
         Verdict::Pass => received(
             settings,
             moved.clock,
@@ -362,6 +341,218 @@ fn opened(
             3 * slot + 2,
             slot,
             question,
+            packet,
+        ),
+    }
+}
+
+// The length is tested before anything else: the packet comes after n bytes, of which the first nine are read here.
+fn asked_after(input: &[u8], n: usize, question: Question) -> ChainAnswer
+    requires { 9 ≤ n }
+    ensures { chain_answer_of result ≡ ask_after n question input.now }
+{
+    if input.len() < n {
+        return ChainAnswer::Refused(Refusal::PacketMalformed);
+    }
+    if 32768 < input.len() {
+        return ChainAnswer::Refused(Refusal::PacketMalformed);
+    }
+    let settings = Settings {
+        profile: Profile::Loom,
+        nodes: packets::number_at(input, 0, 1),
+        own: 0,
+        expiry: packets::number_at(input, 1, 2),
+        depth: packets::number_at(input, 3, 2),
+    };
+    let slot = packets::number_at(input, 5, 4);
+    let mut blocks = [0u64; 3072];
+    let mut votes = [0u64; 5120];
+    opened(
+        settings,
+        &mut blocks,
+        &mut votes,
+        slot,
+        question,
+        &input[n..],
+    )
+}
+
+// What `chainask` answers.
+pub fn asked(input: &[u8]) -> ChainAnswer
+    ensures { chain_answer_of result ≡ ask_with input.now }
+{
+    asked_after(input, 9, Question::Chain)
+}
+
+// What `silentask` answers. Where there are too few bytes for the set, what is read of it does not matter.
+pub fn asked_with_silent(input: &[u8]) -> ChainAnswer
+    ensures { chain_answer_of result ≡ ask_with_silent input.now }
+{
+    let silent = packets::number_at(input, 9, 8);
+    asked_after(input, 17, Question::Settled(silent))
+}
+
+// ---- the questions about packets
+
+fn fit_answer(fitted: Fitted) -> PacketAnswer
+    ensures { packet_answer_of result ≡ map_answer figures (fitted_of fitted) }
+{
+    match fitted {
+        Fitted::Figures(found) => PacketAnswer::Figures(found),
+        Fitted::Refused(refusal) => PacketAnswer::Refused(refusal),
+    }
+}
+
+fn fitted(
+    settings: Settings,
+    clock: Clock,
+    blocks: &[u64],
+    blocks_used: usize,
+    votes: &[u64],
+    votes_used: usize,
+    beat: u64,
+    second: &[u8],
+) -> PacketAnswer
+    requires { lent_sound settings (lent blocks.now votes.now blocks_used votes_used clock) ≡ true }
+    ensures { packet_answer_of result ≡ ask_fit settings beat second.now (places_of (lent blocks.now votes.now blocks_used votes_used clock))
+        (node_of (lent blocks.now votes.now blocks_used votes_used clock)) }
+{
+    fit_answer(queries::fit(
+        settings,
+        clock,
+        blocks,
+        blocks_used,
+        votes,
+        votes_used,
+        beat,
+        second,
+    ))
+}
+
+fn fit_merged(
+    settings: Settings,
+    clock: Clock,
+    blocks: &mut [u64],
+    blocks_used: &mut usize,
+    votes: &mut [u64],
+    votes_used: &mut usize,
+    beat: u64,
+    second: &[u8],
+) -> PacketAnswer
+    requires { lent_sound settings (lent blocks.old votes.old blocks_used.old votes_used.old clock) ≡ true }
+    ensures { packet_answer_of result ≡ merge_and_fit settings beat second.now
+        (places_of (lent_at_entry blocks blocks_used votes votes_used clock))
+        (node_of (lent_at_entry blocks blocks_used votes votes_used clock)) }
+{
+    let moved = node::merge(
+        settings,
+        clock,
+        blocks,
+        blocks_used,
+        votes,
+        votes_used,
+        beat,
+    );
+    let answer = moved.answer;
+    let done = verdict(answer);
+    match done {
+        Verdict::Refuse(refusal) => PacketAnswer::Refused(refusal),
+        Verdict::Pass => fitted(
+            settings,
+            moved.clock,
+            blocks,
+            *blocks_used,
+            votes,
+            *votes_used,
+            beat,
+            second,
+        ),
+    }
+}
+
+fn fit_received(
+    settings: Settings,
+    clock: Clock,
+    blocks: &mut [u64],
+    blocks_used: &mut usize,
+    votes: &mut [u64],
+    votes_used: &mut usize,
+    beat: u64,
+    packet: &[u8],
+    second: &[u8],
+) -> PacketAnswer
+    requires { lent_sound settings (lent blocks.old votes.old blocks_used.old votes_used.old clock) ≡ true }
+    ensures { packet_answer_of result ≡ receive_and_fit settings beat packet.now second.now
+        (places_of (lent_at_entry blocks blocks_used votes votes_used clock))
+        (node_of (lent_at_entry blocks blocks_used votes votes_used clock)) }
+{
+    let moved = node::receive(
+        settings,
+        clock,
+        blocks,
+        blocks_used,
+        votes,
+        votes_used,
+        beat,
+        packet,
+    );
+    let answer = moved.answer;
+    let done = verdict(answer);
+    match done {
+        Verdict::Refuse(refusal) => PacketAnswer::Refused(refusal),
+        Verdict::Pass => fit_merged(
+            settings,
+            moved.clock,
+            blocks,
+            blocks_used,
+            votes,
+            votes_used,
+            beat,
+            second,
+        ),
+    }
+}
+
+// On tables of 512 and of 1,024 places.
+fn fit_opened(
+    settings: Settings,
+    blocks: &mut [u64],
+    votes: &mut [u64],
+    slot: u64,
+    packet: &[u8],
+    second: &[u8],
+) -> PacketAnswer
+    requires { (places_in block_words blocks.old ≡ 512) × (places_in vote_words votes.old ≡ 1024) × (slot < 2 ^ 32) }
+    ensures { packet_answer_of result ≡ open_and_fit settings slot packet.now second.now }
+{
+    let mut blocks_used = 0;
+    let mut votes_used = 0;
+    let clock = Clock {
+        seen: 0,
+        done: 0,
+        merged: 0,
+        proposed: 0,
+    };
+    let moved = node::open(
+        settings,
+        clock,
+        blocks,
+        &mut blocks_used,
+        votes,
+        &mut votes_used,
+    );
+    let answer = moved.answer;
+    let done = verdict(answer);
+    match done {
+        Verdict::Refuse(refusal) => PacketAnswer::Refused(refusal),
+        Verdict::Pass => fit_received(
+            settings,
+            moved.clock,
+            blocks,
+            &mut blocks_used,
+            votes,
+            &mut votes_used,
+            3 * slot + 2,
             packet,
             second,
         ),
@@ -376,9 +567,9 @@ fn opened_for_both(
     slot: u64,
     one: &[u8],
     two: &[u8],
-) -> Reply
+) -> PacketAnswer
     requires { (places_in block_words blocks.old ≡ 512) × (places_in vote_words votes.old ≡ 1024) × (slot < 2 ^ 32) }
-    ensures { reply_of result ≡ open_and_compare settings slot one.now two.now }
+    ensures { packet_answer_of result ≡ open_and_compare settings slot one.now two.now }
 {
     let mut blocks_used = 0;
     let mut votes_used = 0;
@@ -399,8 +590,8 @@ fn opened_for_both(
     let answer = moved.answer;
     let done = verdict(answer);
     match done {
-        Verdict::Refuse(refusal) => Reply::Refused(refusal),
-        Verdict::Pass => Reply::Compared(queries::compare(
+        Verdict::Refuse(refusal) => PacketAnswer::Refused(refusal),
+        Verdict::Pass => PacketAnswer::Compared(queries::compare(
             settings,
             moved.clock,
             blocks,
@@ -427,60 +618,19 @@ fn settings_in(input: &[u8]) -> Settings
     }
 }
 
-// The length is tested before anything else: the packet comes after n bytes, of which the first nine are read here.
-fn asked_after(input: &[u8], n: usize, question: Question) -> Reply
-    requires { 9 ≤ n }
-    ensures { reply_of result ≡ ask_after n question input.now }
-{
-    if input.len() < n {
-        return Reply::Refused(Refusal::PacketMalformed);
-    }
-    if 32768 < input.len() {
-        return Reply::Refused(Refusal::PacketMalformed);
-    }
-    let settings = settings_in(input);
-    let slot = packets::number_at(input, 5, 4);
-    let mut blocks = [0u64; 3072];
-    let mut votes = [0u64; 5120];
-    opened(
-        settings,
-        &mut blocks,
-        &mut votes,
-        slot,
-        question,
-        &input[n..],
-        input,
-    )
-}
-
-// What `chainask` answers.
-pub fn asked(input: &[u8]) -> Reply
-    ensures { reply_of result ≡ ask_with input.now }
-{
-    asked_after(input, 9, Question::Chain)
-}
-
-// What `silentask` answers. Where there are too few bytes for the set, what is read of it does not matter.
-pub fn asked_with_silent(input: &[u8]) -> Reply
-    ensures { reply_of result ≡ ask_with_silent input.now }
-{
-    let silent = packets::number_at(input, 9, 8);
-    asked_after(input, 17, Question::Settled(silent))
-}
-
 // An input with two packets, for Fit, or to compare both. Whether the first one is there is tested with the length.
-fn asked_two(input: &[u8], both: bool) -> Reply
-    ensures { reply_of result ≡ ask_two both input.now }
+fn asked_two(input: &[u8], both: bool) -> PacketAnswer
+    ensures { packet_answer_of result ≡ ask_two both input.now }
 {
     if input.len() < 13 {
-        return Reply::Refused(Refusal::PacketMalformed);
+        return PacketAnswer::Refused(Refusal::PacketMalformed);
     }
     if 65536 < input.len() {
-        return Reply::Refused(Refusal::PacketMalformed);
+        return PacketAnswer::Refused(Refusal::PacketMalformed);
     }
     let first = packets::number_at(input, 9, 4) as usize;
     if input.len() - 13 < first {
-        return Reply::Refused(Refusal::PacketMalformed);
+        return PacketAnswer::Refused(Refusal::PacketMalformed);
     }
     let settings = settings_in(input);
     let slot = packets::number_at(input, 5, 4);
@@ -497,30 +647,31 @@ fn asked_two(input: &[u8], both: bool) -> Reply
             &input[end..],
         );
     }
-    opened(
+    fit_opened(
         settings,
         &mut blocks,
         &mut votes,
         slot,
-        Question::Fit,
         &input[13..end],
         &input[end..],
     )
 }
 
 // What `fitask` answers.
-pub fn fit_asked(input: &[u8]) -> Reply
-    ensures { reply_of result ≡ fit_with input.now }
+pub fn fit_asked(input: &[u8]) -> PacketAnswer
+    ensures { packet_answer_of result ≡ fit_with input.now }
 {
     asked_two(input, false)
 }
 
 // What `pairask` answers.
-pub fn pair_asked(input: &[u8]) -> Reply
-    ensures { reply_of result ≡ pair_with input.now }
+pub fn pair_asked(input: &[u8]) -> PacketAnswer
+    ensures { packet_answer_of result ≡ pair_with input.now }
 {
     asked_two(input, true)
 }
+
+// ---- printing
 
 // A word and a block's number.
 fn number(to: i32, word: &[u8], n: Number) {
@@ -530,21 +681,50 @@ fn number(to: i32, word: &[u8], n: Number) {
     io::write_all(to, &digits[start..]);
 }
 
-// A word and a count.
-fn count(to: i32, word: &[u8], n: u64) {
-    io::write_all(to, word);
-    io::print_decimal(to, n);
-}
-
 // The same on a line.
 fn line(to: i32, word: &[u8], n: Number) {
     number(to, word, n);
     io::write_all(to, b"\n");
 }
 
+// A word and a count.
+fn count(to: i32, word: &[u8], n: u64) {
+    io::write_all(to, word);
+    io::print_decimal(to, n);
+}
+
 fn count_line(to: i32, word: &[u8], n: u64) {
     count(to, word, n);
     io::write_all(to, b"\n");
+}
+
+fn print_refusal(to: i32, refusal: Refusal) {
+    io::write_all(to, b"refused ");
+    io::print_decimal(to, verdicts::number(refusal));
+    io::write_all(to, b"\n");
+}
+
+fn print(to: i32, a: ChainAnswer) {
+    match a {
+        ChainAnswer::Refused(refusal) => {
+            print_refusal(to, refusal);
+        }
+        ChainAnswer::Settled(block) => {
+            line(to, b"block ", block);
+        }
+        ChainAnswer::Found { head, deep, fast } => {
+            line(to, b"head ", head);
+            line(to, b"deep ", deep);
+            match fast {
+                confirm::Choice::Chosen(block) => {
+                    line(to, b"fast ", block);
+                }
+                confirm::Choice::Nothing => {
+                    io::write_all(to, b"fast none\n");
+                }
+            }
+        }
+    }
 }
 
 fn print_compared(to: i32, compared: Compared) {
@@ -567,40 +747,40 @@ fn print_compared(to: i32, compared: Compared) {
             io::write_all(to, b" second\n");
         }
         Compared::Refused(refusal) => {
-            count_line(to, b"refused ", verdicts::number(refusal));
+            print_refusal(to, refusal);
         }
     }
 }
 
-fn print(to: i32, a: Reply) {
+fn print_packets(to: i32, a: PacketAnswer) {
     match a {
-        Reply::Refused(refusal) => {
-            count_line(to, b"refused ", verdicts::number(refusal));
+        PacketAnswer::Refused(refusal) => {
+            print_refusal(to, refusal);
         }
-        Reply::Settled(block) => {
-            line(to, b"block ", block);
-        }
-        Reply::Figures(figures) => {
+        PacketAnswer::Figures(figures) => {
             count_line(to, b"blocks ", figures.new_blocks);
             count_line(to, b"votes ", figures.new_votes);
             count_line(to, b"bytes ", figures.bytes);
         }
-        Reply::Compared(compared) => {
+        PacketAnswer::Compared(compared) => {
             print_compared(to, compared);
         }
-        Reply::Found { head, deep, fast } => {
-            line(to, b"head ", head);
-            line(to, b"deep ", deep);
-            match fast {
-                confirm::Choice::Chosen(block) => {
-                    line(to, b"fast ", block);
-                }
-                confirm::Choice::Nothing => {
-                    io::write_all(to, b"fast none\n");
-                }
-            }
-        }
     }
+}
+
+// Reads one byte more than is allowed, so that what is too long is seen.
+pub fn ask(from: i32, to: i32) {
+    let mut buf = [0u8; 32769];
+    let n = io::read_full(from, &mut buf);
+    let a = asked(&buf[..n]);
+    print(to, a);
+}
+
+pub fn ask_with_silent(from: i32, to: i32) {
+    let mut buf = [0u8; 32769];
+    let n = io::read_full(from, &mut buf);
+    let a = asked_with_silent(&buf[..n]);
+    print(to, a);
 }
 
 // Prints what a program answers to an input.
@@ -613,16 +793,16 @@ pub fn answer(program: Program, input: &[u8], to: i32) {
             print(to, asked_with_silent(input));
         }
         Program::Fitask => {
-            print(to, fit_asked(input));
+            print_packets(to, fit_asked(input));
         }
         Program::Pairask => {
-            print(to, pair_asked(input));
+            print_packets(to, pair_asked(input));
         }
     }
 }
 
 // The same of what is read. Reads one byte more than any program allows, so that what is too long is seen.
-pub fn ask(program: Program, from: i32, to: i32) {
+pub fn ask_as(program: Program, from: i32, to: i32) {
     let mut buf = [0u8; 65537];
     let n = io::read_full(from, &mut buf);
     answer(program, &buf[..n], to);

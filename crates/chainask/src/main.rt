@@ -1,8 +1,5 @@
-// Answers the question on standard input: head, deep block and fast block.
+// Answers the question on standard input.
 #![tactic(auto)]
-
-use asking::Program;
-
 fn main() {
-    asking::ask(Program::Chainask, 0, 1);
+    asking::ask(0, 1);
 }

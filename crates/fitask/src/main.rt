@@ -4,5 +4,5 @@
 use asking::Program;
 
 fn main() {
-    asking::ask(Program::Fitask, 0, 1);
+    asking::ask_as(Program::Fitask, 0, 1);
 }

@@ -4,5 +4,5 @@
 use asking::Program;
 
 fn main() {
-    asking::ask(Program::Pairask, 0, 1);
+    asking::ask_as(Program::Pairask, 0, 1);
 }

@@ -4,7 +4,8 @@ use mathlib.Core.Path.{refl}
 use native.Mathlib.Omega.{arith}
 use borrow.Author.Tests.{le-ltb, lt-ltb}
 use Rattle.protocol.specs.Lent.{places_in}
-use Rattle.asking.specs.Ask.{ask_after}
+use Rattle.protocol.specs.declared.Profile.TheVariants.{Loom}
+use Rattle.asking.specs.Ask.{settings_in, ask_after}
 use Rattle.asking.proofs.Steps.{ask-within}
 use Rattle.asking.proofs.asked_after.Goals as goal
 
@@ -21,5 +22,9 @@ unfolding places_in
 opened-requires c = (refl, refl, omega (arith, c.number_at-slot.ensures.1))
 
 pub returns : goal.returns
+unfolding settings_in
 returns c =
-    ask-within _ c.settings_in-settings.ensures c.number_at-slot.ensures.0 _ _ c.if-input-n.false c.if-input-gt32768.false c.opened.ensures
+    let n = c.number_at.ensures.0 in
+    let e = c.number_at-2.ensures.0 in
+    let k = c.number_at-3.ensures.0 in
+    ask-within _ _ _ c.if-input-n.false c.if-input-gt32768.false (λ i. record { profile = Loom; nodes = n i; own = 0; expiry = e i; depth = k i }) c.number_at-slot.ensures.0 c.opened.ensures

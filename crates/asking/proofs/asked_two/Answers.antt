@@ -5,8 +5,8 @@ use mathlib.Core.Bool.{true, false}
 use native.Mathlib.Omega.{arith}
 use borrow.Author.Tests.{le-ltb, lt-ltb}
 use Rattle.protocol.specs.Lent.{places_in}
-use Rattle.asking.specs.Ask.{ask_two}
-use Rattle.asking.proofs.Steps.{two-within}
+use Rattle.asking.specs.AskPackets.{ask_two}
+use Rattle.asking.proofs.StepsPackets.{two-within}
 use Rattle.asking.proofs.asked_two.Goals as goal
 
 pub returns-then-input-lt13 : goal.returns-then-input-lt13
@@ -31,11 +31,11 @@ returns-then-both c =
     rw c.if-both.true
     (two-within _ c.settings_in-settings.ensures c.number_at-slot.ensures.0 c.if-input-lt13.false c.if-input-gt65536.false c.number_at-first.ensures.0 c.if-input-first.false true c.opened_for_both.ensures)
 
-pub opened-requires : goal.opened-requires
+pub fit_opened-requires : goal.fit_opened-requires
 unfolding places_in
-opened-requires c = (refl, refl, omega (arith, c.number_at-slot.ensures.1))
+fit_opened-requires c = (refl, refl, omega (arith, c.number_at-slot.ensures.1))
 
 pub returns : goal.returns
 returns c =
     rw c.if-both.false
-    (two-within _ c.settings_in-settings.ensures c.number_at-slot.ensures.0 c.if-input-lt13.false c.if-input-gt65536.false c.number_at-first.ensures.0 c.if-input-first.false false c.opened.ensures)
+    (two-within _ c.settings_in-settings.ensures c.number_at-slot.ensures.0 c.if-input-lt13.false c.if-input-gt65536.false c.number_at-first.ensures.0 c.if-input-first.false false c.fit_opened.ensures)

@@ -1,6 +1,6 @@
 -- `asking::fit_asked` meets its contract. Assumes nothing.
 use borrow.Author.Rules.{rules}
-use Rattle.asking.specs.Ask.{fit_with}
+use Rattle.asking.specs.AskPackets.{fit_with}
 use Rattle.asking.proofs.fit_asked.Goals as goal
 
 pub returns : goal.returns

@@ -5,8 +5,8 @@ use Rattle.asking.specs.Ask.{merge_and_ask}
 use Rattle.asking.proofs.Steps.{step-sound, step-refused, step-done}
 use Rattle.asking.proofs.merged.Goals as goal
 
-pub replied-requires : goal.replied-requires
-replied-requires c =
+pub answered-requires : goal.answered-requires
+answered-requires c =
     step-sound _ _ (merge-lawful _ _) _ c.requires c.merge-moved.ensures
 
 pub returns-in-Refuse : goal.returns-in-Refuse
@@ -17,4 +17,4 @@ returns-in-Refuse c =
 pub returns-in-Pass : goal.returns-in-Pass
 unfolding merge_and_ask
 returns-in-Pass c =
-    step-done _ _ (merge-lawful _ _) _ c.requires c.merge-moved.ensures _ c.verdict-done.ensures c.in-Pass.is c.replied.ensures
+    step-done _ _ (merge-lawful _ _) _ c.requires c.merge-moved.ensures _ c.verdict-done.ensures c.in-Pass.is c.answered.ensures

@@ -8,16 +8,16 @@ use Rattle.asking.proofs.opened.Goals as goal
 
 pub received-requires : goal.received-requires
 received-requires c =
-    open-sound _ _ c.«open».ensures c.verdict-done.ensures c.in-Pass.is
+    open-sound _ _ c.open-moved.ensures c.verdict-done.ensures c.in-Pass.is
 
 pub returns-in-Refuse : goal.returns-in-Refuse
 unfolding open_and_ask node_of rows_of
 returns-in-Refuse c =
     let p = c.requires in
-    open-refuses _ _ c.«open».ensures (places-are _ p.0 p.1) refl _ c.verdict-done.ensures c.in-Refuse.is
+    open-refuses _ _ c.open-moved.ensures (places-are _ p.0 p.1) refl _ c.verdict-done.ensures c.in-Refuse.is
 
 pub returns-in-Pass : goal.returns-in-Pass
 unfolding open_and_ask node_of rows_of
 returns-in-Pass c =
     let p = c.requires in
-    open-then _ _ c.«open».ensures (places-are _ p.0 p.1) refl _ c.verdict-done.ensures c.in-Pass.is c.received.ensures
+    open-then _ _ c.open-moved.ensures (places-are _ p.0 p.1) refl _ c.verdict-done.ensures c.in-Pass.is c.received.ensures

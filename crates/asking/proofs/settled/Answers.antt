@@ -11,4 +11,4 @@ pub returns : goal.returns
 unfolding ask_settled
 returns c =
     let S = c.requires in
-    c.settled_reply.ensures _ (c.settled-found.ensures ∙ ap (map_answer chosen) (ask-lent _ _ _ S))
+    c.settled_answer.ensures _ (c.settled-found.ensures ∙ ap (map_answer chosen) (ask-lent _ _ _ S))

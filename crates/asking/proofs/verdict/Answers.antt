@@ -3,7 +3,7 @@ use borrow.Author.Rules.{rules}
 use mathlib.Core.Path.{ap, sym}
 use Rattle.answers.specs.declared.Answer.{Answer}
 use Rattle.answers.specs.Answers.{answer_of}
-use Rattle.asking.specs.Reply.{verdict_in}
+use Rattle.asking.specs.ChainAnswer.{verdict_in}
 use Rattle.asking.proofs.verdict.Goals as goal
 
 pub returns-in-Done : goal.returns-in-Done

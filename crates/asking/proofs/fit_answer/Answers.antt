@@ -2,8 +2,8 @@
 use borrow.Author.Rules.{rules}
 use mathlib.Core.Path.{ap, sym}
 use Rattle.answers.specs.Answers.{fitted_of, map_answer}
-use Rattle.asking.specs.Ask.{figures}
-use Rattle.asking.proofs.fit_reply.Goals as goal
+use Rattle.asking.specs.AskPackets.{figures}
+use Rattle.asking.proofs.fit_answer.Goals as goal
 
 pub returns-in-Figures : goal.returns-in-Figures
 unfolding map_answer

@@ -5,17 +5,15 @@ use Rattle.protocol.specs.Filters.{Choice, chosen}
 use Rattle.protocol.specs.Refusal as rules
 use Rattle.confirm.specs.Top.{choice_in}
 use Rattle.verdicts.specs.Verdict.{refusal_of}
-use Rattle.answers.specs.Answers.{compared_of, map_answer}
-use Rattle.asking.specs.declared.Reply.{Reply}
-use Rattle.asking.specs.declared.Reply.TheVariants.{Found, Settled, Figures, Compared, Refused}
-use Rattle.asking.specs.Ask.{Findings, findings, settled_is, figures, compares, gather}
+use Rattle.answers.specs.Answers.{map_answer}
+use Rattle.asking.specs.declared.ChainAnswer.{ChainAnswer}
+use Rattle.asking.specs.declared.ChainAnswer.TheVariants.{Found, Settled, Refused}
+use Rattle.asking.specs.Ask.{Findings, findings, settled_is, gather}
 
-abbrev pub reply_of : Reply → rules.Answer Findings
-reply_of (Found h d f) = rules.done (findings (value h) (value d) (choice_in f))
-reply_of (Settled b) = rules.done (settled_is (value b))
-reply_of (Figures f) = rules.done (figures (record { new_blocks = f.new_blocks; new_votes = f.new_votes; bytes = f.bytes }))
-reply_of (Compared c) = map_answer compares (compared_of c)
-reply_of (Refused e) = rules.refused (refusal_of e)
+abbrev pub chain_answer_of : ChainAnswer → rules.Answer Findings
+chain_answer_of (Found h d f) = rules.done (findings (value h) (value d) (choice_in f))
+chain_answer_of (Settled b) = rules.done (settled_is (value b))
+chain_answer_of (Refused e) = rules.refused (refusal_of e)
 
 unfoldable pub verdict_in : {A : Type 0} → rules.Answer A → rules.Verdict
 verdict_in (rules.refused k) = rules.refuse k

@@ -3,7 +3,7 @@ use borrow.Author.Rules.{rules}
 use mathlib.Core.Path.{ap, sym, ◌∙◌}
 use Rattle.answers.specs.Answers.{found_of}
 use Rattle.asking.proofs.Gather.{was-refused, was-block, was-never-nothing, settled-refuses, settled-tells}
-use Rattle.asking.proofs.settled_reply.Goals as goal
+use Rattle.asking.proofs.settled_answer.Goals as goal
 
 pub returns-in-Refused : goal.returns-in-Refused
 returns-in-Refused c b p = settled-refuses b (was-refused b _ (sym (ap found_of c.in-Refused.is) ∙ p))

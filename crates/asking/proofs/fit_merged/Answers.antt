@@ -1,0 +1,20 @@
+-- `asking::fit_merged` meets its contract. Assumes nothing.
+use borrow.Author.Rules.{rules}
+use Rattle.protocol.proofs.Lent.Calls.{merge-lawful}
+use Rattle.asking.specs.AskPackets.{merge_and_fit}
+use Rattle.asking.proofs.Steps.{step-sound, step-refused, step-done}
+use Rattle.asking.proofs.fit_merged.Goals as goal
+
+pub fitted-requires : goal.fitted-requires
+fitted-requires c =
+    step-sound _ _ (merge-lawful _ _) _ c.requires c.merge-moved.ensures
+
+pub returns-in-Refuse : goal.returns-in-Refuse
+unfolding merge_and_fit
+returns-in-Refuse c =
+    step-refused _ _ (merge-lawful _ _) _ c.requires c.merge-moved.ensures _ c.verdict-done.ensures c.in-Refuse.is
+
+pub returns-in-Pass : goal.returns-in-Pass
+unfolding merge_and_fit
+returns-in-Pass c =
+    step-done _ _ (merge-lawful _ _) _ c.requires c.merge-moved.ensures _ c.verdict-done.ensures c.in-Pass.is c.fitted.ensures

@@ -19,7 +19,7 @@ view_block-requires c =
 pub loop-i-preserved-then-row : goal.loop-i-preserved-then-row
 loop-i-preserved-then-row c = (
   omega arith,
-  c.view_block.auto.blocks ∙ c.loop-i.invariant.1,
+  omega arith,
   pass-shows _ _ _ c.loop-i.i _ c.loop-i.invariant.2 (omega arith) (omega arith) c.block_at-row.ensures c.if-row.true (omega arith) c.view_block.ensures,
 )
 

@@ -1,12 +1,10 @@
 -- `view_named_blocks` meets its contract. Assumes nothing.
-use borrow.Author.Rules.{rules}
 use native.Mathlib.Omega.{arith}
-use Prim.Native.Nat.{◌-◌, ◌≤◌}
-use mathlib.Core.Path.{◌≡◌, refl, sym, ap, ◌∙◌}
+use mathlib.Core.Path.{refl, sym, ap, ◌∙◌}
 use lib.ListN.{length}
 use Rattle.protocol.proofs.Lent.Rows.{block-codec}
 use Rattle.views.specs.Named.{named_at}
-use Rattle.views.proofs.Named.{NamedTo, named-begin, named-turn, named-skip, named_end}
+use Rattle.views.proofs.Named.{named-begin, named-turn, named-skip, named_end}
 use Rattle.views.proofs.view_named_blocks.Goals as goal
 use Rattle.views.proofs.view_named_blocks.Goals.{then-is_named, else-is_named}
 
@@ -18,7 +16,7 @@ loop-j-preserved c =
     let a = c.args in (
       omega arith,
       elim c.if-is_named.branch [
-        | then-is_named w ↦ ap length w.blocks-is ∙ w.put_block.auto.blocks ∙ c.loop-j.invariant.1
+        | then-is_named w ↦ rw w.blocks-is (omega arith)
         | else-is_named w ↦ ap length w.blocks-is ∙ c.loop-j.invariant.1
       ],
       elim c.if-is_named.branch [

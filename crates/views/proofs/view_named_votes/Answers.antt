@@ -18,7 +18,7 @@ loop-j-preserved c =
     let a = c.args in (
       omega arith,
       elim c.if-is_named.branch [
-        | then-is_named w ↦ ap length w.votes-is ∙ w.put_vote.auto.votes ∙ c.loop-j.invariant.1
+        | then-is_named w ↦ rw w.votes-is (omega arith)
         | else-is_named w ↦ ap length w.votes-is ∙ c.loop-j.invariant.1
       ],
       elim c.if-is_named.branch [

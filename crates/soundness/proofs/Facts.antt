@@ -8,7 +8,7 @@ use Rattle.protocol.proofs.Lent.Memory.{lent-true, lent-used}
 use Rattle.protocol.proofs.Lent.Rows.{blocks-fit, votes-fit}
 
 pub record SoundMemory (s : Settings) (m : Lent) : Type 0 where
-  pub block_words_lem : BlocksFit m.blocks_used m.blocks
+  pub block_words : BlocksFit m.blocks_used m.blocks
   pub vote-words : VotesFit m.votes_used m.votes
   pub block-marks : marks_sound make_block m.blocks m.blocks_used ≡ true
   pub vote-marks : marks_sound make_vote m.votes m.votes_used ≡ true
@@ -19,7 +19,7 @@ sound-memory s m e =
     let L = lent-true s m e in
     let u = lent-used s m e in
     record {
-      block_words_lem = blocks-fit m.blocks m.blocks_used u.0;
+      block_words = blocks-fit m.blocks m.blocks_used u.0;
       vote-words = votes-fit m.votes m.votes_used u.1;
       block-marks = L.mark-blocks;
       vote-marks = L.mark-votes;

@@ -95,7 +95,7 @@ module _ (R : List (Marked Block)) (O : Ordered R) where
       seen m n e =
           let r = stood-true R m.entry e in
           let k = down C (r.0, r.1, refl) r.2 in
-          let q : k.0 ≡ m.entry = S.unique k.0 m.entry (view-stored R k.0 k.1) (entry_in R m n) k.2 in
+          let q : k.0 ≡ m.entry = S.unique k.0 m.entry (view-stored R k.0 k.1) (entry_in m n) k.2 in
           viewed-row R (ordered-apart R O) m n (rw q at k.1)
 
 -- ---- closed from row i on

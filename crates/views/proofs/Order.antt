@@ -31,10 +31,10 @@ unfoldable pub Apart : List Block → Type 0
 Apart [] = Unit
 Apart (b ∷ bs) = ((d : Block) → In d bs → b.number ≡ d.number → ⊥) × Apart bs
 
-pub entry_in : (ms : List (Marked Block)) (m : Marked Block) → Memᴰ m ms → In m.entry (entries ms)
+pub entry_in : (m : Marked Block) {ms : List (Marked Block)} → Memᴰ m ms → In m.entry (entries ms)
 unfolding entries
-entry_in ms m (Memᴰ.head {x = x} {xs = xs} e) = Memᴰ.head (ap (λ o. o.entry) e)
-entry_in ms m (Memᴰ.tail {x = x} {xs = xs} n) = Memᴰ.tail (entry_in xs m n)
+entry_in m (Memᴰ.head {x = x} {xs = xs} e) = Memᴰ.head (ap (λ o. o.entry) e)
+entry_in m (Memᴰ.tail {x = x} {xs = xs} n) = Memᴰ.tail (entry_in m n)
 
 -- a row whose entry is in view is in view itself
 pub viewed-row : (ms : List (Marked Block)) → Apart (entries ms) → (m : Marked Block) → Memᴰ m ms → In m.entry (view_of ms) → m.viewed ≡ true
@@ -46,7 +46,7 @@ viewed-row (x ∷ xs) A m n k = go x.viewed refl k (Memᴰ.cases_cons n) (λ o h
     later e o = A.0 m.entry o e
 
     here : (m.entry ≡ x.entry) ⊎ In m.entry (view_of xs) → Memᴰ m xs → (In m.entry (view_of xs) → m.viewed ≡ true) → m.viewed ≡ true
-    here (inl e) o rec = absurd (later (ap (λ b. b.number) (sym e)) (entry_in xs m o))
+    here (inl e) o rec = absurd (later (ap (λ b. b.number) (sym e)) (entry_in m o))
     here (inr h) o rec = rec h
 
     go : (t : Bool) → x.viewed ≡ t → In m.entry (cond t (x.entry ∷ view_of xs) (view_of xs)) → (m ≡ x) ⊎ Memᴰ m xs
@@ -65,7 +65,7 @@ apart-differ (m ∷ ms) A = rw (not-passes other) (apart-differ ms A.1)
     other : any_pass (λ b. eqb m.entry.number b.entry.number) ms ≡ true → ⊥
     other e =
         let r = any-true (λ b. eqb m.entry.number b.entry.number) ms e in
-        A.0 r.0.entry (entry_in ms r.0 r.1) (eqb-true m.entry.number r.0.entry.number r.2)
+        A.0 r.0.entry (entry_in r.0 r.1) (eqb-true m.entry.number r.0.entry.number r.2)
 
 abbrev pub numbered : ℕ → Block → Bool
 numbered x b = eqb b.number x

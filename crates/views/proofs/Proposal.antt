@@ -95,7 +95,7 @@ module _ (p : Packet) (R : List (Marked Block)) (O : Ordered R) (C : Closed (vie
       fresh : (d : Block) → In d (view_of R) → Above (entries R) b.number d.number → ⊥
       fresh d k r =
           let o = down R O C (d, k, refl) r in
-          let q : o.0 ≡ b = S.unique o.0 b (view-stored R o.0 o.1) (entry_in R m n) o.2 in
+          let q : o.0 ≡ b = S.unique o.0 b (view-stored R o.0 o.1) (entry_in m n) o.2 in
           clashing (viewed-row R (ordered-apart R O) m n (rw q at o.1)) w
 
       old : (d : Block) → In d (view_of R) ⊎ (In d (entries R) × (named p d ≡ true)) → Above (entries R) b.number d.number → stood_on (entries R) p b ≡ true

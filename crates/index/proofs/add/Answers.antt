@@ -16,12 +16,12 @@ link_at-link-requires c = omega (arith, c.root-at.ensures.1, c.requires.2.room)
 
 pub returns-then-link-eq0 : goal.returns-then-link-eq0
 returns-then-link-eq0 c =
-    let s = ((c)) in
-    let x = added-put (descent-none s.pre.2 ((descent-root c.requires.2 c.key_at-key.result tt _ c.link_at-link.ensures c.root-at.ensures.0 refl (omega (arith, c.root-at.ensures.1)))) c.if-link-eq0.true) ((c.key_at-key.ensures)) refl c.put_link.ensures in
-    (added-points x, added-index x s.pre.1.1 s.pre.2)
+    let begins = descent-root c.requires.2 c.key_at-key.result tt _ c.link_at-link.ensures c.root-at.ensures.0 refl (omega (arith, c.root-at.ensures.1)) in
+    let x = added-put (descent-none c.requires.2 begins c.if-link-eq0.true) c.key_at-key.ensures refl c.put_link.ensures in
+    (added-points x, added-index x c.requires.1.1 c.requires.2)
 
 pub add_below-requires : goal.add_below-requires
 add_below-requires c =
-    let s = ((c)) in
-    let a = s.args in
-    (readable-less a.kind a.words.now (a.n + 1) a.n (omega arith) s.pre.0, s.pre.1, s.pre.2, (descent-root c.requires.2 c.key_at-key.result tt _ c.link_at-link.ensures c.root-at.ensures.0 refl (omega (arith, c.root-at.ensures.1))), (c.key_at-key.ensures))
+    let a = c.args in
+    let begins = descent-root c.requires.2 c.key_at-key.result tt _ c.link_at-link.ensures c.root-at.ensures.0 refl (omega (arith, c.root-at.ensures.1)) in
+    (readable-less a.kind a.words.now (a.n + 1) a.n (omega arith) c.requires.0, c.requires.1, c.requires.2, begins, c.key_at-key.ensures)

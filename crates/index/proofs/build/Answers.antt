@@ -2,7 +2,6 @@
 use borrow.Author.Rules.{rules}
 use native.Mathlib.Omega.{arith}
 use Prim.Native.Nat.{◌-◌, ◌≤◌}
-use mathlib.Core.Logic.{⊎_elim}
 use mathlib.Core.Path.{◌≡◌, refl, sym, ◌∙◌}
 use lib.ListN.{length}
 use Rattle.search_tree.specs.Lists.{distinct}
@@ -11,6 +10,7 @@ use Rattle.index.specs.Index.{key_at, IndexOf, listed, keys_differ}
 use Rattle.index.proofs.Keys.{readable-less}
 use Rattle.index.proofs.Links.{keys-new, keys-old}
 use Rattle.index.proofs.build.Goals as goal
+use Rattle.index.proofs.build.Goals.{then-add-ne0, else-add-ne0}
 
 pub loop-i-init : goal.loop-i-init
 unfolding distinct listed
@@ -26,11 +26,11 @@ pub loop-i-preserved : goal.loop-i-preserved
 loop-i-preserved c =
     let l = c.loop-i in (
       omega arith,
-      c.add.auto.1.1.1.0 ∙ l.invariant.1,
-      ⊎_elim
-          (λ w. w.1 ∙ sym (keys-old _ _ c.add.ensures.0 w.0.taken))
-          (λ w. w.1 ∙ l.invariant.2 ∙ sym (keys-new _ _ c.add.ensures.0 w.0.left))
-          c.if-add-ne0.branch,
+      c.add.auto.links ∙ l.invariant.1,
+      elim c.if-add-ne0.branch [
+        | then-add-ne0 w ↦ w.differ-is ∙ sym (keys-old _ _ c.add.ensures.0 w.if-add-ne0.true)
+        | else-add-ne0 w ↦ w.differ-is ∙ l.invariant.2 ∙ sym (keys-new _ _ c.add.ensures.0 w.if-add-ne0.false)
+      ],
       c.add.ensures.1,
     )
 

@@ -4,7 +4,7 @@ use native.Mathlib.Omega.{arith}
 use Prim.Native.Nat.{ℕ, ◌+◌, ◌-◌, ◌≤◌, ◌<◌}
 use mathlib.Core.Path.{◌≡◌, refl, ap, sym, ◌∙◌, subst⁻¹}
 use Rattle.protocol.proofs.Basics.Tests.{clashing}
-use Rattle.search_tree.specs.Tree.{links_of, Descent}
+use Rattle.search_tree.specs.Tree.{links_of, child, Descent}
 use Rattle.search_tree.proofs.Descent.{descent-later, descent-step, descent-hit, descent-none}
 use Rattle.index.specs.Keys.{same_key, packet_shape}
 use Rattle.index.specs.Index.{entry_key}
@@ -22,35 +22,38 @@ entry_key-met-requires c = omega (arith, c.loop-link.invariant.few, c.requires.0
 
 pub returns-then-same_key : goal.returns-then-same_key
 returns-then-same_key c =
-    descent-hit c.requires.1 c.loop-link.invariant c.loop-link-test.true (key-same _ _ (sym ((c.same_key.ensures ∙ ap (λ k. same_key k c.args.key) c.entry_key-met.ensures)) ∙ c.if-same_key.true))
+    let told = c.same_key.ensures ∙ ap (λ k. same_key k c.args.key) c.entry_key-met.ensures in
+    descent-hit c.requires.1 c.loop-link.invariant c.loop-link-test.true (key-same _ _ (sym told ∙ c.if-same_key.true))
 
 pub entry_child-at-requires : goal.entry_child-at-requires
 entry_child-at-requires c =
-    omega (arith, (let a = c.args in
-    links-within a.salt _ a.n (omega (arith, c.loop-link.invariant.few, c.loop-link-test.true))), c.requires.1.room)
+    let among = links-within c.args.salt (c.loop-link.link - 1) c.args.n (omega (arith, c.loop-link.invariant.few, c.loop-link-test.true)) in
+    omega (arith, among, c.requires.1.room)
+
+-- the link by which it goes on is one of those of n entries
+within : (salt p n digits : ℕ) {at : ℕ} → p < n → at ≡ child (packet_shape salt) p digits
+    → (links_of (packet_shape salt) p ≤ at) × (at < links_of (packet_shape salt) n)
+within salt p n digits h e =
+    let w = child-within salt p digits in
+    (omega (arith, e, w.0), omega (arith, e, w.1, links-within salt p n h))
 
 pub link_at-link-requires : goal.link_at-link-requires
 link_at-link-requires c =
-    omega (arith, ((let h = child-within c.args.salt (c.loop-link.link - 1) c.loop-link.digits in
-    (omega (arith, c.entry_child-at.ensures, h.0), omega (arith, c.entry_child-at.ensures, h.1, (let a = c.args in
-    links-within a.salt _ a.n (omega (arith, c.loop-link.invariant.few, c.loop-link-test.true))))))).1, c.requires.1.room)
+    let w = within c.args.salt (c.loop-link.link - 1) c.args.n c.loop-link.digits (omega (arith, c.loop-link.invariant.few, c.loop-link-test.true)) c.entry_child-at.ensures in
+    omega (arith, w.1, c.requires.1.room)
 
 pub loop-link-smaller : goal.loop-link-smaller
 loop-link-smaller c =
     let h = descent-later c.requires.1 c.loop-link.invariant c.loop-link-test.true in
-    omega (arith, h, ((let h = child-within c.args.salt (c.loop-link.link - 1) c.loop-link.digits in
-    (omega (arith, c.entry_child-at.ensures, h.0), omega (arith, c.entry_child-at.ensures, h.1, (let a = c.args in
-    links-within a.salt _ a.n (omega (arith, c.loop-link.invariant.few, c.loop-link-test.true))))))).0, ((let h = child-within c.args.salt (c.loop-link.link - 1) c.loop-link.digits in
-    (omega (arith, c.entry_child-at.ensures, h.0), omega (arith, c.entry_child-at.ensures, h.1, (let a = c.args in
-    links-within a.salt _ a.n (omega (arith, c.loop-link.invariant.few, c.loop-link-test.true))))))).1)
+    let w = within c.args.salt (c.loop-link.link - 1) c.args.n c.loop-link.digits (omega (arith, c.loop-link.invariant.few, c.loop-link-test.true)) c.entry_child-at.ensures in
+    omega (arith, h, w.0, w.1)
 
 pub loop-link-preserved : goal.loop-link-preserved
 loop-link-preserved c =
-    descent-step c.requires.1 c.loop-link.invariant _ c.loop-link-test.true (λ e. clashing ((c.same_key.ensures ∙ ap (λ k. same_key k c.args.key) c.entry_key-met.ensures) ∙ same_key_lem _ _ e) c.if-same_key.false)
-    c.link_at-link.ensures c.entry_child-at.ensures refl ((let h = child-within c.args.salt (c.loop-link.link - 1) c.loop-link.digits in
-    (omega (arith, c.entry_child-at.ensures, h.0), omega (arith, c.entry_child-at.ensures, h.1, (let a = c.args in
-    links-within a.salt _ a.n (omega (arith, c.loop-link.invariant.few, c.loop-link-test.true))))))).1
+    let told = c.same_key.ensures ∙ ap (λ k. same_key k c.args.key) c.entry_key-met.ensures in
+    let w = within c.args.salt (c.loop-link.link - 1) c.args.n c.loop-link.digits (omega (arith, c.loop-link.invariant.few, c.loop-link-test.true)) c.entry_child-at.ensures in
+    descent-step c.requires.1 c.loop-link.invariant _ c.loop-link-test.true (λ e. clashing (told ∙ same_key_lem _ _ e) c.if-same_key.false)
+    c.link_at-link.ensures c.entry_child-at.ensures refl w.1
 
 pub returns : goal.returns
-returns c =
-    descent-none c.requires.1 c.loop-link.invariant c.loop-link-test.false
+returns c = descent-none c.requires.1 c.loop-link.invariant c.loop-link-test.false

@@ -14,17 +14,23 @@ pub link_at-link-requires : goal.link_at-link-requires
 link_at-link-requires c = omega (arith, c.root-at.ensures.1, c.requires.1.room)
 
 pub returns-then-link-eq0 : goal.returns-then-link-eq0
-returns-then-link-eq0 c = (descent-none c.requires.1 ((descent-root c.requires.1 c.args.key tt _ c.link_at-link.ensures c.root-at.ensures.0 refl (omega (arith, c.root-at.ensures.1)))) c.if-link-eq0.true).linked
+returns-then-link-eq0 c =
+    let begins = descent-root c.requires.1 c.args.key tt _ c.link_at-link.ensures c.root-at.ensures.0 refl (omega (arith, c.root-at.ensures.1)) in
+    (descent-none c.requires.1 begins c.if-link-eq0.true).linked
 
 pub key_at-met-requires : goal.key_at-met-requires
 key_at-met-requires c =
     let a = c.args in
-    readable-less a.kind a.words.now a.n _ (omega (arith, ((descent-root c.requires.1 c.args.key tt _ c.link_at-link.ensures c.root-at.ensures.0 refl (omega (arith, c.root-at.ensures.1)))).few, c.if-link-eq0.false)) c.requires.0
+    let begins = descent-root c.requires.1 c.args.key tt _ c.link_at-link.ensures c.root-at.ensures.0 refl (omega (arith, c.root-at.ensures.1)) in
+    readable-less a.kind a.words.now a.n _ (omega (arith, begins.few, c.if-link-eq0.false)) c.requires.0
 
 pub returns-then-same_key : goal.returns-then-same_key
 returns-then-same_key c =
-    (descent-hit c.requires.1 ((descent-root c.requires.1 c.args.key tt _ c.link_at-link.ensures c.root-at.ensures.0 refl (omega (arith, c.root-at.ensures.1)))) c.if-link-eq0.false (key-same _ _ (sym ((c.same_key.ensures ∙ ap (λ c. same_key c c.args.key) c.key_at-met.ensures)) ∙ c.if-same_key.true))).linked
+    let begins = descent-root c.requires.1 c.args.key tt _ c.link_at-link.ensures c.root-at.ensures.0 refl (omega (arith, c.root-at.ensures.1)) in
+    let told = c.same_key.ensures ∙ ap (λ k. same_key k c.args.key) c.key_at-met.ensures in
+    (descent-hit c.requires.1 begins c.if-link-eq0.false (key-same _ _ (sym told ∙ c.if-same_key.true))).linked
 
 pub descend-spot-requires : goal.descend-spot-requires
 descend-spot-requires c =
-    (c.requires.0, c.requires.1, (descent-root c.requires.1 c.args.key tt _ c.link_at-link.ensures c.root-at.ensures.0 refl (omega (arith, c.root-at.ensures.1))))
+    let begins = descent-root c.requires.1 c.args.key tt _ c.link_at-link.ensures c.root-at.ensures.0 refl (omega (arith, c.root-at.ensures.1)) in
+    (c.requires.0, c.requires.1, begins)

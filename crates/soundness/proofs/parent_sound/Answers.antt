@@ -28,19 +28,28 @@ returns-then-link-i c =
     (not-before _ _ _ _ c.requires.0 c.link-link.ensures c.if-link-i.true) refl)
 
 pub returns-then-parent-row : goal.returns-then-parent-row
+unfolding parent_sound
 returns-then-parent-row c =
-    sym ((let row = c.args.row in
+    let row = c.args.row in
+    let told =
     tested_at (λ q. ltb q.slot row.block.slot) _ _ (value row.block.parent) row.viewed (before _ _ _ _ c.requires.0 c.link-link.ensures c.if-link-i.false) c.if-link-eq0.false
-    (differ-before _ _ _ c.requires.0 c.requires.1.unrepeated) c.block_at-parent.ensures) ∙ fails _ (le-ltb _ _ c.if-parent-row.true))
+    (differ-before _ _ _ c.requires.0 c.requires.1.unrepeated) c.block_at-parent.ensures in
+    sym (told ∙ fails _ (le-ltb _ _ c.if-parent-row.true))
 
 pub returns-then-row : goal.returns-then-row
+unfolding parent_sound
 returns-then-row c =
-    sym ((let row = c.args.row in
+    let row = c.args.row in
+    let told =
     tested_at (λ q. ltb q.slot row.block.slot) _ _ (value row.block.parent) row.viewed (before _ _ _ _ c.requires.0 c.link-link.ensures c.if-link-i.false) c.if-link-eq0.false
-    (differ-before _ _ _ c.requires.0 c.requires.1.unrepeated) c.block_at-parent.ensures) ∙ viewed-passes (lt-ltb _ _ c.if-parent-row.false) c.if-row.true)
+    (differ-before _ _ _ c.requires.0 c.requires.1.unrepeated) c.block_at-parent.ensures in
+    sym (told ∙ viewed-passes (lt-ltb _ _ c.if-parent-row.false) c.if-row.true)
 
 pub returns : goal.returns
+unfolding parent_sound
 returns c =
-    sym ((let row = c.args.row in
+    let row = c.args.row in
+    let told =
     tested_at (λ q. ltb q.slot row.block.slot) _ _ (value row.block.parent) row.viewed (before _ _ _ _ c.requires.0 c.link-link.ensures c.if-link-i.false) c.if-link-eq0.false
-    (differ-before _ _ _ c.requires.0 c.requires.1.unrepeated) c.block_at-parent.ensures) ∙ waiting-passes _ (lt-ltb _ _ c.if-parent-row.false) c.if-row.false)
+    (differ-before _ _ _ c.requires.0 c.requires.1.unrepeated) c.block_at-parent.ensures in
+    sym (told ∙ waiting-passes _ (lt-ltb _ _ c.if-parent-row.false) c.if-row.false)

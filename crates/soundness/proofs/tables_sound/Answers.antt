@@ -18,9 +18,13 @@ returns-then-not-all_voted_sound c = (no-voted _ _ (sym c.all_voted_sound.ensure
 
 pub returns : goal.returns
 returns c =
-    (
+    let blocks : Indexed c.args.blocks.now c.args.blocks_used c.build_blocks.new.links = record {
+      fit = c.requires.0;
+      index = c.build_blocks.ensures.1;
+      unrepeated = sym c.build_blocks.ensures.0 ∙ c.if-not-build_blocks.false;
+    } in (
       c.build_votes.ensures.0
-          ∙ votes-left _ _ ((record { fit = c.requires.0; index = c.build_blocks.ensures.1; unrepeated = sym c.build_blocks.ensures.0 ∙ c.if-not-build_blocks.false })).unrepeated (sym c.chain_sound.ensures ∙ c.if-not-chain_sound.false)
+          ∙ votes-left _ _ blocks.unrepeated (sym c.chain_sound.ensures ∙ c.if-not-chain_sound.false)
           (sym c.all_voted_sound.ensures ∙ c.if-not-all_voted_sound.false),
-      λ e. record { blocks = (record { fit = c.requires.0; index = c.build_blocks.ensures.1; unrepeated = sym c.build_blocks.ensures.0 ∙ c.if-not-build_blocks.false }); votes = c.build_votes.ensures.1; unrepeated = sym c.build_votes.ensures.0 ∙ e },
+      λ e. record { blocks = blocks; votes = c.build_votes.ensures.1; unrepeated = sym c.build_votes.ensures.0 ∙ e },
     )

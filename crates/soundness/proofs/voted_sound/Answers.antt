@@ -25,16 +25,22 @@ block_at-voted-requires c =
     omega arith
 
 pub returns-then-voted-row : goal.returns-then-voted-row
+unfolding voted_sound
 returns-then-voted-row c =
-    sym ((let row = c.args.row in
-    tested_at (λ q. leb q.slot row.vote.slot) _ _ (value row.vote.number) row.viewed c.link-link.ensures c.if-link-eq0.false c.requires.unrepeated c.block_at-voted.ensures) ∙ fails _ (lt-leb _ _ c.if-voted-row.true))
+    let row = c.args.row in
+    let told = tested_at (λ q. leb q.slot row.vote.slot) _ _ (value row.vote.number) row.viewed c.link-link.ensures c.if-link-eq0.false c.requires.unrepeated c.block_at-voted.ensures in
+    sym (told ∙ fails _ (lt-leb _ _ c.if-voted-row.true))
 
 pub returns-then-row : goal.returns-then-row
+unfolding voted_sound
 returns-then-row c =
-    sym ((let row = c.args.row in
-    tested_at (λ q. leb q.slot row.vote.slot) _ _ (value row.vote.number) row.viewed c.link-link.ensures c.if-link-eq0.false c.requires.unrepeated c.block_at-voted.ensures) ∙ viewed-passes (le-leb _ _ c.if-voted-row.false) c.if-row.true)
+    let row = c.args.row in
+    let told = tested_at (λ q. leb q.slot row.vote.slot) _ _ (value row.vote.number) row.viewed c.link-link.ensures c.if-link-eq0.false c.requires.unrepeated c.block_at-voted.ensures in
+    sym (told ∙ viewed-passes (le-leb _ _ c.if-voted-row.false) c.if-row.true)
 
 pub returns : goal.returns
+unfolding voted_sound
 returns c =
-    sym ((let row = c.args.row in
-    tested_at (λ q. leb q.slot row.vote.slot) _ _ (value row.vote.number) row.viewed c.link-link.ensures c.if-link-eq0.false c.requires.unrepeated c.block_at-voted.ensures) ∙ waiting-passes _ (le-leb _ _ c.if-voted-row.false) c.if-row.false)
+    let row = c.args.row in
+    let told = tested_at (λ q. leb q.slot row.vote.slot) _ _ (value row.vote.number) row.viewed c.link-link.ensures c.if-link-eq0.false c.requires.unrepeated c.block_at-voted.ensures in
+    sym (told ∙ waiting-passes _ (le-leb _ _ c.if-voted-row.false) c.if-row.false)

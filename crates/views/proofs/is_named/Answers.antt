@@ -1,5 +1,4 @@
 -- `is_named` meets its contract. Assumes nothing.
-use borrow.Author.Rules.{rules}
 use borrow.Author.Tests.{le-leb, lt-leb}
 use native.Mathlib.Omega.{arith}
 use Rattle.views.specs.Named.{named_at}

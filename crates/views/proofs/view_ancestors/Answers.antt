@@ -17,20 +17,18 @@ view_block-requires c =
     (omega arith, l.invariant.2.marks, l.invariant.2.ordered, blocks-indexed _ _ _ l.invariant.2.entered c.requires.3)
 
 pub loop-i-preserved-then-row : goal.loop-i-preserved-then-row
-loop-i-preserved-then-row c =
-    (
-      omega arith,
-      c.view_block.auto.0 ∙ c.loop-i.invariant.1,
-      pass-shows _ _ _ c.loop-i.i _ c.loop-i.invariant.2 (omega arith) (omega arith) c.block_at-row.ensures c.if-row.true (omega arith) c.view_block.ensures,
-    )
+loop-i-preserved-then-row c = (
+  omega arith,
+  omega arith,
+  pass-shows _ _ _ c.loop-i.i _ c.loop-i.invariant.2 (omega arith) (omega arith) c.block_at-row.ensures c.if-row.true (omega arith) c.view_block.ensures,
+)
 
 pub loop-i-preserved : goal.loop-i-preserved
-loop-i-preserved c =
-    (
-      omega arith,
-      c.loop-i.invariant.1,
-      pass-waits _ _ _ c.loop-i.i _ c.loop-i.invariant.2 (omega arith) (omega arith) c.block_at-row.ensures c.if-row.false,
-    )
+loop-i-preserved c = (
+  omega arith,
+  c.loop-i.invariant.1,
+  pass-waits _ _ _ c.loop-i.i _ c.loop-i.invariant.2 (omega arith) (omega arith) c.block_at-row.ensures c.if-row.false,
+)
 
 pub returns : goal.returns
 returns c = pass-end _ _ _ c.loop-i.i (omega arith) c.loop-i.invariant.2

@@ -27,9 +27,9 @@ pub loop-i-preserved : goal.loop-i-preserved
 loop-i-preserved c =
     (
       omega arith,
-      c.latest_next.auto.1.1.1.1.1.0 ∙ c.loop-i.invariant.1,
-      c.latest_next.auto.1.1.1.1.1.1.0 ∙ c.loop-i.invariant.2,
-      c.equivocators_next-mask.auto.1.1.1.1.1.0 ∙ c.loop-i.invariant.3,
+      c.latest_next.auto.slots ∙ c.loop-i.invariant.1,
+      c.latest_next.auto.numbers ∙ c.loop-i.invariant.2,
+      c.equivocators_next-mask.auto.links ∙ c.loop-i.invariant.3,
       c.equivocators_next-mask.ensures.1,
       c.equivocators_next-mask.ensures.0,
       c.latest_next.ensures,

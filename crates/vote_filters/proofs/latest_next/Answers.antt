@@ -9,19 +9,19 @@ use Rattle.vote_filters.proofs.Latest.{out-turn, old-turn, new-turn}
 use Rattle.vote_filters.proofs.latest_next.Goals as goal
 
 pub offset_bounds-slots-v : goal.offset_bounds-slots-v
-offset_bounds-slots-v c = omega (arith, (omega (arith, c.requires.1 c.args.i (omega arith), ap (λ o. o.entry.voter) c.vote_at-row.ensures)))
+offset_bounds-slots-v c = omega (arith, c.requires.1 c.args.i (omega arith), ap (λ o. o.entry.voter) c.vote_at-row.ensures)
 
 pub bounds-slots-v : goal.bounds-slots-v
-bounds-slots-v c = omega (arith, (omega (arith, c.requires.1 c.args.i (omega arith), ap (λ o. o.entry.voter) c.vote_at-row.ensures)))
+bounds-slots-v c = omega (arith, c.requires.1 c.args.i (omega arith), ap (λ o. o.entry.voter) c.vote_at-row.ensures)
 
 pub offset_bounds-slots-v-then-is_later : goal.offset_bounds-slots-v-then-is_later
-offset_bounds-slots-v-then-is_later c = omega (arith, (omega (arith, c.requires.1 c.args.i (omega arith), ap (λ o. o.entry.voter) c.vote_at-row.ensures)))
+offset_bounds-slots-v-then-is_later c = omega (arith, c.requires.1 c.args.i (omega arith), ap (λ o. o.entry.voter) c.vote_at-row.ensures)
 
 pub bounds-slots-v-then-is_later : goal.bounds-slots-v-then-is_later
-bounds-slots-v-then-is_later c = omega (arith, (omega (arith, c.requires.1 c.args.i (omega arith), ap (λ o. o.entry.voter) c.vote_at-row.ensures)))
+bounds-slots-v-then-is_later c = omega (arith, c.requires.1 c.args.i (omega arith), ap (λ o. o.entry.voter) c.vote_at-row.ensures)
 
 pub keep-requires : goal.keep-requires
-keep-requires c = omega (arith, (omega (arith, c.requires.1 c.args.i (omega arith), ap (λ o. o.entry.voter) c.vote_at-row.ensures)))
+keep-requires c = omega (arith, c.requires.1 c.args.i (omega arith), ap (λ o. o.entry.voter) c.vote_at-row.ensures)
 
 pub returns-then-is_later : goal.returns-then-is_later
 returns-then-is_later c =

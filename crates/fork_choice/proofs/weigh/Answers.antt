@@ -19,8 +19,8 @@ supporters-requires c =
       T.blocks-fit,
       (blocks-held T c.args.whole).some,
       f.0,
-      c.kept_votes.auto.1.1.1.1.1.0 ∙ length-replicate {A = ℕ} 64 0,
-      omega (arith, c.kept_votes.auto.1.1.1.1.1.1.0),
+      c.kept_votes.auto.slots ∙ length-replicate {A = ℕ} 64 0,
+      omega (arith, c.kept_votes.auto.numbers),
       c.requires.1,
       c.requires.2,
     )

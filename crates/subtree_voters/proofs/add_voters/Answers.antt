@@ -22,7 +22,7 @@ loop-v-preserved c =
     let l = c.loop-v in
     (
       omega arith,
-      c.add_voter.auto.1.1.1.1.1.1.0 ∙ l.invariant.1,
+      c.add_voter.auto.masks ∙ l.invariant.1,
       linked-more _ _ _ _ _ l.invariant.2 c.add_voter.ensures c.requires.2 (omega arith),
     )
 

@@ -35,8 +35,8 @@ loop-i-preserved c =
     let l = c.loop-i in
     (
       omega arith,
-      c.add_block.auto.1.1.0 ∙ l.invariant.1,
-      c.put_link.auto.0 ∙ l.invariant.2,
+      c.add_block.auto.links ∙ l.invariant.1,
+      c.put_link.auto.links ∙ l.invariant.2,
       c.add_block.ensures,
       filled_more _ l.i l.invariant.4 c.put_link.ensures (c.row_in-p.ensures ∙ ap (λ o. row_in c.args.blocks.now l.i o.entry.parent) c.block_at-row.ensures) (omega (arith, c.requires.4)),
     )

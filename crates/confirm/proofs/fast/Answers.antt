@@ -17,7 +17,7 @@ pub top-requires : goal.top-requires
 top-requires c =
     let T = c.requires.0 in
     let f = few T in
-    let h = c.weigh.auto.1.1.1.1.1.1.1.1.1.0 ∙ length-replicate {A = ℕ} loom.blocks 0 in
+    let h = c.weigh.auto.masks ∙ length-replicate {A = ℕ} loom.blocks 0 in
     (T.blocks-fit, omega arith, f.1)
 
 pub returns : goal.returns

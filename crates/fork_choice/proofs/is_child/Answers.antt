@@ -11,12 +11,12 @@ use Rattle.fork_choice.proofs.is_child.Goals as goal
 pub returns-then-same : goal.returns-then-same
 unfolding is_child
 returns-then-same c =
-    simp (lt-ltb _ _ ((omega (arith, eqb-false (value c.args.b.number) 0 (sym c.is_zero.ensures ∙ c.if-not-is_zero.true)))), sym c.same.ensures ∙ c.if-same.true)
+    simp (lt-ltb 0 (value c.args.b.number) (omega (arith, eqb-false (value c.args.b.number) 0 (sym c.is_zero.ensures ∙ c.if-not-is_zero.true))), sym c.same.ensures ∙ c.if-same.true)
 
 pub returns-else-same : goal.returns-else-same
 unfolding is_child
 returns-else-same c =
-    simp (lt-ltb _ _ ((omega (arith, eqb-false (value c.args.b.number) 0 (sym c.is_zero.ensures ∙ c.if-not-is_zero.true)))), sym c.same.ensures ∙ c.if-same.false)
+    simp (lt-ltb 0 (value c.args.b.number) (omega (arith, eqb-false (value c.args.b.number) 0 (sym c.is_zero.ensures ∙ c.if-not-is_zero.true))), sym c.same.ensures ∙ c.if-same.false)
 
 pub returns-else-not-is_zero : goal.returns-else-not-is_zero
 unfolding is_child

@@ -32,8 +32,8 @@ pub best_child-c-requires : goal.best_child-c-requires
 best_child-c-requires c =
     (
       c.requires.0,
-      omega (arith, c.requires.1, c.link_children.auto.1.1.0, length-replicate {A = ℕ} loom.blocks 0),
-      omega (arith, c.requires.1, c.link_children.auto.1.1.1.0, length-replicate {A = ℕ} loom.blocks 0),
+      omega (arith, c.requires.1, c.link_children.auto.children, length-replicate {A = ℕ} loom.blocks 0),
+      omega (arith, c.requires.1, c.link_children.auto.siblings, length-replicate {A = ℕ} loom.blocks 0),
       c.requires.2,
       c.loop-children.invariant.inside,
       c.requires.4,
@@ -44,8 +44,8 @@ pub has_rival-requires : goal.has_rival-requires
 has_rival-requires c =
     (
       c.requires.0,
-      omega (arith, c.requires.1, c.link_children.auto.1.1.0, length-replicate {A = ℕ} loom.blocks 0),
-      omega (arith, c.requires.1, c.link_children.auto.1.1.1.0, length-replicate {A = ℕ} loom.blocks 0),
+      omega (arith, c.requires.1, c.link_children.auto.children, length-replicate {A = ℕ} loom.blocks 0),
+      omega (arith, c.requires.1, c.link_children.auto.siblings, length-replicate {A = ℕ} loom.blocks 0),
       c.requires.2,
       c.loop-children.invariant.inside,
       c.best_child-c.ensures.0,

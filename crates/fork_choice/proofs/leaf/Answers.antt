@@ -29,16 +29,15 @@ loop-children-init c =
     way-start (held c.args.whole _ _ c.requires.4) c.args.weights.now c.args.lim
 
 pub best_child-c-requires : goal.best_child-c-requires
-best_child-c-requires c =
-    (
-      c.requires.0,
-      omega (arith, c.requires.1, c.link_children.auto.children, length-replicate {A = ℕ} loom.blocks 0),
-      omega (arith, c.requires.1, c.link_children.auto.siblings, length-replicate {A = ℕ} loom.blocks 0),
-      c.requires.2,
-      c.loop-children.invariant.inside,
-      c.requires.4,
-      linked-by c.requires.5.each c.link_children.ensures,
-    )
+best_child-c-requires c = (
+  c.requires.0,
+  omega (arith, c.requires.1, c.link_children.auto.children, length-replicate {A = ℕ} loom.blocks 0),
+  omega (arith, c.requires.1, c.link_children.auto.siblings, length-replicate {A = ℕ} loom.blocks 0),
+  c.requires.2,
+  c.loop-children.invariant.inside,
+  c.requires.4,
+  linked-by c.requires.5.each c.link_children.ensures,
+)
 
 pub loop-children-smaller : goal.loop-children-smaller
 loop-children-smaller c =

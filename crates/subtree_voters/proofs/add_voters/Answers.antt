@@ -19,8 +19,7 @@ add_voter-requires c =
 
 pub loop-v-preserved : goal.loop-v-preserved
 loop-v-preserved c =
-    let l = c.loop-v in
-    (
+    let l = c.loop-v in (
       omega arith,
       c.add_voter.auto.masks ∙ l.invariant.1,
       linked-more _ _ _ _ _ l.invariant.2 c.add_voter.ensures c.requires.2 (omega arith),

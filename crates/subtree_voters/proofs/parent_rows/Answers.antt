@@ -32,8 +32,7 @@ add_block-requires c =
 
 pub loop-i-preserved : goal.loop-i-preserved
 loop-i-preserved c =
-    let l = c.loop-i in
-    (
+    let l = c.loop-i in (
       omega arith,
       c.add_block.auto.links ∙ l.invariant.1,
       c.put_link.auto.links ∙ l.invariant.2,

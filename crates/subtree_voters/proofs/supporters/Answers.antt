@@ -22,16 +22,15 @@ add_voters-requires c =
     (c.requires.0, c.parent_rows.ensures.0, c.requires.1, c.requires.2, c.requires.3, c.requires.4, c.requires.6)
 
 pub loop-i-init : goal.loop-i-init
-loop-i-init c =
-    (
-      omega arith,
-      omega arith,
-      c.requires.2,
-      c.add_voters.auto.masks ∙ (ap length c.requires.6 ∙ length-replicate {A = ℕ} loom.blocks 0),
-      c.parent_rows.auto.parents ∙ c.requires.5,
-      c.parent_rows.ensures.1,
-      c.add_voters.ensures,
-    )
+loop-i-init c = (
+  omega arith,
+  omega arith,
+  c.requires.2,
+  c.add_voters.auto.masks ∙ (ap length c.requires.6 ∙ length-replicate {A = ℕ} loom.blocks 0),
+  c.parent_rows.auto.parents ∙ c.requires.5,
+  c.parent_rows.ensures.1,
+  c.add_voters.ensures,
+)
 
 -- row i, which the loop stands at, hands on to a row before it
 pub hand_on-requires : goal.hand_on-requires

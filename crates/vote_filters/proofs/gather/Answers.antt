@@ -24,16 +24,15 @@ latest_next-requires c =
     (omega arith, (λ i h. c.requires.2 i (omega arith)), c.loop-i.invariant.1 ∙ c.requires.3, omega (arith, c.loop-i.invariant.2, c.requires.4), c.loop-i.invariant.6)
 
 pub loop-i-preserved : goal.loop-i-preserved
-loop-i-preserved c =
-    (
-      omega arith,
-      c.latest_next.auto.slots ∙ c.loop-i.invariant.1,
-      c.latest_next.auto.numbers ∙ c.loop-i.invariant.2,
-      c.equivocators_next-mask.auto.links ∙ c.loop-i.invariant.3,
-      c.equivocators_next-mask.ensures.1,
-      c.equivocators_next-mask.ensures.0,
-      c.latest_next.ensures,
-    )
+loop-i-preserved c = (
+  omega arith,
+  c.latest_next.auto.slots ∙ c.loop-i.invariant.1,
+  c.latest_next.auto.numbers ∙ c.loop-i.invariant.2,
+  c.equivocators_next-mask.auto.links ∙ c.loop-i.invariant.3,
+  c.equivocators_next-mask.ensures.1,
+  c.equivocators_next-mask.ensures.0,
+  c.latest_next.ensures,
+)
 
 pub returns : goal.returns
 returns c =

@@ -1,7 +1,6 @@
 -- `leaf` meets its contract. Assumes nothing.
-use borrow.Author.Rules.{rules}
 use native.Mathlib.Omega.{arith}
-use Prim.Native.Nat.{ℕ, ◌-◌}
+use Prim.Native.Nat.{ℕ}
 use mathlib.Core.Path.{refl}
 use lib.ListN.{length-replicate}
 use Rattle.protocol.specs.Limits.{loom}
@@ -9,7 +8,7 @@ use Rattle.subtree_voters.specs.BlockRows.{block_at}
 use Rattle.subtree_voters.proofs.BlockRows.{link-low}
 use Rattle.fork_choice.proofs.Held.{held}
 use Rattle.fork_choice.proofs.Children.{linked-by}
-use Rattle.fork_choice.proofs.Best.{Way, way-start, way_on, way-deeper, way_end}
+use Rattle.fork_choice.proofs.Best.{way-start, way_on, way-deeper, way_end}
 use Rattle.fork_choice.proofs.leaf.Goals as goal
 
 pub link_children-requires : goal.link_children-requires

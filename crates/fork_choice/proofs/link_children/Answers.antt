@@ -1,11 +1,9 @@
 -- `link_children` meets its contract. Assumes nothing.
-use borrow.Author.Rules.{rules}
 use native.Mathlib.Omega.{arith}
-use Prim.Native.Nat.{ℕ, ◌+◌, ◌-◌, ◌≤◌, ◌<◌}
+use Prim.Native.Nat.{ℕ, ◌+◌, ◌-◌, ◌<◌}
 use mathlib.Core.Path.{◌≡◌, ap, sym, ◌∙◌}
-use lib.ListN.{length, get_or, length-replicate}
+use lib.ListN.{length, length-replicate}
 use Rattle.protocol.specs.Limits.{loom}
-use Rattle.fork_choice.specs.Children.{Linked}
 use Rattle.fork_choice.proofs.Children.{linked-none, linked-more}
 use Rattle.fork_choice.proofs.link_children.Goals as goal
 

@@ -1,7 +1,6 @@
 -- `last_safe` meets its contract. Assumes nothing.
-use borrow.Author.Rules.{rules}
 use native.Mathlib.Omega.{arith}
-use Prim.Native.Nat.{ℕ, ◌-◌}
+use Prim.Native.Nat.{ℕ}
 use mathlib.Core.Bool.{false}
 use mathlib.Core.Path.{refl, sym, ◌∙◌}
 use lib.ListN.{length-replicate}
@@ -10,7 +9,7 @@ use Rattle.subtree_voters.specs.BlockRows.{block_at}
 use Rattle.subtree_voters.proofs.BlockRows.{link-low}
 use Rattle.fork_choice.proofs.Held.{held}
 use Rattle.fork_choice.proofs.Children.{linked-by}
-use Rattle.settled.proofs.Levels.{Level, level-start, level-deeper, level-on, level-leaf, level-halt}
+use Rattle.settled.proofs.Levels.{level-start, level-deeper, level-on, level-leaf, level-halt}
 use Rattle.settled.proofs.last_safe.Goals as goal
 
 pub link_children-requires : goal.link_children-requires

@@ -1,11 +1,10 @@
 -- `add_voters` meets its contract. Assumes nothing.
-use borrow.Author.Rules.{rules}
 use native.Mathlib.Omega.{arith}
-use Prim.Native.Nat.{ℕ, ◌-◌, ◌≤◌}
-use mathlib.Core.Path.{◌≡◌, ap, sym, ◌∙◌}
+use Prim.Native.Nat.{ℕ}
+use mathlib.Core.Path.{ap, sym, ◌∙◌}
 use lib.ListN.{length, length-replicate}
 use Rattle.protocol.specs.Limits.{loom}
-use Rattle.subtree_voters.proofs.Handing.{VotersAdded, linked-none, linked-more, linked-all}
+use Rattle.subtree_voters.proofs.Handing.{linked-none, linked-more, linked-all}
 use Rattle.subtree_voters.proofs.add_voters.Goals as goal
 
 pub loop-v-init : goal.loop-v-init

@@ -1,12 +1,9 @@
 -- `gather` meets its contract: both filters have seen the first i votes. Assumes nothing.
-use borrow.Author.Rules.{rules}
 use native.Mathlib.Omega.{arith}
-use Prim.Native.Nat.{ℕ, ◌-◌, ◌≤◌}
+use Prim.Native.Nat.{ℕ}
 use mathlib.Core.Path.{◌≡◌, refl, sym, ◌∙◌}
-use lib.ListN.{length, length-replicate}
+use lib.ListN.{length-replicate}
 use Rattle.search_tree.proofs.Tree.{index-free, blank-new}
-use Rattle.index.specs.Links.{SlotIndex}
-use Rattle.vote_filters.specs.Latest.{votes_of, equivocators_of, Latest}
 use Rattle.vote_filters.proofs.Equivocators.{equivocators-none}
 use Rattle.vote_filters.proofs.gather.Goals as goal
 

@@ -1,12 +1,9 @@
 -- `kept_votes` meets its contract. Assumes nothing.
-use borrow.Author.Rules.{rules}
 use native.Mathlib.Omega.{arith}
-use Prim.Native.Nat.{ℕ, ◌-◌, ◌≤◌}
-use mathlib.Core.Path.{◌≡◌, ap, sym, ◌∙◌}
+use Prim.Native.Nat.{ℕ}
+use mathlib.Core.Path.{ap, sym, ◌∙◌}
 use lib.ListN.{length, length-replicate}
-use Rattle.protocol.specs.Limits.{loom}
-use Rattle.vote_filters.specs.Latest.{votes_of}
-use Rattle.vote_filters.proofs.Kept.{Dropped, dropped-none, dropped-more, dropped-all}
+use Rattle.vote_filters.proofs.Kept.{dropped-none, dropped-more, dropped-all}
 use Rattle.vote_filters.proofs.Latest.{latest-zero}
 use Rattle.vote_filters.proofs.kept_votes.Goals as goal
 

@@ -1,6 +1,6 @@
 -- Rivals by rows are rivals, and the search for one along the linked children of a row: rows between two of them are passed over. Assumes nothing.
 use Prim.Native.Nat.{ℕ, ◌+◌, ◌≤◌, ◌<◌}
-use mathlib.Core.Bool.{Bool, true, false, not, ◌&&◌, ◌||◌}
+use mathlib.Core.Bool.{Bool, true, false, ◌&&◌}
 use mathlib.Core.List.{List}
 use mathlib.Core.Path.{◌≡◌, refl, sym, ap, ◌∙◌}
 use native.Mathlib.Decide.{ℕ_discrete, dec_lt}
@@ -15,7 +15,6 @@ use Rattle.protocol.specs.Walk.{is_child}
 use Rattle.protocol.specs.SettledWalk.{overtakes, rivalled}
 use Rattle.protocol.proofs.Basics.Members.{any-true, any-holds}
 use Rattle.protocol.proofs.Basics.Tests.{both, and_left, and_right, clashing, not-passes, same_test}
-use Rattle.protocol.proofs.Chain.Relations.{In}
 use Rattle.protocol.proofs.Walk.Best.{child-true}
 use Rattle.protocol.proofs.Walk.Relations.{IsChild}
 use Rattle.rows.specs.Rows.{row_at}

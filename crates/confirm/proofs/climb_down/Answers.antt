@@ -2,9 +2,8 @@
 use native.Mathlib.Omega.{arith}
 use mathlib.Core.Bool.{false}
 use mathlib.Core.Path.{refl, ◌∙◌}
-use Rattle.subtree_voters.specs.BlockRows.{block_at}
 use Rattle.fork_choice.proofs.Held.{held}
-use Rattle.confirm.proofs.Descent.{Down, down-end, down-on}
+use Rattle.confirm.proofs.Descent.{down-end, down-on}
 use Rattle.confirm.proofs.climb_down.Goals as goal
 
 pub loop-row-init : goal.loop-row-init

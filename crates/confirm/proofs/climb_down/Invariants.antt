@@ -1,10 +1,6 @@
 -- The loop of `climb_down`: its invariant and its measure. Assumes nothing.
-use native.Mathlib.Omega.{arith}
-use mathlib.Core.Bool.{false}
-use mathlib.Core.Path.{refl, ◌∙◌}
 use Rattle.subtree_voters.specs.BlockRows.{block_at}
-use Rattle.fork_choice.proofs.Held.{held}
-use Rattle.confirm.proofs.Descent.{Down, down-end, down-on}
+use Rattle.confirm.proofs.Descent.{Down}
 use Rattle.confirm.proofs.climb_down.Given as goal
 
 abbrev pub invariant-loop-row : goal.invariant-loop-row

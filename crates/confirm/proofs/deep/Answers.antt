@@ -1,5 +1,4 @@
 -- `deep` meets its contract. Assumes nothing.
-use borrow.Author.Rules.{rules}
 use native.Mathlib.Omega.{arith}
 use Prim.Native.Nat.{ℕ}
 use mathlib.Core.Bool.{false}
@@ -17,7 +16,7 @@ pub climb_down-requires : goal.climb_down-requires
 climb_down-requires c =
     let T = c.requires.0 in
     let e = c.heaviest_leaf-a.ensures in
-    (T.blocks-fit, omega (arith, (few T).0, c.heaviest_leaf-a.auto.1.1.1.1.1.1.1.1.0, length-replicate {A = ℕ} loom.blocks 0), blocks-sound T, e.0, e.1, leaf-in (blocks-held T false) _ _ _ e.1 e.2)
+    (T.blocks-fit, omega (arith, (few T).0, c.heaviest_leaf-a.auto.parents, length-replicate {A = ℕ} loom.blocks 0), blocks-sound T, e.0, e.1, leaf-in (blocks-held T false) _ _ _ e.1 e.2)
 
 pub returns : goal.returns
 returns c =

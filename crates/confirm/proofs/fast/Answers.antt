@@ -1,5 +1,4 @@
 -- `fast` meets its contract. Assumes nothing.
-use borrow.Author.Rules.{rules}
 use native.Mathlib.Omega.{arith}
 use Prim.Native.Nat.{ℕ, ◌+◌}
 use mathlib.Core.Bool.{false}
@@ -17,7 +16,7 @@ pub top-requires : goal.top-requires
 top-requires c =
     let T = c.requires.0 in
     let f = few T in
-    let h = c.weigh.auto.1.1.1.1.1.1.1.1.1.0 ∙ length-replicate {A = ℕ} loom.blocks 0 in
+    let h = c.weigh.auto.masks ∙ length-replicate {A = ℕ} loom.blocks 0 in
     (T.blocks-fit, omega arith, f.1)
 
 pub returns : goal.returns

@@ -1,9 +1,7 @@
 -- `top` meets its contract. Assumes nothing.
-use borrow.Author.Rules.{rules}
 use native.Mathlib.Omega.{arith}
-use Prim.Native.Nat.{suc, ◌-◌, ◌≤◌}
+use Prim.Native.Nat.{suc, ◌-◌}
 use mathlib.Core.Path.{◌≡◌, refl, sym, ◌∙◌}
-use Rattle.confirm.specs.Top.{top_choice}
 use Rattle.confirm.proofs.Candidates.{top-hit, top-light, top-hidden, top-end}
 use Rattle.confirm.proofs.top.Goals as goal
 

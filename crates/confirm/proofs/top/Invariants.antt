@@ -1,10 +1,7 @@
 -- The loop of `top`: its invariant and its measure. Assumes nothing.
-use borrow.Author.Rules.{rules}
-use native.Mathlib.Omega.{arith}
-use Prim.Native.Nat.{suc, ◌-◌, ◌≤◌}
-use mathlib.Core.Path.{◌≡◌, refl, sym, ◌∙◌}
+use Prim.Native.Nat.{◌≤◌}
+use mathlib.Core.Path.{◌≡◌}
 use Rattle.confirm.specs.Top.{top_choice}
-use Rattle.confirm.proofs.Candidates.{top-hit, top-light, top-hidden, top-end}
 use Rattle.confirm.proofs.top.Given as goal
 
 abbrev pub invariant-loop-i : goal.invariant-loop-i

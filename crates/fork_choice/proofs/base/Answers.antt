@@ -1,5 +1,4 @@
 -- `base` meets its contract. Assumes nothing.
-use borrow.Author.Rules.{rules}
 use Rattle.fork_choice.proofs.Tables.{base-number}
 use Rattle.fork_choice.proofs.base.Goals as goal
 

@@ -1,5 +1,4 @@
 -- `beats` meets its contract. Assumes nothing.
-use borrow.Author.Rules.{rules}
 use mathlib.Core.Path.{◌∙◌}
 use Rattle.fork_choice.proofs.Best.{beats-more, beats-less, beats-tie}
 use Rattle.fork_choice.proofs.beats.Goals as goal

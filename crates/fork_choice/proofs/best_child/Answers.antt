@@ -1,10 +1,8 @@
 -- `best_child` meets its contract. Assumes nothing.
 use native.Mathlib.Omega.{arith}
 use mathlib.Core.Path.{ap}
-use borrow.Author.Rules.{rules}
-use Rattle.protocol.specs.Words.{value}
 use Rattle.fork_choice.proofs.Held.{held}
-use Rattle.fork_choice.proofs.Scan.{Scan, left, scan-start, scan-turn, scan-less, scan-end}
+use Rattle.fork_choice.proofs.Scan.{scan-start, scan-turn, scan-less, scan-end}
 use Rattle.fork_choice.proofs.best_child.Goals as goal
 
 pub loop-c-init : goal.loop-c-init

@@ -1,10 +1,6 @@
 -- The loop of `best_child`: its invariant and its measure. Assumes nothing.
-use native.Mathlib.Omega.{arith}
-use mathlib.Core.Path.{ap}
-use borrow.Author.Rules.{rules}
 use Rattle.protocol.specs.Words.{value}
-use Rattle.fork_choice.proofs.Held.{held}
-use Rattle.fork_choice.proofs.Scan.{Scan, left, scan-start, scan-turn, scan-less, scan-end}
+use Rattle.fork_choice.proofs.Scan.{Scan, left}
 use Rattle.fork_choice.proofs.best_child.Given as goal
 
 abbrev pub invariant-loop-c : goal.invariant-loop-c

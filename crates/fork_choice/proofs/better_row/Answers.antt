@@ -1,5 +1,4 @@
 -- `better_row` meets its contract. Assumes nothing.
-use borrow.Author.Rules.{rules}
 use mathlib.Core.Path.{sym, ◌∙◌}
 use Rattle.fork_choice.proofs.Best.{better-hidden, better-other, better-first, better-stays, better-new}
 use Rattle.fork_choice.proofs.better_row.Goals as goal

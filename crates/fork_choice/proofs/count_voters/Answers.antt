@@ -1,10 +1,7 @@
 -- `count_voters` meets its contract. Assumes nothing.
-use borrow.Author.Rules.{rules}
 use native.Mathlib.Omega.{arith}
-use Prim.Native.Nat.{◌-◌, ◌≤◌}
 use mathlib.Core.Path.{◌≡◌, refl, ◌∙◌}
-use lib.ListN.{length, length-set}
-use Rattle.fork_choice.specs.Weights.{Counted}
+use lib.ListN.{length-set}
 use Rattle.subtree_voters.proofs.Filled.{filled_none, filled_more}
 use Rattle.fork_choice.proofs.Weights.{count-mask}
 use Rattle.fork_choice.proofs.count_voters.Goals as goal

@@ -1,12 +1,8 @@
 -- The loop of `count_voters`: its invariant and its measure. Assumes nothing.
-use borrow.Author.Rules.{rules}
-use native.Mathlib.Omega.{arith}
 use Prim.Native.Nat.{◌-◌, ◌≤◌}
-use mathlib.Core.Path.{◌≡◌, refl, ◌∙◌}
-use lib.ListN.{length, length-set}
+use mathlib.Core.Path.{◌≡◌}
+use lib.ListN.{length}
 use Rattle.fork_choice.specs.Weights.{Counted}
-use Rattle.subtree_voters.proofs.Filled.{filled_none, filled_more}
-use Rattle.fork_choice.proofs.Weights.{count-mask}
 use Rattle.fork_choice.proofs.count_voters.Given as goal
 
 abbrev pub invariant-loop-i : goal.invariant-loop-i

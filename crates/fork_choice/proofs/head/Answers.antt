@@ -1,5 +1,4 @@
 -- `head` meets its contract. Assumes nothing.
-use borrow.Author.Rules.{rules}
 use Rattle.fork_choice.proofs.Tables.{head-number}
 use Rattle.fork_choice.proofs.head.Goals as goal
 

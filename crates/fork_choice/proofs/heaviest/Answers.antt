@@ -1,5 +1,4 @@
 -- `heaviest` meets its contract. Assumes nothing.
-use borrow.Author.Rules.{rules}
 use native.Mathlib.Omega.{arith}
 use mathlib.Core.Path.{refl, ap, ◌∙◌}
 use Rattle.fork_choice.proofs.heaviest.Goals as goal

@@ -1,5 +1,4 @@
 -- `heaviest_leaf` meets its contract. Assumes nothing.
-use borrow.Author.Rules.{rules}
 use native.Mathlib.Omega.{arith}
 use Prim.Native.Nat.{ℕ}
 use mathlib.Core.Path.{refl, ◌∙◌}
@@ -15,15 +14,15 @@ weigh-requires c =
 pub count_voters-requires : goal.count_voters-requires
 count_voters-requires c =
     let f = few c.requires.0 in
-    let h = c.weigh.auto.1.1.1.1.1.1.1.1.1.0 ∙ length-replicate {A = ℕ} loom.blocks 0 in
+    let h = c.weigh.auto.masks ∙ length-replicate {A = ℕ} loom.blocks 0 in
     (omega arith, omega (arith, length-replicate {A = ℕ} loom.blocks 0))
 
 pub leaf-requires : goal.leaf-requires
 leaf-requires c =
     let T = c.requires.0 in
-    let h = c.count_voters.auto.1.1.1.0 ∙ length-replicate {A = ℕ} loom.blocks 0 in
+    let h = c.count_voters.auto.weights ∙ length-replicate {A = ℕ} loom.blocks 0 in
     let f = few T in
-    (T.blocks-fit, f.0, omega arith, c.weigh.auto.1.1.1.1.1.1.1.1.0 ∙ c.requires.1, blocks-sound T, c.weigh.ensures.0)
+    (T.blocks-fit, f.0, omega arith, c.weigh.auto.parents ∙ c.requires.1, blocks-sound T, c.weigh.ensures.0)
 
 pub returns : goal.returns
 returns c =

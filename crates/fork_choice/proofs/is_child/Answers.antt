@@ -1,8 +1,6 @@
 -- `is_child` meets its contract. Assumes nothing.
-use borrow.Author.Rules.{rules}
-use borrow.Author.Tests.{eqb-true, eqb-false, lt-ltb, not-true, not-false}
+use borrow.Author.Tests.{eqb-true, eqb-false, lt-ltb}
 use native.Mathlib.Omega.{arith}
-use Prim.Native.Nat.{◌<◌}
 use mathlib.Core.Path.{sym, ◌∙◌}
 use Rattle.protocol.specs.Words.{value}
 use Rattle.protocol.specs.Walk.{is_child}
@@ -11,12 +9,12 @@ use Rattle.fork_choice.proofs.is_child.Goals as goal
 pub returns-then-same : goal.returns-then-same
 unfolding is_child
 returns-then-same c =
-    simp (lt-ltb _ _ ((omega (arith, eqb-false (value c.args.b.number) 0 (sym c.is_zero.ensures ∙ c.if-not-is_zero.true)))), sym c.same.ensures ∙ c.if-same.true)
+    simp (lt-ltb 0 (value c.args.b.number) (omega (arith, eqb-false (value c.args.b.number) 0 (sym c.is_zero.ensures ∙ c.if-not-is_zero.true))), sym c.same.ensures ∙ c.if-same.true)
 
 pub returns-else-same : goal.returns-else-same
 unfolding is_child
 returns-else-same c =
-    simp (lt-ltb _ _ ((omega (arith, eqb-false (value c.args.b.number) 0 (sym c.is_zero.ensures ∙ c.if-not-is_zero.true)))), sym c.same.ensures ∙ c.if-same.false)
+    simp (lt-ltb 0 (value c.args.b.number) (omega (arith, eqb-false (value c.args.b.number) 0 (sym c.is_zero.ensures ∙ c.if-not-is_zero.true))), sym c.same.ensures ∙ c.if-same.false)
 
 pub returns-else-not-is_zero : goal.returns-else-not-is_zero
 unfolding is_child

@@ -1,7 +1,6 @@
 -- `leaf` meets its contract. Assumes nothing.
-use borrow.Author.Rules.{rules}
 use native.Mathlib.Omega.{arith}
-use Prim.Native.Nat.{ℕ, ◌-◌}
+use Prim.Native.Nat.{ℕ}
 use mathlib.Core.Path.{refl}
 use lib.ListN.{length-replicate}
 use Rattle.protocol.specs.Limits.{loom}
@@ -9,7 +8,7 @@ use Rattle.subtree_voters.specs.BlockRows.{block_at}
 use Rattle.subtree_voters.proofs.BlockRows.{link-low}
 use Rattle.fork_choice.proofs.Held.{held}
 use Rattle.fork_choice.proofs.Children.{linked-by}
-use Rattle.fork_choice.proofs.Best.{Way, way-start, way_on, way-deeper, way_end}
+use Rattle.fork_choice.proofs.Best.{way-start, way_on, way-deeper, way_end}
 use Rattle.fork_choice.proofs.leaf.Goals as goal
 
 pub link_children-requires : goal.link_children-requires
@@ -29,16 +28,15 @@ loop-children-init c =
     way-start (held c.args.whole _ _ c.requires.4) c.args.weights.now c.args.lim
 
 pub best_child-c-requires : goal.best_child-c-requires
-best_child-c-requires c =
-    (
-      c.requires.0,
-      omega (arith, c.requires.1, c.link_children.auto.1.1.0, length-replicate {A = ℕ} loom.blocks 0),
-      omega (arith, c.requires.1, c.link_children.auto.1.1.1.0, length-replicate {A = ℕ} loom.blocks 0),
-      c.requires.2,
-      c.loop-children.invariant.inside,
-      c.requires.4,
-      linked-by c.requires.5.each c.link_children.ensures,
-    )
+best_child-c-requires c = (
+  c.requires.0,
+  omega (arith, c.requires.1, c.link_children.auto.children, length-replicate {A = ℕ} loom.blocks 0),
+  omega (arith, c.requires.1, c.link_children.auto.siblings, length-replicate {A = ℕ} loom.blocks 0),
+  c.requires.2,
+  c.loop-children.invariant.inside,
+  c.requires.4,
+  linked-by c.requires.5.each c.link_children.ensures,
+)
 
 pub loop-children-smaller : goal.loop-children-smaller
 loop-children-smaller c =

@@ -1,15 +1,6 @@
 -- The loop of `leaf`: its invariant and its measure. Assumes nothing.
-use borrow.Author.Rules.{rules}
-use native.Mathlib.Omega.{arith}
-use Prim.Native.Nat.{ℕ, ◌-◌}
-use mathlib.Core.Path.{refl}
-use lib.ListN.{length-replicate}
-use Rattle.protocol.specs.Limits.{loom}
-use Rattle.subtree_voters.specs.BlockRows.{block_at}
-use Rattle.subtree_voters.proofs.BlockRows.{link-low}
-use Rattle.fork_choice.proofs.Held.{held}
-use Rattle.fork_choice.proofs.Children.{linked-by}
-use Rattle.fork_choice.proofs.Best.{Way, way-start, way_on, way-deeper, way_end}
+use Prim.Native.Nat.{◌-◌}
+use Rattle.fork_choice.proofs.Best.{Way}
 use Rattle.fork_choice.proofs.leaf.Given as goal
 
 abbrev pub invariant-loop-children : goal.invariant-loop-children

@@ -1,11 +1,9 @@
 -- `link_children` meets its contract. Assumes nothing.
-use borrow.Author.Rules.{rules}
 use native.Mathlib.Omega.{arith}
-use Prim.Native.Nat.{ℕ, ◌+◌, ◌-◌, ◌≤◌, ◌<◌}
+use Prim.Native.Nat.{ℕ, ◌+◌, ◌-◌, ◌<◌}
 use mathlib.Core.Path.{◌≡◌, ap, sym, ◌∙◌}
-use lib.ListN.{length, get_or, length-replicate}
+use lib.ListN.{length, length-replicate}
 use Rattle.protocol.specs.Limits.{loom}
-use Rattle.fork_choice.specs.Children.{Linked}
 use Rattle.fork_choice.proofs.Children.{linked-none, linked-more}
 use Rattle.fork_choice.proofs.link_children.Goals as goal
 
@@ -26,8 +24,8 @@ loop-i-preserved c =
     let h : l.i - 1 < c.args.used = omega (arith, c.loop-i-test.true) in (
       omega arith,
       omega (arith, c.loop-i-test.true),
-      c.link_child.auto.1.1.0 ∙ l.invariant.2,
-      c.link_child.auto.1.1.1.0 ∙ l.invariant.3,
+      c.link_child.auto.children ∙ l.invariant.2,
+      c.link_child.auto.siblings ∙ l.invariant.3,
       linked-more _ _ (l.i - 1) (rw e at l.invariant.4) c.link_child.ensures.0 c.link_child.ensures.1 (omega (arith, c.loop-i-test.true)) h
           (c.requires.3 (l.i - 1) h) (omega (arith, c.requires.1)) (omega (arith, c.requires.1)),
     )

@@ -1,12 +1,9 @@
 -- The loop of `link_children`: its invariant and its measure. Assumes nothing.
-use borrow.Author.Rules.{rules}
-use native.Mathlib.Omega.{arith}
-use Prim.Native.Nat.{ℕ, ◌+◌, ◌-◌, ◌≤◌, ◌<◌}
-use mathlib.Core.Path.{◌≡◌, ap, sym, ◌∙◌}
-use lib.ListN.{length, get_or, length-replicate}
+use Prim.Native.Nat.{◌≤◌}
+use mathlib.Core.Path.{◌≡◌}
+use lib.ListN.{length, get_or}
 use Rattle.protocol.specs.Limits.{loom}
 use Rattle.fork_choice.specs.Children.{Linked}
-use Rattle.fork_choice.proofs.Children.{linked-none, linked-more}
 use Rattle.fork_choice.proofs.link_children.Given as goal
 
 abbrev pub invariant-loop-i : goal.invariant-loop-i

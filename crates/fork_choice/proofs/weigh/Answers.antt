@@ -1,5 +1,4 @@
 -- `weigh` meets its contract. Assumes nothing.
-use borrow.Author.Rules.{rules}
 use native.Mathlib.Omega.{arith}
 use Prim.Native.Nat.{ℕ}
 use mathlib.Core.Path.{refl, ◌∙◌}
@@ -19,8 +18,8 @@ supporters-requires c =
       T.blocks-fit,
       (blocks-held T c.args.whole).some,
       f.0,
-      c.kept_votes.auto.1.1.1.1.1.0 ∙ length-replicate {A = ℕ} 64 0,
-      omega (arith, c.kept_votes.auto.1.1.1.1.1.1.0),
+      c.kept_votes.auto.slots ∙ length-replicate {A = ℕ} 64 0,
+      omega (arith, c.kept_votes.auto.numbers),
       c.requires.1,
       c.requires.2,
     )

@@ -1,12 +1,9 @@
 -- `has_rival` meets its contract. Assumes nothing.
-use borrow.Author.Rules.{rules}
 use native.Mathlib.Omega.{arith}
 use mathlib.Core.Bool.{false}
 use mathlib.Core.Path.{ap, sym, ◌∙◌}
-use Rattle.protocol.specs.Words.{value}
 use Rattle.fork_choice.proofs.Held.{held}
-use Rattle.fork_choice.proofs.Scan.{left}
-use Rattle.settled.proofs.Rivals.{Search, rival-found, rivals-none, search-less, search-start, search-turn, search-end}
+use Rattle.settled.proofs.Rivals.{rival-found, rivals-none, search-less, search-start, search-turn, search-end}
 use Rattle.settled.proofs.has_rival.Goals as goal
 
 pub loop-d-init : goal.loop-d-init

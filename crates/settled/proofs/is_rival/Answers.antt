@@ -1,5 +1,4 @@
 -- `is_rival` meets its contract. Assumes nothing.
-use borrow.Author.Rules.{rules}
 use mathlib.Core.Path.{sym, ◌∙◌}
 use Rattle.settled.proofs.Rivals.{rival-hidden, rival-other, rival-child}
 use Rattle.settled.proofs.is_rival.Goals as goal

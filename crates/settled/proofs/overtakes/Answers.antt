@@ -1,5 +1,4 @@
 -- `overtakes` meets its contract. Assumes nothing.
-use borrow.Author.Rules.{rules}
 use native.Mathlib.Omega.{arith}
 use mathlib.Core.Path.{◌∙◌}
 use Rattle.settled.proofs.Rivals.{overtakes-self, overtakes-more, overtakes-less, overtakes-tie}

@@ -1,5 +1,4 @@
 -- `settled_block` meets its contract. Assumes nothing.
-use borrow.Author.Rules.{rules}
 use native.Mathlib.Omega.{arith}
 use Prim.Native.Nat.{ℕ}
 use mathlib.Core.Path.{refl, ap, ◌∙◌}
@@ -15,15 +14,15 @@ weigh-requires c = (c.requires.0, refl, refl)
 pub count_voters-requires : goal.count_voters-requires
 count_voters-requires c =
     let f = few c.requires.0 in
-    let h = c.weigh.auto.1.1.1.1.1.1.1.1.1.0 ∙ length-replicate {A = ℕ} loom.blocks 0 in
+    let h = c.weigh.auto.masks ∙ length-replicate {A = ℕ} loom.blocks 0 in
     (omega arith, omega (arith, length-replicate {A = ℕ} loom.blocks 0))
 
 pub last_safe-a-requires : goal.last_safe-a-requires
 last_safe-a-requires c =
     let T = c.requires.0 in
     let f = few T in
-    let h = c.count_voters.auto.1.1.1.0 ∙ length-replicate {A = ℕ} loom.blocks 0 in
-    let p = c.weigh.auto.1.1.1.1.1.1.1.1.0 ∙ length-replicate {A = ℕ} loom.blocks 0 in
+    let h = c.count_voters.auto.weights ∙ length-replicate {A = ℕ} loom.blocks 0 in
+    let p = c.weigh.auto.parents ∙ length-replicate {A = ℕ} loom.blocks 0 in
     (T.blocks-fit, f.0, omega arith, p, blocks-sound T, c.weigh.ensures.0, c.requires.1)
 
 pub block_at-row-requires : goal.block_at-row-requires

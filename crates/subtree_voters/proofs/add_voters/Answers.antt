@@ -1,11 +1,10 @@
 -- `add_voters` meets its contract. Assumes nothing.
-use borrow.Author.Rules.{rules}
 use native.Mathlib.Omega.{arith}
-use Prim.Native.Nat.{ℕ, ◌-◌, ◌≤◌}
-use mathlib.Core.Path.{◌≡◌, ap, sym, ◌∙◌}
+use Prim.Native.Nat.{ℕ}
+use mathlib.Core.Path.{ap, sym, ◌∙◌}
 use lib.ListN.{length, length-replicate}
 use Rattle.protocol.specs.Limits.{loom}
-use Rattle.subtree_voters.proofs.Handing.{VotersAdded, linked-none, linked-more, linked-all}
+use Rattle.subtree_voters.proofs.Handing.{linked-none, linked-more, linked-all}
 use Rattle.subtree_voters.proofs.add_voters.Goals as goal
 
 pub loop-v-init : goal.loop-v-init
@@ -19,10 +18,9 @@ add_voter-requires c =
 
 pub loop-v-preserved : goal.loop-v-preserved
 loop-v-preserved c =
-    let l = c.loop-v in
-    (
+    let l = c.loop-v in (
       omega arith,
-      c.add_voter.auto.1.1.1.1.1.1.0 ∙ l.invariant.1,
+      c.add_voter.auto.masks ∙ l.invariant.1,
       linked-more _ _ _ _ _ l.invariant.2 c.add_voter.ensures c.requires.2 (omega arith),
     )
 

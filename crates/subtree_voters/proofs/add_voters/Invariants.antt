@@ -1,11 +1,9 @@
 -- The loop of `add_voters`: its invariant and its measure. Assumes nothing.
-use borrow.Author.Rules.{rules}
-use native.Mathlib.Omega.{arith}
-use Prim.Native.Nat.{ℕ, ◌-◌, ◌≤◌}
-use mathlib.Core.Path.{◌≡◌, ap, sym, ◌∙◌}
-use lib.ListN.{length, length-replicate}
+use Prim.Native.Nat.{◌-◌, ◌≤◌}
+use mathlib.Core.Path.{◌≡◌}
+use lib.ListN.{length}
 use Rattle.protocol.specs.Limits.{loom}
-use Rattle.subtree_voters.proofs.Handing.{VotersAdded, linked-none, linked-more, linked-all}
+use Rattle.subtree_voters.proofs.Handing.{VotersAdded}
 use Rattle.subtree_voters.proofs.add_voters.Given as goal
 
 abbrev pub invariant-loop-v : goal.invariant-loop-v

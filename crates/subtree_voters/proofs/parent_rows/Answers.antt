@@ -1,13 +1,9 @@
 -- `parent_rows` meets its contract. Assumes nothing.
-use borrow.Author.Rules.{rules}
 use native.Mathlib.Omega.{arith}
-use Prim.Native.Nat.{◌-◌, ◌≤◌}
 use mathlib.Core.Path.{◌≡◌, refl, ap, ◌∙◌}
-use lib.ListN.{length}
 use Rattle.protocol.specs.Words.{value}
 use Rattle.search_tree.proofs.Tree.{index-free}
-use Rattle.index.specs.Links.{BlockIndex}
-use Rattle.subtree_voters.specs.BlockRows.{row_in, Parents}
+use Rattle.subtree_voters.specs.BlockRows.{row_in}
 use Rattle.subtree_voters.proofs.Filled.{filled_none, filled_more}
 use Rattle.subtree_voters.proofs.BlockRows.{link-low}
 use Rattle.subtree_voters.proofs.parent_rows.Goals as goal
@@ -32,11 +28,10 @@ add_block-requires c =
 
 pub loop-i-preserved : goal.loop-i-preserved
 loop-i-preserved c =
-    let l = c.loop-i in
-    (
+    let l = c.loop-i in (
       omega arith,
-      c.add_block.auto.1.1.0 ∙ l.invariant.1,
-      c.put_link.auto.0 ∙ l.invariant.2,
+      c.add_block.auto.links ∙ l.invariant.1,
+      c.put_link.auto.links ∙ l.invariant.2,
       c.add_block.ensures,
       filled_more _ l.i l.invariant.4 c.put_link.ensures (c.row_in-p.ensures ∙ ap (λ o. row_in c.args.blocks.now l.i o.entry.parent) c.block_at-row.ensures) (omega (arith, c.requires.4)),
     )

@@ -1,13 +1,10 @@
 -- `supporters` meets its contract. Assumes nothing.
-use borrow.Author.Rules.{rules}
 use native.Mathlib.Omega.{arith}
-use Prim.Native.Nat.{ℕ, ◌+◌, ◌-◌, ◌≤◌}
+use Prim.Native.Nat.{ℕ, ◌+◌, ◌-◌}
 use mathlib.Core.Path.{◌≡◌, ap, sym, ◌∙◌}
 use Rattle.protocol.specs.Limits.{loom}
-use Rattle.subtree_voters.specs.BlockRows.{Parents}
 use lib.ListN.{length, length-replicate}
 use Rattle.search_tree.proofs.Tree.{blank-new}
-use Rattle.subtree_voters.specs.Subtrees.{Subtrees}
 use Rattle.subtree_voters.proofs.BlockRows.{parent-lt}
 use Rattle.subtree_voters.proofs.Handing.{handed-on, handed-all}
 use Rattle.subtree_voters.proofs.supporters.Goals as goal
@@ -22,16 +19,15 @@ add_voters-requires c =
     (c.requires.0, c.parent_rows.ensures.0, c.requires.1, c.requires.2, c.requires.3, c.requires.4, c.requires.6)
 
 pub loop-i-init : goal.loop-i-init
-loop-i-init c =
-    (
-      omega arith,
-      omega arith,
-      c.requires.2,
-      c.add_voters.auto.1.1.1.1.1.0 ∙ (ap length c.requires.6 ∙ length-replicate {A = ℕ} loom.blocks 0),
-      c.parent_rows.auto.1.1.1.0 ∙ c.requires.5,
-      c.parent_rows.ensures.1,
-      c.add_voters.ensures,
-    )
+loop-i-init c = (
+  omega arith,
+  omega arith,
+  c.requires.2,
+  c.add_voters.auto.masks ∙ (ap length c.requires.6 ∙ length-replicate {A = ℕ} loom.blocks 0),
+  c.parent_rows.auto.parents ∙ c.requires.5,
+  c.parent_rows.ensures.1,
+  c.add_voters.ensures,
+)
 
 -- row i, which the loop stands at, hands on to a row before it
 pub hand_on-requires : goal.hand_on-requires
@@ -49,7 +45,7 @@ loop-i-preserved c =
       omega arith,
       omega (arith, c.loop-i-test.true),
       l.invariant.2,
-      c.hand_on.auto.1.1.0 ∙ l.invariant.3,
+      c.hand_on.auto.masks ∙ l.invariant.3,
       l.invariant.4,
       l.invariant.5,
       handed-on _ _ _ _ (l.i - 1) (rw e at l.invariant.6) (rw q at c.hand_on.ensures) (omega (arith, c.loop-i-test.true)) (omega (arith, c.loop-i-test.true)) (omega arith),

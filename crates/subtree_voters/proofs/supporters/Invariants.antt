@@ -1,15 +1,10 @@
 -- The loop of `supporters`: its invariant and its measure. Assumes nothing.
-use borrow.Author.Rules.{rules}
-use native.Mathlib.Omega.{arith}
-use Prim.Native.Nat.{ℕ, ◌+◌, ◌-◌, ◌≤◌}
-use mathlib.Core.Path.{◌≡◌, ap, sym, ◌∙◌}
+use Prim.Native.Nat.{◌≤◌}
+use mathlib.Core.Path.{◌≡◌}
 use Rattle.protocol.specs.Limits.{loom}
 use Rattle.subtree_voters.specs.BlockRows.{Parents}
-use lib.ListN.{length, length-replicate}
-use Rattle.search_tree.proofs.Tree.{blank-new}
+use lib.ListN.{length}
 use Rattle.subtree_voters.specs.Subtrees.{Subtrees}
-use Rattle.subtree_voters.proofs.BlockRows.{parent-lt}
-use Rattle.subtree_voters.proofs.Handing.{handed-on, handed-all}
 use Rattle.subtree_voters.proofs.supporters.Given as goal
 
 abbrev pub invariant-loop-i : goal.invariant-loop-i

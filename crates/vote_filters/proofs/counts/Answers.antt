@@ -1,7 +1,5 @@
 -- `counts` meets its contract. Assumes nothing.
-use borrow.Author.Rules.{rules}
 use borrow.Author.Tests.{lt-ltb, le-ltb}
-use native.Mathlib.Omega.{arith}
 use mathlib.Core.Path.{sym, ◌∙◌}
 use Rattle.protocol.specs.Filters.{window}
 use Rattle.vote_filters.proofs.counts.Goals as goal

@@ -1,5 +1,4 @@
 -- `drop_voter` meets its contract. Assumes nothing.
-use borrow.Author.Rules.{rules}
 use mathlib.Core.Path.{sym, ◌∙◌}
 use Rattle.vote_filters.proofs.drop_voter.Goals as goal
 

@@ -1,12 +1,9 @@
 -- `gather` meets its contract: both filters have seen the first i votes. Assumes nothing.
-use borrow.Author.Rules.{rules}
 use native.Mathlib.Omega.{arith}
-use Prim.Native.Nat.{ℕ, ◌-◌, ◌≤◌}
+use Prim.Native.Nat.{ℕ}
 use mathlib.Core.Path.{◌≡◌, refl, sym, ◌∙◌}
-use lib.ListN.{length, length-replicate}
+use lib.ListN.{length-replicate}
 use Rattle.search_tree.proofs.Tree.{index-free, blank-new}
-use Rattle.index.specs.Links.{SlotIndex}
-use Rattle.vote_filters.specs.Latest.{votes_of, equivocators_of, Latest}
 use Rattle.vote_filters.proofs.Equivocators.{equivocators-none}
 use Rattle.vote_filters.proofs.gather.Goals as goal
 
@@ -24,16 +21,15 @@ latest_next-requires c =
     (omega arith, (λ i h. c.requires.2 i (omega arith)), c.loop-i.invariant.1 ∙ c.requires.3, omega (arith, c.loop-i.invariant.2, c.requires.4), c.loop-i.invariant.6)
 
 pub loop-i-preserved : goal.loop-i-preserved
-loop-i-preserved c =
-    (
-      omega arith,
-      c.latest_next.auto.1.1.1.1.1.0 ∙ c.loop-i.invariant.1,
-      c.latest_next.auto.1.1.1.1.1.1.0 ∙ c.loop-i.invariant.2,
-      c.equivocators_next-mask.auto.1.1.1.1.1.0 ∙ c.loop-i.invariant.3,
-      c.equivocators_next-mask.ensures.1,
-      c.equivocators_next-mask.ensures.0,
-      c.latest_next.ensures,
-    )
+loop-i-preserved c = (
+  omega arith,
+  c.latest_next.auto.slots ∙ c.loop-i.invariant.1,
+  c.latest_next.auto.numbers ∙ c.loop-i.invariant.2,
+  c.equivocators_next-mask.auto.links ∙ c.loop-i.invariant.3,
+  c.equivocators_next-mask.ensures.1,
+  c.equivocators_next-mask.ensures.0,
+  c.latest_next.ensures,
+)
 
 pub returns : goal.returns
 returns c =

@@ -1,13 +1,9 @@
 -- The loop of `gather`: its invariant and its measure. Assumes nothing.
-use borrow.Author.Rules.{rules}
-use native.Mathlib.Omega.{arith}
-use Prim.Native.Nat.{ℕ, ◌-◌, ◌≤◌}
-use mathlib.Core.Path.{◌≡◌, refl, sym, ◌∙◌}
-use lib.ListN.{length, length-replicate}
-use Rattle.search_tree.proofs.Tree.{index-free, blank-new}
+use Prim.Native.Nat.{◌-◌, ◌≤◌}
+use mathlib.Core.Path.{◌≡◌}
+use lib.ListN.{length}
 use Rattle.index.specs.Links.{SlotIndex}
 use Rattle.vote_filters.specs.Latest.{votes_of, equivocators_of, Latest}
-use Rattle.vote_filters.proofs.Equivocators.{equivocators-none}
 use Rattle.vote_filters.proofs.gather.Given as goal
 
 abbrev pub invariant-loop-i : goal.invariant-loop-i

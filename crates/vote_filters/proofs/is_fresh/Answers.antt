@@ -1,5 +1,4 @@
 -- `is_fresh` meets its contract. Assumes nothing.
-use borrow.Author.Rules.{rules}
 use Rattle.vote_filters.proofs.Latest.{window-span}
 use Rattle.vote_filters.proofs.is_fresh.Goals as goal
 

@@ -1,13 +1,10 @@
 -- The loop of `kept_votes`: its invariant and its measure. Assumes nothing.
-use borrow.Author.Rules.{rules}
-use native.Mathlib.Omega.{arith}
-use Prim.Native.Nat.{ℕ, ◌-◌, ◌≤◌}
-use mathlib.Core.Path.{◌≡◌, ap, sym, ◌∙◌}
-use lib.ListN.{length, length-replicate}
+use Prim.Native.Nat.{◌-◌, ◌≤◌}
+use mathlib.Core.Path.{◌≡◌}
+use lib.ListN.{length}
 use Rattle.protocol.specs.Limits.{loom}
 use Rattle.vote_filters.specs.Latest.{votes_of}
-use Rattle.vote_filters.proofs.Kept.{Dropped, dropped-none, dropped-more, dropped-all}
-use Rattle.vote_filters.proofs.Latest.{latest-zero}
+use Rattle.vote_filters.proofs.Kept.{Dropped}
 use Rattle.vote_filters.proofs.kept_votes.Given as goal
 
 abbrev pub invariant-loop-v : goal.invariant-loop-v

@@ -1,5 +1,4 @@
 -- `latest_next` meets its contract. Assumes nothing.
-use borrow.Author.Rules.{rules}
 use borrow.Author.Tests.{ltb-true, ltb-false}
 use native.Mathlib.Omega.{arith}
 use Prim.Native.Nat.{◌<◌}
@@ -9,19 +8,19 @@ use Rattle.vote_filters.proofs.Latest.{out-turn, old-turn, new-turn}
 use Rattle.vote_filters.proofs.latest_next.Goals as goal
 
 pub offset_bounds-slots-v : goal.offset_bounds-slots-v
-offset_bounds-slots-v c = omega (arith, (omega (arith, c.requires.1 c.args.i (omega arith), ap (λ o. o.entry.voter) c.vote_at-row.ensures)))
+offset_bounds-slots-v c = omega (arith, c.requires.1 c.args.i (omega arith), ap (λ o. o.entry.voter) c.vote_at-row.ensures)
 
 pub bounds-slots-v : goal.bounds-slots-v
-bounds-slots-v c = omega (arith, (omega (arith, c.requires.1 c.args.i (omega arith), ap (λ o. o.entry.voter) c.vote_at-row.ensures)))
+bounds-slots-v c = omega (arith, c.requires.1 c.args.i (omega arith), ap (λ o. o.entry.voter) c.vote_at-row.ensures)
 
 pub offset_bounds-slots-v-then-is_later : goal.offset_bounds-slots-v-then-is_later
-offset_bounds-slots-v-then-is_later c = omega (arith, (omega (arith, c.requires.1 c.args.i (omega arith), ap (λ o. o.entry.voter) c.vote_at-row.ensures)))
+offset_bounds-slots-v-then-is_later c = omega (arith, c.requires.1 c.args.i (omega arith), ap (λ o. o.entry.voter) c.vote_at-row.ensures)
 
 pub bounds-slots-v-then-is_later : goal.bounds-slots-v-then-is_later
-bounds-slots-v-then-is_later c = omega (arith, (omega (arith, c.requires.1 c.args.i (omega arith), ap (λ o. o.entry.voter) c.vote_at-row.ensures)))
+bounds-slots-v-then-is_later c = omega (arith, c.requires.1 c.args.i (omega arith), ap (λ o. o.entry.voter) c.vote_at-row.ensures)
 
 pub keep-requires : goal.keep-requires
-keep-requires c = omega (arith, (omega (arith, c.requires.1 c.args.i (omega arith), ap (λ o. o.entry.voter) c.vote_at-row.ensures)))
+keep-requires c = omega (arith, c.requires.1 c.args.i (omega arith), ap (λ o. o.entry.voter) c.vote_at-row.ensures)
 
 pub returns-then-is_later : goal.returns-then-is_later
 returns-then-is_later c =

@@ -14,16 +14,16 @@ use Rattle.admission.proofs.Seen.{blocks-next}
 use Rattle.admission.proofs.admit_block.Goals as goal
 
 pub overflow_add-n : goal.overflow_add-n
-overflow_add-n b =
-    omega (arith, (let bs = b.args.bytes.now in
-    let fit = read_fits bs (bytes-by-index bs (λ j _. omega (arith, b.type_inv.bytes j))) in
-    omega (arith, b.requires.2, fit.block_count)), b.requires.0)
+overflow_add-n c =
+    let bs = c.args.bytes.now in
+    let fit = read_fits bs (bytes-by-index bs (λ j _. omega (arith, c.type_inv.bytes j))) in
+    omega (arith, c.requires.2, fit.block_count, c.requires.0)
 
 pub known_block-parent_link-requires : goal.known_block-parent_link-requires
 known_block-parent_link-requires c =
-    (c.requires.0, omega (arith, c.requires.2), omega (arith, (let bs = c.args.bytes.now in
+    let bs = c.args.bytes.now in
     let fit = read_fits bs (bytes-by-index bs (λ j _. omega (arith, c.type_inv.bytes j))) in
-    omega (arith, c.requires.2, fit.block_count))), c.requires.4)
+    (c.requires.0, omega (arith, c.requires.2), omega (arith, c.requires.2, fit.block_count), c.requires.4)
 
 pub block_of-parent-requires : goal.block_of-parent-requires
 block_of-parent-requires c =
@@ -45,7 +45,7 @@ pub returns : goal.returns
 returns c =
     let i = c.args.i in
     let h = c.requires.2 in (
-      block-told _ _ _ c.block_at-b.ensures (link-told _ _ _ i (omega arith) _ refl c.known_block-parent_link.ensures c.Block-of.ensures)
+      block-told _ _ _ c.block_at-b.ensures (link-told _ _ _ i (omega arith) _ refl c.known_block-parent_link.ensures c.block_of-parent.ensures)
           (link-told _ _ _ i (omega arith) _ (block-key _ _ _ i ∙ ap (λ (x : Block). number_key x.number) (sym c.block_at-b.ensures)) c.join_block-link.ensures.0 c.block_of-earlier.ensures) c.block_allowed-allowed.ensures,
       block_new_lem _ _ _ i (omega arith) _ c.join_block-link.ensures.0,
       c.join_block-link.ensures.1,

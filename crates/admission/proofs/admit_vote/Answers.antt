@@ -24,10 +24,10 @@ use Rattle.admission.proofs.Seen.{voted-next}
 use Rattle.admission.proofs.admit_vote.Goals as goal
 
 pub known_block-link-requires : goal.known_block-link-requires
-known_block-link-requires v =
-    (v.pre.0, omega (arith, v.pre.2), omega (arith, (let bs = v.args.bytes.now in
-    let fit = read_fits bs (bytes-by-index bs (λ j _. omega (arith, v.type_inv.bytes j))) in
-    omega (arith, v.requires.2, fit.block_count))), v.pre.4)
+known_block-link-requires c =
+    let bs = c.args.bytes.now in
+    let fit = read_fits bs (bytes-by-index bs (λ j _. omega (arith, c.type_inv.bytes j))) in
+    (c.requires.0, omega (arith, c.requires.2), omega (arith, c.requires.2, fit.block_count), c.requires.4)
 
 pub block_of-block-requires : goal.block_of-block-requires
 block_of-block-requires c =
@@ -39,13 +39,13 @@ returns-then-not-vote_allowed c =
     let l : length (packet_of a.bytes.now).blocks ≤ a.known = omega (arith, c.requires.2) in
     let p = packet_of a.bytes.now in
     let E = entries (rows_of make_block a.blocks.now a.used) in
-    vote-told _ _ _ _ (link-told _ _ _ a.known (omega (arith, c.requires.2)) _ refl c.known_block-link.ensures c.Block-of.ensures) c.vote_allowed.ensures
+    vote-told _ _ _ _ (link-told _ _ _ a.known (omega (arith, c.requires.2)) _ refl c.known_block-link.ensures c.block_of-block.ensures) c.vote_allowed.ensures
     ∙ ap (λ (bs : List Block). vote_allowed a.nodes a.slot (add_blocks E bs) (vote_of c.vote_at-vote.result)) (take_all a.known p.blocks l)
     ∙ ap (vote_allowed a.nodes a.slot (add_blocks E p.blocks)) c.vote_at-vote.ensures), λ e. absurd (false≢true e))
 
 pub note_first-requires : goal.note_first-requires
 note_first-requires c =
-    omega (arith, first_found _ c.known_block-link.ensures ((vote-found _ _ _ _ _ c.Block-of.ensures (sym c.vote_allowed.ensures ∙ c.if-not-vote_allowed.false))), c.requires.5)
+    omega (arith, first_found _ c.known_block-link.ensures ((vote-found _ _ _ _ _ c.block_of-block.ensures (sym c.vote_allowed.ensures ∙ c.if-not-vote_allowed.false))), c.requires.5)
 
 pub returns : goal.returns
 returns c =
@@ -54,8 +54,8 @@ returns c =
     let l : length (packet_of a.bytes.now).blocks ≤ a.known = omega (arith, c.requires.2) in
     let p = packet_of a.bytes.now in
     let E = entries (rows_of make_block a.blocks.now a.used) in
-    vote-told _ _ _ _ (link-told _ _ _ a.known (omega (arith, c.requires.2)) _ refl c.known_block-link.ensures c.Block-of.ensures) c.vote_allowed.ensures
+    vote-told _ _ _ _ (link-told _ _ _ a.known (omega (arith, c.requires.2)) _ refl c.known_block-link.ensures c.block_of-block.ensures) c.vote_allowed.ensures
     ∙ ap (λ (bs : List Block). vote_allowed a.nodes a.slot (add_blocks E bs) (vote_of c.vote_at-vote.result)) (take_all a.known p.blocks l)
     ∙ ap (vote_allowed a.nodes a.slot (add_blocks E p.blocks)) c.vote_at-vote.ensures),
-      λ z. voted-next _ _ _ c.requires.1 c.args.i _ c.args.known _ _ _ c.requires.3 c.vote_at-vote.ensures c.requires.2 c.known_block-link.ensures ((vote-found _ _ _ _ _ c.Block-of.ensures (sym c.vote_allowed.ensures ∙ c.if-not-vote_allowed.false))) c.requires.5 c.note_first.ensures c.requires.6,
+      λ z. voted-next _ _ _ c.requires.1 c.args.i _ c.args.known _ _ _ c.requires.3 c.vote_at-vote.ensures c.requires.2 c.known_block-link.ensures ((vote-found _ _ _ _ _ c.block_of-block.ensures (sym c.vote_allowed.ensures ∙ c.if-not-vote_allowed.false))) c.requires.5 c.note_first.ensures c.requires.6,
     )

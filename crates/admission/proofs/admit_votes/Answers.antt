@@ -37,8 +37,8 @@ admit_vote-requires c =
 pub returns-then-not-admit_vote : goal.returns-then-not-admit_vote
 returns-then-not-admit_vote c =
     let l = c.loop-i in (
-      sym (l.invariant.6 ∙ vote-bad _ _ _ _ l.i ((omega (arith, c.loop-i.invariant.1, c.loop-i-test.true))) refl (sym c.admit_vote.ensures.0 ∙ c.if-not-admit_vote.true)),
-      λ h. absurd (omega (arith, h, (omega (arith, c.loop-i.invariant.1, c.loop-i-test.true)))),
+      sym (l.invariant.6 ∙ vote-bad _ _ _ _ l.i (omega (arith, l.invariant.1, c.loop-i-test.true)) refl (sym c.admit_vote.ensures.0 ∙ c.if-not-admit_vote.true)),
+      λ h. absurd (omega (arith, h, l.invariant.1, c.loop-i-test.true)),
     )
 
 pub loop-i-preserved : goal.loop-i-preserved
@@ -48,7 +48,7 @@ loop-i-preserved c =
       l.invariant.0,
       l.invariant.1,
       omega (arith, c.loop-i-test.true),
-      c.admit_vote.auto.1.1.1.1.1.1.1.1.1.1.0 ∙ l.invariant.3,
+      c.admit_vote.auto.firsts ∙ l.invariant.3,
       l.invariant.4,
       c.admit_vote.ensures.1 e,
       l.invariant.6 ∙ vote-good _ _ _ _ l.i ((omega (arith, c.loop-i.invariant.1, c.loop-i-test.true))) refl (sym c.admit_vote.ensures.0 ∙ e),

@@ -16,4 +16,4 @@ returns-then-not-below c =
 pub returns : goal.returns
 unfolding block_passes
 returns c =
-    rw (← c.within.ensures, c.if-not-within.false, ← c.below.ensures, c.if-not-below.false, ← c.Known-as.ensures)
+    rw (← c.within.ensures, c.if-not-within.false, ← c.below.ensures, c.if-not-below.false, ← c.known_as.ensures)

@@ -47,7 +47,7 @@ is_new_vote-requires c =
 pub overflow_add-new : goal.overflow_add-new
 overflow_add-new c =
     let f = flag_one c.is_new_vote.result in
-    omega (arith, f, c.header_of-h.type-inv, c.loop-i.invariant.2, c.loop-i-test.true)
+    omega (arith, f, c.header_of-h.type_inv, c.loop-i.invariant.2, c.loop-i-test.true)
 
 pub loop-i-preserved : goal.loop-i-preserved
 loop-i-preserved c =
@@ -56,8 +56,8 @@ loop-i-preserved c =
       l.invariant.0,
       omega (arith, c.loop-i-test.true),
       omega (arith, f, l.invariant.2),
-      c.is_new_vote.auto.1.1.1.1.1.1.0 ∙ l.invariant.3,
-      c.is_new_vote.auto.1.1.1.1.1.1.1.1.0 ∙ l.invariant.4,
+      c.is_new_vote.auto.packet_links ∙ l.invariant.3,
+      c.is_new_vote.auto.firsts ∙ l.invariant.4,
       count_turn _ _ (adding-since c.args.from) _ (packet_of c.args.bytes.now).votes _ no_vote _ l.i ((omega (arith, c.loop-i.invariant.0, c.loop-i-test.true))) l.invariant.5
           (c.is_new_vote.ensures.0 ∙ since-new c.args.from _ (take l.i (packet_of c.args.bytes.now).votes) (get_or (packet_of c.args.bytes.now).votes l.i no_vote)),
       c.is_new_vote.ensures.1,

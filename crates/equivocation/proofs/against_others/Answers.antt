@@ -25,7 +25,7 @@ pub meet_at-found-requires : goal.meet_at-found-requires
 meet_at-found-requires c = omega (arith, linked-within _ c.known_slot-link.ensures, c.loop-i.invariant.0)
 
 pub overflow_add-i : goal.overflow_add-i
-overflow_add-i c = record { fits = omega (arith, c.loop-i-test.true, c.header_of-second.type-inv) }
+overflow_add-i c = record { fits = omega (arith, c.loop-i-test.true, c.header_of-second.type_inv) }
 
 pub loop-i-preserved : goal.loop-i-preserved
 loop-i-preserved c =
@@ -34,7 +34,7 @@ loop-i-preserved c =
       l.invariant.1,
       omega (arith, c.loop-i-test.true),
       l.invariant.3,
-      against-turn _ _ l.i _ c.vote_at-vote.ensures (rw l.invariant.0 at c.known_slot-link.ensures) c.meet_at-found.ensures ((omega (arith, c.loop-i.invariant.1, c.loop-i-test.true))) ∙ l.invariant.4,
+      against-turn _ _ l.i _ c.vote_at-vote.ensures (rw l.invariant.0 at c.known_slot-link.ensures) c.meet_at-found.ensures (omega (arith, l.invariant.1, c.loop-i-test.true)) ∙ l.invariant.4,
     )
 
 pub returns : goal.returns

@@ -32,16 +32,16 @@ join_slot-link-requires c =
 
 pub meet_at-found-requires : goal.meet_at-found-requires
 meet_at-found-requires c =
-    omega (arith, linked-within _ c.join_slot-link.ensures.0, (omega (arith, c.loop-i.invariant.0, c.loop-i-test.true)))
+    omega (arith, linked-within _ c.join_slot-link.ensures.0, c.loop-i.invariant.0, c.loop-i-test.true)
 
 pub loop-i-preserved : goal.loop-i-preserved
 loop-i-preserved c =
     let l = c.loop-i in (
       l.invariant.0,
       omega (arith, c.loop-i-test.true),
-      c.join_slot-link.auto.1.1.0 ∙ l.invariant.2,
+      c.join_slot-link.auto.links ∙ l.invariant.2,
       c.join_slot-link.ensures.1,
-      among-turn _ l.i _ c.vote_at-vote.ensures c.join_slot-link.ensures.0 c.meet_at-found.ensures ((omega (arith, c.loop-i.invariant.0, c.loop-i-test.true))) ∙ l.invariant.4,
+      among-turn _ l.i _ c.vote_at-vote.ensures c.join_slot-link.ensures.0 c.meet_at-found.ensures (omega (arith, l.invariant.0, c.loop-i-test.true)) ∙ l.invariant.4,
     )
 
 pub returns : goal.returns

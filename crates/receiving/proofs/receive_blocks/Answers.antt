@@ -19,7 +19,7 @@ view_stood_on-requires c =
     let H = c.add_blocks.ensures in
     let n = used-added knows_block add_blocks adding-blocks block-codec c.args.blocks.now c.args.used.now (packet_of c.args.bytes.now).blocks H in
     let g = used_grows knows_block add_blocks adding-blocks block-codec c.args.blocks.now c.args.used.now (packet_of c.args.bytes.now).blocks H in (
-      omega (arith, c.add_blocks.auto.0, c.requires.0, n),
+      omega (arith, c.add_blocks.auto.blocks, c.requires.0, n),
       marks-held block-codec _ _ H,
       rw (rows-held block-codec _ _ H) (accepted-carried _ _ c.requires.2),
       g,

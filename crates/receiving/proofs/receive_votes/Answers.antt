@@ -17,7 +17,7 @@ view_named_votes-requires c =
     let H = c.add_votes.ensures in
     let n = used-added _ _ (adding-since c.args.from) vote-codec c.args.votes.now c.args.used.now (packet_of c.args.bytes.now).votes H in
     let g = used_grows _ _ (adding-since c.args.from) vote-codec c.args.votes.now c.args.used.now (packet_of c.args.bytes.now).votes H in (
-      omega (arith, c.add_votes.auto.0, c.requires.0, n),
+      omega (arith, c.add_votes.auto.votes, c.requires.0, n),
       marks-held vote-codec _ _ H,
       g,
       omega (arith, c.requires.2),

@@ -4,7 +4,6 @@ use borrow.Author.Tests.{not-true, not-false}
 use native.Mathlib.Omega.{arith}
 use Prim.Native.Nat.{◌-◌, ◌≤◌, ◌<◌}
 use mathlib.Core.Bool.{not}
-use mathlib.Core.Logic.{⊎_elim}
 use mathlib.Core.Path.{◌≡◌, refl, ap, sym, ◌∙◌}
 use lib.ListN.{length, get_or, take}
 use Rattle.protocol.specs.Entry.{Block}
@@ -21,6 +20,7 @@ use Rattle.packets.proofs.Headers.{header-blocks}
 use Rattle.storing.specs.Grown.{Holds}
 use Rattle.storing.proofs.Turns.{after, room-now, add_begin, add-marks, add-end, turn-old, turn-room, turn-new}
 use Rattle.storing.proofs.add_blocks.Goals as goal
+use Rattle.storing.proofs.add_blocks.Goals.{then-has, else-has}
 
 pub loop-i-init : goal.loop-i-init
 loop-i-init c =
@@ -39,27 +39,38 @@ overflow_add-n c =
     omega (arith, m.0, c.loop-i-test.true, room-now knows_block add_blocks adding-blocks block-codec _ _ (packet_of bs).blocks c.requires.0)
 
 pub has-requires : goal.has-requires
-has-requires c = omega (arith, (omega (arith, c.loop-i.invariant.1, c.loop-i-test.true)), c.requires.2)
+has-requires c = omega (arith, c.loop-i.invariant.1, c.loop-i-test.true, c.requires.2)
 
 pub append_block-requires : goal.append_block-requires
 append_block-requires c =
+    let bs = (packet_of c.args.bytes.now).blocks in
+    let h : c.loop-i.i < length bs = omega (arith, c.loop-i.invariant.1, c.loop-i-test.true) in
     (
-      turn-room knows_block add_blocks adding-blocks block-codec _ _ (packet_of c.args.bytes.now).blocks c.loop-i.i c.loop-i.invariant.3 genesis
-          ((omega (arith, c.loop-i.invariant.1, c.loop-i-test.true))) (not-true _ ((sym (c.has.ensures ∙ c.requires.3 c.loop-i.i ((omega (arith, c.loop-i.invariant.1, c.loop-i-test.true))))) ∙ c.if-has.true)) c.requires.0 c.loop-i.invariant.2,
-      add-marks knows_block add_blocks adding-blocks block-codec _ _ (packet_of c.args.bytes.now).blocks c.loop-i.i c.loop-i.invariant.3,
+      turn-room knows_block add_blocks adding-blocks block-codec _ _ bs c.loop-i.i c.loop-i.invariant.3 genesis h
+          (not-true _ (sym (c.has.ensures ∙ c.requires.3 c.loop-i.i h) ∙ c.if-has.true)) c.requires.0 c.loop-i.invariant.2,
+      add-marks knows_block add_blocks adding-blocks block-codec _ _ bs c.loop-i.i c.loop-i.invariant.3,
     )
 
 pub loop-i-preserved : goal.loop-i-preserved
 loop-i-preserved c =
+    let bs = (packet_of c.args.bytes.now).blocks in
+    let h : c.loop-i.i < length bs = omega (arith, c.loop-i.invariant.1, c.loop-i-test.true) in
+    let e : not (knows_block (add_blocks (entries (rows_of make_block c.args.blocks.now c.args.used.now)) (take c.loop-i.i bs)) (get_or bs c.loop-i.i genesis)) ≡ c.has.result
+    = sym (c.has.ensures ∙ c.requires.3 c.loop-i.i h) in
     (
       omega arith,
       c.loop-i.invariant.1,
-      ⊎_elim (λ w. ap length w.7 ∙ w.4.kept.0 ∙ c.loop-i.invariant.2) (λ w. ap length w.1 ∙ c.loop-i.invariant.2) c.if-has.branch,
-      ⊎_elim
-          (λ w. turn-new knows_block add_blocks adding-blocks block-codec _ _ (packet_of c.args.bytes.now).blocks c.loop-i.i c.loop-i.invariant.3 genesis
-          ((omega (arith, c.loop-i.invariant.1, c.loop-i-test.true))) (not-true _ ((sym (c.has.ensures ∙ c.requires.3 c.loop-i.i ((omega (arith, c.loop-i.invariant.1, c.loop-i-test.true))))) ∙ w.0.taken)) w.1.ensures (w.7 ∙ w.4.ensures.0) (w.8 ∙ w.4.ensures.1))
-          (λ w. rw (w.1, w.2) (turn-old knows_block add_blocks adding-blocks block-codec _ _ (packet_of c.args.bytes.now).blocks c.loop-i.i c.loop-i.invariant.3 genesis
-          ((omega (arith, c.loop-i.invariant.1, c.loop-i-test.true))) (not-false _ ((sym (c.has.ensures ∙ c.requires.3 c.loop-i.i ((omega (arith, c.loop-i.invariant.1, c.loop-i-test.true))))) ∙ w.0.left)))) c.if-has.branch,
+      elim c.if-has.branch [
+      then-has w ↦ ap length w.blocks-is ∙ w.append_block.auto.blocks ∙ c.loop-i.invariant.2
+      | else-has w ↦ ap length w.blocks-is ∙ c.loop-i.invariant.2
+      ],
+      elim c.if-has.branch [
+      then-has w ↦
+          turn-new knows_block add_blocks adding-blocks block-codec _ _ bs c.loop-i.i c.loop-i.invariant.3 genesis h (not-true _ (e ∙ w.if-has.true)) w.block_at-block.ensures
+              (w.blocks-is ∙ w.append_block.ensures.0) (w.used-is ∙ w.append_block.ensures.1)
+      | else-has w ↦
+          rw (w.blocks-is, w.used-is) (turn-old knows_block add_blocks adding-blocks block-codec _ _ bs c.loop-i.i c.loop-i.invariant.3 genesis h (not-false _ (e ∙ w.if-has.false)))
+      ],
     )
 
 pub returns : goal.returns

@@ -3,7 +3,6 @@ use borrow.Author.Rules.{rules}
 use native.Mathlib.Omega.{arith}
 use Prim.Native.Nat.{◌-◌, ◌≤◌, ◌<◌}
 use mathlib.Core.Bool.{not}
-use mathlib.Core.Logic.{⊎_elim}
 use mathlib.Core.Path.{◌≡◌, refl, ap, sym, ◌∙◌}
 use lib.ListN.{length, get_or, take}
 use Rattle.protocol.specs.Entry.{Vote}
@@ -22,6 +21,7 @@ use Rattle.storing.specs.Grown.{Holds}
 use Rattle.storing.proofs.Turns.{after, room-now, add_begin, add-marks, add-end, turn-old, turn-room, turn-new}
 use Rattle.storing.proofs.Since.{since-old, since-new, since-known}
 use Rattle.storing.proofs.add_votes.Goals as goal
+use Rattle.storing.proofs.add_votes.Goals.{then-has+then-vote-from, then-has+else-vote-from, else-has}
 
 pub loop-i-init : goal.loop-i-init
 loop-i-init c =
@@ -40,31 +40,44 @@ overflow_add-n c =
     omega (arith, m.1, c.loop-i-test.true, room-now _ _ (adding-since c.args.from) vote-codec _ _ (packet_of bs).votes c.requires.0)
 
 pub has-requires : goal.has-requires
-has-requires c = omega (arith, (omega (arith, c.loop-i.invariant.1, c.loop-i-test.true)), c.requires.2)
+has-requires c = omega (arith, c.loop-i.invariant.1, c.loop-i-test.true, c.requires.2)
 
 pub append_vote-requires : goal.append_vote-requires
 append_vote-requires c =
+    let vs = (packet_of c.args.bytes.now).votes in
+    let h : c.loop-i.i < length vs = omega (arith, c.loop-i.invariant.1, c.loop-i-test.true) in
     (
-      turn-room _ _ (adding-since c.args.from) vote-codec _ _ (packet_of c.args.bytes.now).votes c.loop-i.i c.loop-i.invariant.3 no_vote
-          ((omega (arith, c.loop-i.invariant.1, c.loop-i-test.true))) (since-new c.args.from _ _ c.vote_at-vote.ensures c.if-vote-from.true ((sym (c.has.ensures ∙ c.requires.3 c.loop-i.i ((omega (arith, c.loop-i.invariant.1, c.loop-i-test.true))))) ∙ c.if-has.true)) c.requires.0 c.loop-i.invariant.2,
-      add-marks _ _ (adding-since c.args.from) vote-codec _ _ (packet_of c.args.bytes.now).votes c.loop-i.i c.loop-i.invariant.3,
+      turn-room _ _ (adding-since c.args.from) vote-codec _ _ vs c.loop-i.i c.loop-i.invariant.3 no_vote h
+          (since-new c.args.from _ _ c.vote_at-vote.ensures c.if-vote-from.true (sym (c.has.ensures ∙ c.requires.3 c.loop-i.i h) ∙ c.if-has.true)) c.requires.0 c.loop-i.invariant.2,
+      add-marks _ _ (adding-since c.args.from) vote-codec _ _ vs c.loop-i.i c.loop-i.invariant.3,
     )
 
 pub loop-i-preserved : goal.loop-i-preserved
 loop-i-preserved c =
+    let vs = (packet_of c.args.bytes.now).votes in
+    let h : c.loop-i.i < length vs = omega (arith, c.loop-i.invariant.1, c.loop-i-test.true) in
+    let e : not (knows_vote (add_votes (entries (rows_of make_vote c.args.votes.now c.args.used.now)) (take c.loop-i.i vs)) (get_or vs c.loop-i.i no_vote)) ≡ c.has.result
+    = sym (c.has.ensures ∙ c.requires.3 c.loop-i.i h) in
     (
       omega arith,
       c.loop-i.invariant.1,
-      ⊎_elim (λ w. ap length w.9 ∙ w.6.kept.0 ∙ c.loop-i.invariant.2)
-          (⊎_elim (λ w. ap length w.4 ∙ c.loop-i.invariant.2) (λ w. ap length w.1 ∙ c.loop-i.invariant.2)) c.if-has.branch,
-      ⊎_elim
-          (λ w. turn-new _ _ (adding-since c.args.from) vote-codec _ _ (packet_of c.args.bytes.now).votes c.loop-i.i c.loop-i.invariant.3 no_vote
-          ((omega (arith, c.loop-i.invariant.1, c.loop-i-test.true))) (since-new c.args.from _ _ w.1.ensures w.3.taken ((sym (c.has.ensures ∙ c.requires.3 c.loop-i.i ((omega (arith, c.loop-i.invariant.1, c.loop-i-test.true))))) ∙ w.0.taken)) w.1.ensures (w.9 ∙ w.6.ensures.0) (w.10 ∙ w.6.ensures.1))
-          (⊎_elim
-          (λ w. rw (w.4, w.5) (turn-old _ _ (adding-since c.args.from) vote-codec _ _ (packet_of c.args.bytes.now).votes c.loop-i.i c.loop-i.invariant.3 no_vote
-          ((omega (arith, c.loop-i.invariant.1, c.loop-i-test.true))) (since-old c.args.from _ _ w.1.ensures w.3.left)))
-          (λ w. rw (w.1, w.2) (turn-old _ _ (adding-since c.args.from) vote-codec _ _ (packet_of c.args.bytes.now).votes c.loop-i.i c.loop-i.invariant.3 no_vote
-          ((omega (arith, c.loop-i.invariant.1, c.loop-i-test.true))) (since-known c.args.from _ _ _ ((sym (c.has.ensures ∙ c.requires.3 c.loop-i.i ((omega (arith, c.loop-i.invariant.1, c.loop-i-test.true))))) ∙ w.0.left))))) c.if-has.branch,
+      elim c.if-has.branch [
+      then-has+then-vote-from w ↦ ap length w.votes-is ∙ w.append_vote.auto.votes ∙ c.loop-i.invariant.2
+      | then-has+else-vote-from w ↦ ap length w.votes-is ∙ c.loop-i.invariant.2
+      | else-has w ↦ ap length w.votes-is ∙ c.loop-i.invariant.2
+      ],
+      elim c.if-has.branch [
+      then-has+then-vote-from w ↦
+          turn-new _ _ (adding-since c.args.from) vote-codec _ _ vs c.loop-i.i c.loop-i.invariant.3 no_vote h
+              (since-new c.args.from _ _ w.vote_at-vote.ensures w.if-vote-from.true (e ∙ w.if-has.true)) w.vote_at-vote.ensures
+              (w.votes-is ∙ w.append_vote.ensures.0) (w.used-is ∙ w.append_vote.ensures.1)
+      | then-has+else-vote-from w ↦
+          rw (w.votes-is, w.used-is) (turn-old _ _ (adding-since c.args.from) vote-codec _ _ vs c.loop-i.i c.loop-i.invariant.3 no_vote h
+              (since-old c.args.from _ _ w.vote_at-vote.ensures w.if-vote-from.false))
+      | else-has w ↦
+          rw (w.votes-is, w.used-is) (turn-old _ _ (adding-since c.args.from) vote-codec _ _ vs c.loop-i.i c.loop-i.invariant.3 no_vote h
+              (since-known c.args.from _ _ _ (e ∙ w.if-has.false)))
+      ],
     )
 
 pub returns : goal.returns

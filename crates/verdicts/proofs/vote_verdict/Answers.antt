@@ -20,7 +20,7 @@ returns-then-not-joined c =
 
 pub has_voted-requires : goal.has_voted-requires
 has_voted-requires c =
-    (sound-before _ _ _ c.due_verdict-due.ensures c.in_default.is).memory.vote_words
+    (sound-before _ _ _ c.due_verdict-due.ensures c.in_default.is).memory.vote-words
 
 pub returns-then-has_voted : goal.returns-then-has_voted
 unfolding vote_tests first node_of

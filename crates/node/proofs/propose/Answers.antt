@@ -18,7 +18,7 @@ view_all_blocks-requires c =
 pub append_block-requires : goal.append_block-requires
 append_block-requires c =
     (
-      omega (arith, propose-room _ _ _ _ c.propose_verdict-verdict.ensures c.in-Pass.is, c.view_all_blocks.auto.0),
+      omega (arith, propose-room _ _ _ _ c.propose_verdict-verdict.ensures c.in-Pass.is, c.view_all_blocks.auto.blocks),
       viewed-marks block-codec _ _ c.view_all_blocks.ensures,
     )
 

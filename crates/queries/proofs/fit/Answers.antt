@@ -19,7 +19,7 @@ few c =
     let e = c.in-New.is in
     let y = x.ensures.1 _ e in
     let f = few-entries _ _ _ _ x.ensures.0 e y.0 y.1
-        (x.auto.block_firsts ∙ length-replicate {A = ℕ} 1056 0) (x.auto.vote_firsts ∙ length-replicate {A = ℕ} 1152 0) in
+    (x.auto.block_firsts ∙ length-replicate {A = ℕ} 1056 0) (x.auto.vote_firsts ∙ length-replicate {A = ℕ} 1152 0) in
     (some-used _ _ _ _ x.ensures.0 e y.0, f.0, f.1)
 
 pub overflow_sub-written : goal.overflow_sub-written

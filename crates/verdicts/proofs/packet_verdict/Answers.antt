@@ -3,7 +3,7 @@ use native.Mathlib.Omega.{arith}
 use Prim.Native.Nat.{ℕ, ◌≤◌, ◌<◌}
 use mathlib.Core.Path.{◌≡◌, ap, sym, ◌∙◌, subst⁻¹}
 use mathlib.Core.List.{List, ◌++◌}
-use lib.ListN.{length, length-replicate, replicate, take, drop, get_or}
+use lib.ListN.{length, length-replicate, replicate, drop, get_or}
 use Rattle.protocol.specs.Packet.{packet_of}
 use Rattle.protocol.proofs.Packet.Numbers.{bytes-by-index}
 use Rattle.protocol.proofs.Packet.Bytes.{read_fits}
@@ -43,12 +43,11 @@ returns-then-long c =
     (too_long_lem _ _ _ _ c.indexed_verdict-begun.ensures.0 c.in_default.is c.too_long-long.ensures c.if-long.true, λ n e. absurd (not-counted e))
 
 pub returns-then-not-formed : goal.returns-then-not-formed
-returns-then-not-formed c =
-    (
-      misformed _ _ _ _ c.indexed_verdict-begun.ensures.0 c.in_default.is c.too_long-long.ensures c.if-long.false
-          c.well_formed-formed.ensures c.if-not-formed.true,
-      λ n e. absurd (not-counted e),
-    )
+returns-then-not-formed c = (
+  misformed _ _ _ _ c.indexed_verdict-begun.ensures.0 c.in_default.is c.too_long-long.ensures c.if-long.false
+      c.well_formed-formed.ensures c.if-not-formed.true,
+  λ n e. absurd (not-counted e),
+)
 
 -- ---- blocks
 
@@ -74,13 +73,12 @@ admit_blocks-admitted-requires c =
     )
 
 pub returns-then-admitted-block_count : goal.returns-then-admitted-block_count
-returns-then-admitted-block_count c =
-    (
-      block_refused _ _ _ _ c.indexed_verdict-begun.ensures.0 c.in_default.is c.too_long-long.ensures c.if-long.false
-          c.well_formed-formed.ensures c.if-not-formed.false (header-blocks _ c.header_of-header.ensures)
-          c.admit_blocks-admitted.ensures.0 c.if-admitted-block_count.true,
-      λ n e. absurd (not-counted e),
-    )
+returns-then-admitted-block_count c = (
+  block_refused _ _ _ _ c.indexed_verdict-begun.ensures.0 c.in_default.is c.too_long-long.ensures c.if-long.false
+      c.well_formed-formed.ensures c.if-not-formed.false (header-blocks _ c.header_of-header.ensures)
+      c.admit_blocks-admitted.ensures.0 c.if-admitted-block_count.true,
+  λ n e. absurd (not-counted e),
+)
 
 -- ---- votes
 
@@ -100,14 +98,13 @@ admit_votes-vote-requires c =
     )
 
 pub returns-then-vote-vote_count : goal.returns-then-vote-vote_count
-returns-then-vote-vote_count c =
-    (
-      vote-refused _ _ _ _ c.indexed_verdict-begun.ensures.0 c.in_default.is c.too_long-long.ensures c.if-long.false
-          c.well_formed-formed.ensures c.if-not-formed.false (header-blocks _ c.header_of-header.ensures)
-          c.admit_blocks-admitted.ensures.0 c.if-admitted-block_count.false
-          (header-votes _ c.header_of-header.ensures) c.admit_votes-vote.ensures.0 c.if-vote-vote_count.true,
-      λ n e. absurd (not-counted e),
-    )
+returns-then-vote-vote_count c = (
+  vote-refused _ _ _ _ c.indexed_verdict-begun.ensures.0 c.in_default.is c.too_long-long.ensures c.if-long.false
+      c.well_formed-formed.ensures c.if-not-formed.false (header-blocks _ c.header_of-header.ensures)
+      c.admit_blocks-admitted.ensures.0 c.if-admitted-block_count.false
+      (header-votes _ c.header_of-header.ensures) c.admit_votes-vote.ensures.0 c.if-vote-vote_count.true,
+  λ n e. absurd (not-counted e),
+)
 
 -- ---- the header and places
 
@@ -116,16 +113,15 @@ left : (c : After-header_allowed) → let a = c.args in
     Left a.settings (lent a.blocks.now a.votes.now a.blocks_used a.votes_used a.clock) a.beat a.bytes.now c.header_allowed.result
 left c =
     entries-passed _ _ _ _ c.indexed_verdict-begun.ensures.0 c.in_default.is c.too_long-long.ensures c.if-long.false
-        c.well_formed-formed.ensures c.if-not-formed.false (header-blocks _ c.header_of-header.ensures)
-        c.admit_blocks-admitted.ensures.0 c.if-admitted-block_count.false
-        (header-votes _ c.header_of-header.ensures) c.admit_votes-vote.ensures.0 c.if-vote-vote_count.false c.header_allowed.ensures
+    c.well_formed-formed.ensures c.if-not-formed.false (header-blocks _ c.header_of-header.ensures)
+    c.admit_blocks-admitted.ensures.0 c.if-admitted-block_count.false
+    (header-votes _ c.header_of-header.ensures) c.admit_votes-vote.ensures.0 c.if-vote-vote_count.false c.header_allowed.ensures
 
 pub returns-then-not-header_allowed : goal.returns-then-not-header_allowed
-returns-then-not-header_allowed c =
-    (
-      header_refused _ _ _ _ c.header_allowed.result (left (goal.at.returns-then-not-header_allowed c).After-header_allowed) c.if-not-header_allowed.true,
-      λ n e. absurd (not-counted e),
-    )
+returns-then-not-header_allowed c = (
+  header_refused _ _ _ _ c.header_allowed.result (left (goal.at.returns-then-not-header_allowed c).After-header_allowed) c.if-not-header_allowed.true,
+  λ n e. absurd (not-counted e),
+)
 
 pub packet_span-vote_span-requires : goal.packet_span-vote_span-requires
 packet_span-vote_span-requires c =
@@ -139,7 +135,7 @@ all-free c =
     let m = c.packet_span-block_span.ensures.1 in
     let back = c.admit_blocks-admitted.auto.packet_links ∙ part_length 81919 _ m c.requires.4 in
     freed 81919 _ m c.requires.4 c.admit_blocks-admitted.new.packet_links c.free_all.new.links back
-        (c.free_all.auto.links ∙ ap length (part-back _ c.admit_blocks-admitted.new.packet_links _ back) ∙ back) c.free_all.ensures
+    (c.free_all.auto.links ∙ ap length (part-back _ c.admit_blocks-admitted.new.packet_links _ back) ∙ back) c.free_all.ensures
 
 pub new_votes-new_votes-requires : goal.new_votes-new_votes-requires
 new_votes-new_votes-requires c =

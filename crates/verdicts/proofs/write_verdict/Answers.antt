@@ -1,5 +1,4 @@
 -- `write_verdict` meets its contract. Assumes nothing.
-use borrow.Author.Rules.{rules}
 use mathlib.Core.Path.{sym, ◌∙◌}
 use mathlib.Core.Logic.{inl, inr}
 use Rattle.protocol.specs.Calls.Write.{write_tests}

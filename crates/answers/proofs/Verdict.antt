@@ -27,7 +27,7 @@ tables-sound s m R =
     record {
       places = places_of m;
       clock = m.clock;
-      blocks-fit = R.memory.block_words_lem;
+      blocks-fit = R.memory.block_words;
       votes-fit = R.memory.vote-words;
       is-sound = sound-holds R.memory.node;
     }

@@ -187,7 +187,7 @@ module _ (s : Settings) (m : Lent) (beat : ℕ) {v : Verdict} (h : verdict_of v 
       let R = (passed-ready s _ m h e).memory in
       let new : Marked Vote = waiting (record { voter = s.own; slot = beat / 3; number = value head }) in
       left-done (vote-done s m beat (said Pass h e))
-      (rw (← f) (store-grown _ m (sym (stored_same block-codec m.blocks m.blocks_used R.block-marks R.block_words_lem)) w
+      (rw (← f) (store-grown _ m (sym (stored_same block-codec m.blocks m.blocks_used R.block-marks R.block_words)) w
       (sym (length-rows_of make_block m.blocks m.blocks_used)) (n ∙ length_more make_vote m.votes m.votes_used _) (omega (arith, length_more make_vote m.votes m.votes_used new))))
       (ap (λ (x : ℕ). done (block x)) f)
 

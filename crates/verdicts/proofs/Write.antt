@@ -23,7 +23,7 @@ use Rattle.verdicts.proofs.Sequence.{sound-pass}
 
 pub readable : (s : Settings) (m : Lent) → Ready s m → RowsReadable m.blocks m.blocks_used m.votes m.votes_used
 readable s m R = record {
-  block_rows = R.memory.block_words_lem;
+  block_rows = R.memory.block_words;
   vote_rows = R.memory.vote-words;
   block_count = omega (arith, R.few-blocks);
   vote_count = omega (arith, R.few-votes);

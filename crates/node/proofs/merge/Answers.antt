@@ -5,7 +5,7 @@ use Rattle.node.proofs.merge.Goals as goal
 
 pub view_all_blocks-requires : goal.view_all_blocks-requires
 view_all_blocks-requires c =
-    (passed-ready _ _ _ c.merge_verdict-verdict.ensures c.in-Pass.is).memory.block_words_lem
+    (passed-ready _ _ _ c.merge_verdict-verdict.ensures c.in-Pass.is).memory.block_words
 
 pub merge_votes-requires : goal.merge_votes-requires
 merge_votes-requires c =

@@ -12,7 +12,7 @@ base-base-requires c =
 
 pub view_all_blocks-requires : goal.view_all_blocks-requires
 view_all_blocks-requires c =
-    (passed-ready _ _ _ c.propose_verdict-verdict.ensures c.in-Pass.is).memory.block_words_lem
+    (passed-ready _ _ _ c.propose_verdict-verdict.ensures c.in-Pass.is).memory.block_words
 
 pub append_block-requires : goal.append_block-requires
 append_block-requires c = (

@@ -29,7 +29,7 @@ returns-then-not-proposer c =
 
 pub known_block-requires : goal.known_block-requires
 known_block-requires c =
-    (sound-before _ _ _ c.due_verdict-due.ensures c.in_default.is).memory.block_words_lem
+    (sound-before _ _ _ c.due_verdict-due.ensures c.in_default.is).memory.block_words
 
 pub returns-then-known_block : goal.returns-then-known_block
 unfolding propose_tests first node_of

@@ -16,7 +16,7 @@ returns-then-not-lent_sound c = unsound-refuse _ _ _ c.lent_sound.ensures c.if-n
 pub proposed_now-requires : goal.proposed_now-requires
 proposed_now-requires c =
     let R = ready _ _ (sym c.lent_sound.ensures ∙ c.if-not-lent_sound.false) in
-    (R.memory.block_words_lem, R.settings.some)
+    (R.memory.block_words, R.settings.some)
 
 pub returns-then-not-proposed_now : goal.returns-then-not-proposed_now
 returns-then-not-proposed_now c =
@@ -24,7 +24,7 @@ returns-then-not-proposed_now c =
 
 pub header_block-named-requires : goal.header_block-named-requires
 header_block-named-requires c =
-    (ready _ _ (sym c.lent_sound.ensures ∙ c.if-not-lent_sound.false)).memory.block_words_lem
+    (ready _ _ (sym c.lent_sound.ensures ∙ c.if-not-lent_sound.false)).memory.block_words
 
 pub too_wide-requires : goal.too_wide-requires
 unfolding node_in

@@ -10,7 +10,7 @@ written_length-length-requires c = readable _ _ (passed-ready _ _ _ c.write_verd
 
 pub header_block-named-requires : goal.header_block-named-requires
 header_block-named-requires c =
-    (passed-ready _ _ _ c.write_verdict-verdict.ensures c.in-Pass.is).memory.block_words_lem
+    (passed-ready _ _ _ c.write_verdict-verdict.ensures c.in-Pass.is).memory.block_words
 
 pub write_packet-requires : goal.write_packet-requires
 unfolding node_in

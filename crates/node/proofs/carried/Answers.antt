@@ -1,5 +1,4 @@
 -- `node::carried` meets its contract: the call that is asked for. Assumes nothing.
-use borrow.Author.Rules.{rules}
 use Rattle.node.proofs.Calls.{carries-receive, carries-propose, carries-vote, carries-merge}
 use Rattle.node.proofs.carried.Goals as goal
 

@@ -1,5 +1,4 @@
 -- `node::merge` meets its contract: Merge. Assumes nothing.
-use borrow.Author.Rules.{rules}
 use Rattle.answers.proofs.Verdict.{passed-ready}
 use Rattle.node.proofs.Calls.{merge-leaves, merge-stores}
 use Rattle.node.proofs.merge.Goals as goal

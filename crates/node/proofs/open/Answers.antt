@@ -1,5 +1,4 @@
 -- `node::open` meets its contract: Open. Assumes nothing.
-use borrow.Author.Rules.{rules}
 use Rattle.protocol.specs.Store.{fresh_clock}
 use Rattle.protocol.specs.Lent.{cleared}
 use Rattle.node.proofs.Calls.{open-leaves, open-room, open-clears}

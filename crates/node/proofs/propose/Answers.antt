@@ -1,5 +1,4 @@
 -- `node::propose` meets its contract: Propose. Assumes nothing.
-use borrow.Author.Rules.{rules}
 use native.Mathlib.Omega.{arith}
 use Rattle.protocol.proofs.Lent.Rows.{block-codec}
 use Rattle.answers.proofs.Verdict.{passed-ready, tables-sound}
@@ -16,11 +15,10 @@ view_all_blocks-requires c =
     (passed-ready _ _ _ c.propose_verdict-verdict.ensures c.in-Pass.is).memory.block_words
 
 pub append_block-requires : goal.append_block-requires
-append_block-requires c =
-    (
-      omega (arith, propose-room _ _ _ _ c.propose_verdict-verdict.ensures c.in-Pass.is, c.view_all_blocks.auto.0),
-      viewed-marks block-codec _ _ c.view_all_blocks.ensures,
-    )
+append_block-requires c = (
+  omega (arith, propose-room _ _ _ _ c.propose_verdict-verdict.ensures c.in-Pass.is, c.view_all_blocks.auto.blocks),
+  viewed-marks block-codec _ _ c.view_all_blocks.ensures,
+)
 
 pub view_all_votes-requires : goal.view_all_votes-requires
 view_all_votes-requires c =

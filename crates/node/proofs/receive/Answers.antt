@@ -1,5 +1,4 @@
 -- `node::receive` meets its contract: Receive. Assumes nothing.
-use borrow.Author.Rules.{rules}
 use mathlib.Core.Path.{refl}
 use Rattle.answers.proofs.Verdict.{passed-ready}
 use Rattle.node.proofs.Calls.{receive-leaves, receive-accepts, receive-block-room, receive-few, receive-vote-room, blocks-grow, votes-grow, receive-stores}

@@ -1,5 +1,4 @@
 -- `compare` meets its contract. Assumes nothing.
-use borrow.Author.Rules.{rules}
 use Rattle.queries.proofs.Asks.{compare-leaves, compare-answers}
 use Rattle.queries.proofs.compare.Goals as goal
 

@@ -1,5 +1,4 @@
 -- `compared` meets its contract. Assumes nothing.
-use borrow.Author.Rules.{rules}
 use Prim.Native.Nat.{ℕ}
 use mathlib.Core.List.{List}
 use mathlib.Core.Path.{◌≡◌, refl, ap, sym, ◌∙◌}
@@ -17,8 +16,10 @@ pub returns-in-Refuse : goal.returns-in-Refuse
 returns-in-Refuse c = first-leaves _ _ _ _ c.fresh_verdict-first.ensures c.in-Refuse.is
 
 pub fresh_verdict-second-requires : goal.fresh_verdict-second-requires
-fresh_verdict-second-requires c =
-    (free-again c.free_all.ensures (c.free_all.auto.0 ∙ (((c.fresh_verdict-first.auto.1.1.1.1.1.0 ∙ length-replicate {A = ℕ} 24576 0, c.fresh_verdict-first.auto.1.1.1.1.1.1.0 ∙ length-replicate {A = ℕ} 81919 0))).0), free-again c.free_all-2.ensures (c.free_all-2.auto.0 ∙ (((c.fresh_verdict-first.auto.1.1.1.1.1.0 ∙ length-replicate {A = ℕ} 24576 0, c.fresh_verdict-first.auto.1.1.1.1.1.1.0 ∙ length-replicate {A = ℕ} 81919 0))).1))
+fresh_verdict-second-requires c = (
+  free-again c.free_all.ensures (c.free_all.auto.links ∙ c.fresh_verdict-first.auto.vote_links ∙ length-replicate {A = ℕ} 24576 0),
+  free-again c.free_all-2.ensures (c.free_all-2.auto.links ∙ c.fresh_verdict-first.auto.packet_links ∙ length-replicate {A = ℕ} 81919 0),
+)
 
 pub returns-in-Refuse-second : goal.returns-in-Refuse-second
 returns-in-Refuse-second c =
@@ -27,7 +28,8 @@ returns-in-Refuse-second c =
 pub first_equivocation-found-requires : goal.first_equivocation-found-requires
 first_equivocation-found-requires c =
     free-again c.free_all-3.ensures
-    (c.free_all-3.auto.0 ∙ c.fresh_verdict-second.auto.1.1.1.1.1.1.0 ∙ c.free_all-2.auto.0 ∙ (((c.fresh_verdict-first.auto.1.1.1.1.1.0 ∙ length-replicate {A = ℕ} 24576 0, c.fresh_verdict-first.auto.1.1.1.1.1.1.0 ∙ length-replicate {A = ℕ} 81919 0))).1)
+    (c.free_all-3.auto.links ∙ c.fresh_verdict-second.auto.packet_links ∙ c.free_all-2.auto.links
+    ∙ c.fresh_verdict-first.auto.packet_links ∙ length-replicate {A = ℕ} 81919 0)
 
 pub returns-in-Found : goal.returns-in-Found
 returns-in-Found c =

@@ -1,5 +1,4 @@
 -- `queries::deep` meets its contract: Deep. Assumes nothing.
-use borrow.Author.Rules.{rules}
 use Rattle.answers.proofs.Verdict.{passed-ready, tables-sound}
 use Rattle.queries.proofs.Asks.{slot-bound, deep-leaves, deep-answers}
 use Rattle.queries.proofs.deep.Goals as goal

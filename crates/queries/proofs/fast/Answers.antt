@@ -1,5 +1,4 @@
 -- `queries::fast` meets its contract: Fast. Assumes nothing.
-use borrow.Author.Rules.{rules}
 use mathlib.Core.Path.{ap, sym, ◌∙◌}
 use Rattle.confirm.specs.Top.{choice_in}
 use Rattle.answers.proofs.Verdict.{passed-ready, tables-sound}

@@ -2,49 +2,41 @@
 use Prim.Native.Nat.{ℕ, ◌+◌, ◌≤◌}
 use mathlib.Core.Path.{refl, ◌∙◌}
 use native.Mathlib.Omega.{arith}
-use borrow.Author.Rules.{rules}
 use lib.ListN.{length-replicate}
 use Rattle.search_tree.proofs.Tree.{blank-new}
 use Rattle.queries.proofs.Asks.{fit-leaves, some-used, few-entries, fit-answers}
 use Rattle.queries.proofs.fit.Goals as goal
+use Rattle.queries.proofs.fit.Goals.{In-New}
 
 pub packet_verdict-counted-requires : goal.packet_verdict-counted-requires
 packet_verdict-counted-requires c = let v = length-replicate {A = ℕ} 24576 0 in (refl, refl, (omega arith, omega arith), blank-new 24576, refl)
 
-pub overflow_sub-written : goal.overflow_sub-written
-overflow_sub-written k =
-    omega (arith, ((let x = k.packet_verdict-counted in
-    let e = k.in-New.is in
+-- block 0 is there, and no more than a table and a packet hold
+few : (c : In-New) → let a = c.args in let n = c.in-New.new in
+    (1 ≤ a.blocks_used) × (a.blocks_used + n.blocks ≤ 67584) × (a.votes_used + n.votes ≤ 73728)
+few c =
+    let x = c.packet_verdict-counted in
+    let e = c.in-New.is in
     let y = x.ensures.1 _ e in
-    let f = few-entries _ _ _ _ x.ensures.0 e y.0 y.1 (x.kept.1.1.1.1.1.1.1.1.0 ∙ length-replicate {A = ℕ} 1056 0) (x.kept.1.1.1.1.1.1.1.1.1.0 ∙ length-replicate {A = ℕ} 1152 0) in
-    (some-used _ _ _ _ x.ensures.0 e y.0, f.0, f.1))).0)
+    let f = few-entries _ _ _ _ x.ensures.0 e y.0 y.1
+    (x.auto.block_firsts ∙ length-replicate {A = ℕ} 1056 0) (x.auto.vote_firsts ∙ length-replicate {A = ℕ} 1152 0) in
+    (some-used _ _ _ _ x.ensures.0 e y.0, f.0, f.1)
+
+pub overflow_sub-written : goal.overflow_sub-written
+overflow_sub-written c = omega (arith, (few (goal.at.overflow_sub-written c).In-New).0)
 
 pub overflow_add-written : goal.overflow_add-written
 overflow_add-written c =
-    let f : let a = c.args in let n = c.in-New.new in
-    (1 ≤ a.blocks_used) × (a.blocks_used + n.blocks ≤ 67584) × (a.votes_used + n.votes ≤ 73728) = let c = c.packet_verdict-counted in
-    let e = c.in-New.is in
-    let y = c.ensures.1 _ e in
-    let f = few-entries _ _ _ _ c.ensures.0 e y.0 y.1 (c.kept.1.1.1.1.1.1.1.1.0 ∙ length-replicate {A = ℕ} 1056 0) (c.kept.1.1.1.1.1.1.1.1.1.0 ∙ length-replicate {A = ℕ} 1152 0) in
-    (some-used _ _ _ _ c.ensures.0 e y.0, f.0, f.1) in omega (arith, f.0, f.1)
+    let f = few (goal.at.overflow_add-written c).In-New in
+    omega (arith, f.0, f.1)
 
 pub overflow_add-kept : goal.overflow_add-kept
-overflow_add-kept c =
-    let f : let a = c.args in let n = c.in-New.new in
-    (1 ≤ a.blocks_used) × (a.blocks_used + n.blocks ≤ 67584) × (a.votes_used + n.votes ≤ 73728) = let c = c.packet_verdict-counted in
-    let e = c.in-New.is in
-    let y = c.ensures.1 _ e in
-    let f = few-entries _ _ _ _ c.ensures.0 e y.0 y.1 (c.kept.1.1.1.1.1.1.1.1.0 ∙ length-replicate {A = ℕ} 1056 0) (c.kept.1.1.1.1.1.1.1.1.1.0 ∙ length-replicate {A = ℕ} 1152 0) in
-    (some-used _ _ _ _ c.ensures.0 e y.0, f.0, f.1) in omega (arith, f.2)
+overflow_add-kept c = omega (arith, (few (goal.at.overflow_add-kept c).In-New).2)
 
 pub packet_length-requires : goal.packet_length-requires
 packet_length-requires c =
-    let f : let a = c.args in let n = c.in-New.new in
-    (1 ≤ a.blocks_used) × (a.blocks_used + n.blocks ≤ 67584) × (a.votes_used + n.votes ≤ 73728) = let c = c.packet_verdict-counted in
-    let e = c.in-New.is in
-    let y = c.ensures.1 _ e in
-    let f = few-entries _ _ _ _ c.ensures.0 e y.0 y.1 (c.kept.1.1.1.1.1.1.1.1.0 ∙ length-replicate {A = ℕ} 1056 0) (c.kept.1.1.1.1.1.1.1.1.1.0 ∙ length-replicate {A = ℕ} 1152 0) in
-    (some-used _ _ _ _ c.ensures.0 e y.0, f.0, f.1) in (omega arith, omega (arith, f.0, f.1), omega (arith, f.2))
+    let f = few (goal.at.packet_length-requires c).In-New in
+    (omega arith, omega (arith, f.0, f.1), omega (arith, f.2))
 
 pub returns-in-Refuse : goal.returns-in-Refuse
 returns-in-Refuse c =

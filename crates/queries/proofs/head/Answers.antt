@@ -1,5 +1,4 @@
 -- `queries::head` meets its contract: Head. Assumes nothing.
-use borrow.Author.Rules.{rules}
 use Rattle.answers.proofs.Verdict.{passed-ready, tables-sound}
 use Rattle.queries.proofs.Asks.{slot-bound, head-leaves, head-answers}
 use Rattle.queries.proofs.head.Goals as goal

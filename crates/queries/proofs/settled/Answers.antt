@@ -1,5 +1,4 @@
 -- `queries::settled` meets its contract: Settled. Assumes nothing.
-use borrow.Author.Rules.{rules}
 use Rattle.answers.proofs.Verdict.{passed-ready, tables-sound}
 use Rattle.queries.proofs.Asks.{settled-bounds, settled-leaves, settled-answers}
 use Rattle.queries.proofs.settled.Goals as goal

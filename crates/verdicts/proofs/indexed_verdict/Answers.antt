@@ -1,6 +1,5 @@
 -- `indexed_verdict` meets its contract. Assumes nothing.
-use borrow.Author.Rules.{rules}
-use borrow.Author.Tests.{lt-ltb, le-ltb, not-true, not-false}
+use borrow.Author.Tests.{lt-ltb, le-ltb}
 use mathlib.Core.Path.{sym, ◌∙◌}
 use Rattle.protocol.specs.Refusal.{first}
 use Rattle.protocol.specs.Lent.{node_of}
@@ -20,16 +19,14 @@ returns-then-beat-clock c =
 
 pub returns-then-beat-gt-MAX_SLOT : goal.returns-then-beat-gt-MAX_SLOT
 unfolding beat_tests first node_of
-returns-then-beat-gt-MAX_SLOT c =
-    (
-      sym (sound-pass _ _ _ c.sound_indexed.ensures.0 c.if-not-sound_indexed.false ∙ simp (le-ltb _ _ c.if-beat-clock.false, lt-ltb _ _ c.if-beat-gt-MAX_SLOT.true)),
-      λ c. absurd (not-passed c),
-    )
+returns-then-beat-gt-MAX_SLOT c = (
+  sym (sound-pass _ _ _ c.sound_indexed.ensures.0 c.if-not-sound_indexed.false ∙ simp (le-ltb _ _ c.if-beat-clock.false, lt-ltb _ _ c.if-beat-gt-MAX_SLOT.true)),
+  λ c. absurd (not-passed c),
+)
 
 pub returns : goal.returns
 unfolding beat_tests first node_of
-returns c =
-    (
-      sym (sound-pass _ _ _ c.sound_indexed.ensures.0 c.if-not-sound_indexed.false ∙ simp (le-ltb _ _ c.if-beat-clock.false, le-ltb _ _ c.if-beat-gt-MAX_SLOT.false)),
-      λ z. c.sound_indexed.ensures.1 c.if-not-sound_indexed.false,
-    )
+returns c = (
+  sym (sound-pass _ _ _ c.sound_indexed.ensures.0 c.if-not-sound_indexed.false ∙ simp (le-ltb _ _ c.if-beat-clock.false, le-ltb _ _ c.if-beat-gt-MAX_SLOT.false)),
+  λ z. c.sound_indexed.ensures.1 c.if-not-sound_indexed.false,
+)

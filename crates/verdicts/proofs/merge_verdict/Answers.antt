@@ -1,5 +1,4 @@
 -- `merge_verdict` meets its contract. Assumes nothing.
-use borrow.Author.Rules.{rules}
 use Rattle.protocol.specs.Calls.Merge.{merge_tests}
 use Rattle.verdicts.specs.Lent.{due_tests}
 use Rattle.verdicts.proofs.merge_verdict.Goals as goal

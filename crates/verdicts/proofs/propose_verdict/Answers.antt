@@ -1,6 +1,5 @@
 -- `propose_verdict` meets its contract. Assumes nothing.
-use borrow.Author.Rules.{rules}
-use borrow.Author.Tests.{le-leb, lt-leb, not-true, not-false}
+use borrow.Author.Tests.{le-leb, lt-leb}
 use mathlib.Core.Path.{sym, ◌∙◌}
 use Rattle.protocol.specs.Refusal.{first}
 use Rattle.protocol.specs.Lent.{places_of, node_of}

@@ -1,6 +1,4 @@
 -- `query_verdict` meets its contract. Assumes nothing.
-use borrow.Author.Rules.{rules}
-use borrow.Author.Tests.{not-true, not-false}
 use mathlib.Core.Path.{sym, ◌∙◌}
 use Rattle.protocol.specs.Refusal.{first}
 use Rattle.protocol.specs.Lent.{node_of}

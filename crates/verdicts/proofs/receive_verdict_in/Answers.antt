@@ -1,5 +1,4 @@
 -- `receive_verdict_in` meets its contract. Assumes nothing.
-use borrow.Author.Rules.{rules}
 use native.Mathlib.Omega.{arith}
 use Prim.Native.Nat.{ℕ}
 use mathlib.Core.Path.{◌≡◌, ap, sym, ◌∙◌}
@@ -14,21 +13,21 @@ packet_verdict-counted-requires c =
     (c.requires.0, c.requires.1, (omega arith, omega (arith, e)), c.requires.2 ∙ ap (λ (k : ℕ). replicate k 0) (sym e), c.requires.3)
 
 pub overflow_sub-places_in : goal.overflow_sub-places_in
-overflow_sub-places_in p = omega (arith, (packet-ready _ _ _ _ ((p)).packet_verdict.ensures.0 p.in-New.is).fit-blocks, p.places_in.ensures)
+overflow_sub-places_in p = omega (arith, (packet-ready _ _ _ _ p.packet_verdict-counted.ensures.0 p.in-New.is).fit-blocks, p.places_in.ensures)
 
 pub returns-then-places_in-blocks_used : goal.returns-then-places_in-blocks_used
 returns-then-places_in-blocks_used c =
     let e = c.in-New.is in
-    let x = ((c)).packet_verdict.ensures in
+    let x = c.packet_verdict-counted.ensures in
     (blocks-full _ _ _ _ x.0 e (x.1 _ e).0 c.places_in.ensures c.if-places_in-blocks_used.true, λ q. absurd (not-passed q))
 
 pub overflow_sub-places_in-in-New : goal.overflow_sub-places_in-in-New
-overflow_sub-places_in-in-New q = omega (arith, (packet-ready _ _ _ _ ((q)).packet_verdict.ensures.0 q.in-New.is).fit-votes, q.places_in-in-New.ensures)
+overflow_sub-places_in-in-New q = omega (arith, (packet-ready _ _ _ _ q.packet_verdict-counted.ensures.0 q.in-New.is).fit-votes, q.places_in-in-New.ensures)
 
 pub returns-then-places_in-votes_used : goal.returns-then-places_in-votes_used
 returns-then-places_in-votes_used c =
     let e = c.in-New.is in
-    let x = ((c)).packet_verdict.ensures in
+    let x = c.packet_verdict-counted.ensures in
     (votes-full _ _ _ _ x.0 e (x.1 _ e).0 c.places_in.ensures c.if-places_in-blocks_used.false c.places_in-in-New.ensures c.if-places_in-votes_used.true, λ o. absurd (not-passed o))
 
 pub returns-in-Refuse : goal.returns-in-Refuse
@@ -39,5 +38,5 @@ returns-in-Refuse c =
 pub returns-else-places_in-votes_used : goal.returns-else-places_in-votes_used
 returns-else-places_in-votes_used c =
     let e = c.in-New.is in
-    let x = ((c)).packet_verdict.ensures in
+    let x = c.packet_verdict-counted.ensures in
     (room _ _ _ _ x.0 e (x.1 _ e).0 c.places_in.ensures c.if-places_in-blocks_used.false c.places_in-in-New.ensures c.if-places_in-votes_used.false, λ o. (x.1 _ e).1)

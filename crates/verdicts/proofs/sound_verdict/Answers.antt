@@ -1,6 +1,4 @@
 -- `sound_verdict` meets its contract. Assumes nothing.
-use borrow.Author.Rules.{rules}
-use borrow.Author.Tests.{not-true, not-false}
 use mathlib.Core.Path.{sym}
 use Rattle.protocol.specs.Refusal.{first}
 use Rattle.verdicts.proofs.Sequence.{unsound-refuse, sound-pass}

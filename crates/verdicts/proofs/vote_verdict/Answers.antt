@@ -1,6 +1,5 @@
 -- `vote_verdict` meets its contract. Assumes nothing.
-use borrow.Author.Rules.{rules}
-use borrow.Author.Tests.{le-leb, lt-leb, not-true, not-false}
+use borrow.Author.Tests.{le-leb, lt-leb}
 use mathlib.Core.Path.{sym, ◌∙◌}
 use Rattle.protocol.specs.Refusal.{first}
 use Rattle.protocol.specs.Lent.{places_of, node_of}
@@ -20,7 +19,7 @@ returns-then-not-joined c =
 
 pub has_voted-requires : goal.has_voted-requires
 has_voted-requires c =
-    (sound-before _ _ _ c.due_verdict-due.ensures c.in_default.is).memory.vote_words
+    (sound-before _ _ _ c.due_verdict-due.ensures c.in_default.is).memory.vote-words
 
 pub returns-then-has_voted : goal.returns-then-has_voted
 unfolding vote_tests first node_of

@@ -1,14 +1,13 @@
 -- `write_verdict` meets its contract. Assumes nothing.
-use borrow.Author.Rules.{rules}
-use borrow.Author.Tests.{not-true, not-false}
 use mathlib.Core.Path.{sym, ◌∙◌}
-use mathlib.Core.Logic.{⊎_elim, inl, inr}
+use mathlib.Core.Logic.{inl, inr}
 use Rattle.protocol.specs.Calls.Write.{write_tests}
 use Rattle.writer.specs.Sent.{node_in}
 use Rattle.verdicts.proofs.Passed.{ready}
 use Rattle.verdicts.proofs.Sequence.{unsound-refuse}
 use Rattle.verdicts.proofs.Write.{readable, header-fields, no-proposal, met-wide, short, enough}
 use Rattle.verdicts.proofs.write_verdict.Goals as goal
+use Rattle.verdicts.proofs.write_verdict.Goals.{then-proposal+else-not-proposed_now, else-proposal}
 
 pub returns-then-not-lent_sound : goal.returns-then-not-lent_sound
 unfolding write_tests
@@ -39,16 +38,16 @@ written_length-length-requires c =
 pub returns-then-too_wide : goal.returns-then-too_wide
 returns-then-too_wide c =
     met-wide _ _ _ _ _ c.lent_sound.ensures c.if-not-lent_sound.false
-    (⊎_elim (λ c. inl (c.0.taken, sym c.1.ensures ∙ not-false _ c.2.left)) (λ c. inr c.left) c.if-proposal.branch) c.too_wide.ensures c.if-too_wide.true
+    (elim c.if-proposal.branch [ then-proposal+else-not-proposed_now w ↦ inl (w.if-proposal.true, sym w.proposed_now.ensures ∙ w.if-not-proposed_now.false) | else-proposal w ↦ inr w.if-proposal.false ]) c.too_wide.ensures c.if-too_wide.true
 
 pub returns-then-buffer-length : goal.returns-then-buffer-length
 returns-then-buffer-length c =
     short _ _ _ _ _ c.lent_sound.ensures c.if-not-lent_sound.false
-    (⊎_elim (λ c. inl (c.0.taken, sym c.1.ensures ∙ not-false _ c.2.left)) (λ c. inr c.left) c.if-proposal.branch) c.too_wide.ensures c.if-too_wide.false
+    (elim c.if-proposal.branch [ then-proposal+else-not-proposed_now w ↦ inl (w.if-proposal.true, sym w.proposed_now.ensures ∙ w.if-not-proposed_now.false) | else-proposal w ↦ inr w.if-proposal.false ]) c.too_wide.ensures c.if-too_wide.false
     c.written_length-length.ensures c.if-buffer-length.true
 
 pub returns : goal.returns
 returns c =
     enough _ _ _ _ _ c.lent_sound.ensures c.if-not-lent_sound.false
-    (⊎_elim (λ c. inl (c.0.taken, sym c.1.ensures ∙ not-false _ c.2.left)) (λ c. inr c.left) c.if-proposal.branch) c.too_wide.ensures c.if-too_wide.false
+    (elim c.if-proposal.branch [ then-proposal+else-not-proposed_now w ↦ inl (w.if-proposal.true, sym w.proposed_now.ensures ∙ w.if-not-proposed_now.false) | else-proposal w ↦ inr w.if-proposal.false ]) c.too_wide.ensures c.if-too_wide.false
     c.written_length-length.ensures c.if-buffer-length.false

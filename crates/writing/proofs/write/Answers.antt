@@ -1,5 +1,4 @@
 -- `writing::write` meets its contract: Write. Assumes nothing.
-use borrow.Author.Rules.{rules}
 use Rattle.writer.specs.Sent.{node_in}
 use Rattle.verdicts.proofs.Write.{readable, header-fields}
 use Rattle.answers.proofs.Verdict.{passed-ready}

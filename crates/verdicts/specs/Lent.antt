@@ -1,6 +1,6 @@
 -- The verdict of a call on lent memory. Assumes nothing.
 use Rattle.std.specs.Prelude.{ℕ, cond, List, [], ◌∷◌}
-use Rattle.std.specs.Borrow.{Bor}
+use Rattle.std.specs.Borrow.{MutBor}
 use denote.Triple.Both.{Both}
 use Rattle.protocol.specs.declared.Settings.{Settings}
 use Rattle.protocol.specs.declared.Clock.{Clock}
@@ -14,12 +14,12 @@ lent blocks votes blocks_used votes_used clock =
     record { blocks = blocks; votes = votes; blocks_used = blocks_used; votes_used = votes_used; clock = clock }
 
 -- the memory that these references lend, with this clock
-abbrev pub behind : Bor (List ℕ) → Bor ℕ → Bor (List ℕ) → Bor ℕ → Clock → Lent
+abbrev pub behind : MutBor (List ℕ) → MutBor ℕ → MutBor (List ℕ) → MutBor ℕ → Clock → Lent
 behind blocks blocks_used votes votes_used clock = lent blocks.now votes.now blocks_used.now votes_used.now clock
 
 -- the memory that a call with these arguments finds, and the one that it leaves, with this clock
-module _ (blocks : Both (Bor (List ℕ)) (Bor (List ℕ))) (blocks_used : Both (Bor ℕ) (Bor ℕ)) (votes : Both (Bor (List ℕ)) (Bor (List ℕ)))
-    (votes_used : Both (Bor ℕ) (Bor ℕ)) (clock : Clock) where
+module _ (blocks : Both (MutBor (List ℕ)) (MutBor (List ℕ))) (blocks_used : Both (MutBor ℕ) (MutBor ℕ)) (votes : Both (MutBor (List ℕ)) (MutBor (List ℕ)))
+    (votes_used : Both (MutBor ℕ) (MutBor ℕ)) (clock : Clock) where
   abbrev pub lent_at_entry : Lent
   lent_at_entry = behind blocks.entry blocks_used.entry votes.entry votes_used.entry clock
 

@@ -23,14 +23,7 @@ pub extern "C" fn likvost_open(
     ensures { Stands (Opens (node_settings settings) (lent_at_entry blocks blocks_used votes votes_used (node_clock clock))
         (lent_at_exit blocks blocks_used votes votes_used (node_clock result.clock))) (answer_struct result.clock) result }
 {
-    capi::likvost_open(
-        settings,
-        clock,
-        blocks,
-        blocks_used,
-        votes,
-        votes_used,
-    )
+    capi::likvost_open(settings, clock, blocks, blocks_used, votes, votes_used)
 }
 
 #[unsafe(no_mangle)]

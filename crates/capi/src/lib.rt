@@ -330,8 +330,7 @@ fn written_struct(written: answers::Written) -> Written
 
 // ---- calls that change the memory
 
-#[unsafe(no_mangle)]
-pub extern "C" fn likvost_open(
+pub fn likvost_open(
     settings: Settings,
     clock: Clock,
     blocks: &mut [u64],
@@ -355,8 +354,7 @@ pub extern "C" fn likvost_open(
     answer_struct(answer, exported_clock(after))
 }
 
-#[unsafe(no_mangle)]
-pub extern "C" fn likvost_receive(
+pub fn likvost_receive(
     settings: Settings,
     clock: Clock,
     blocks: &mut [u64],
@@ -384,8 +382,7 @@ pub extern "C" fn likvost_receive(
     answer_struct(answer, exported_clock(after))
 }
 
-#[unsafe(no_mangle)]
-pub extern "C" fn likvost_propose(
+pub fn likvost_propose(
     settings: Settings,
     clock: Clock,
     blocks: &mut [u64],
@@ -413,8 +410,7 @@ pub extern "C" fn likvost_propose(
     answer_struct(answer, exported_clock(after))
 }
 
-#[unsafe(no_mangle)]
-pub extern "C" fn likvost_vote(
+pub fn likvost_vote(
     settings: Settings,
     clock: Clock,
     blocks: &mut [u64],
@@ -440,8 +436,7 @@ pub extern "C" fn likvost_vote(
     answer_struct(answer, exported_clock(after))
 }
 
-#[unsafe(no_mangle)]
-pub extern "C" fn likvost_merge(
+pub fn likvost_merge(
     settings: Settings,
     clock: Clock,
     blocks: &mut [u64],
@@ -469,8 +464,7 @@ pub extern "C" fn likvost_merge(
 
 // ---- Head, Deep, Fast, Settled, Fit and Compare: the memory is only read
 
-#[unsafe(no_mangle)]
-pub extern "C" fn likvost_head(
+pub fn likvost_head(
     settings: Settings,
     clock: Clock,
     blocks: &[u64],
@@ -493,8 +487,7 @@ pub extern "C" fn likvost_head(
     found_struct(found)
 }
 
-#[unsafe(no_mangle)]
-pub extern "C" fn likvost_deep(
+pub fn likvost_deep(
     settings: Settings,
     clock: Clock,
     blocks: &[u64],
@@ -517,8 +510,7 @@ pub extern "C" fn likvost_deep(
     found_struct(found)
 }
 
-#[unsafe(no_mangle)]
-pub extern "C" fn likvost_fast(
+pub fn likvost_fast(
     settings: Settings,
     clock: Clock,
     blocks: &[u64],
@@ -541,8 +533,7 @@ pub extern "C" fn likvost_fast(
     found_struct(found)
 }
 
-#[unsafe(no_mangle)]
-pub extern "C" fn likvost_settled(
+pub fn likvost_settled(
     settings: Settings,
     clock: Clock,
     blocks: &[u64],
@@ -567,8 +558,7 @@ pub extern "C" fn likvost_settled(
     found_struct(found)
 }
 
-#[unsafe(no_mangle)]
-pub extern "C" fn likvost_fit(
+pub fn likvost_fit(
     settings: Settings,
     clock: Clock,
     blocks: &[u64],
@@ -593,8 +583,7 @@ pub extern "C" fn likvost_fit(
     fitted_struct(fitted)
 }
 
-#[unsafe(no_mangle)]
-pub extern "C" fn likvost_compare(
+pub fn likvost_compare(
     settings: Settings,
     clock: Clock,
     blocks: &[u64],
@@ -623,8 +612,7 @@ pub extern "C" fn likvost_compare(
 
 // ---- Write: the memory is only read, the buffer is written
 
-#[unsafe(no_mangle)]
-pub extern "C" fn likvost_write(
+pub fn likvost_write(
     settings: Settings,
     clock: Clock,
     blocks: &[u64],

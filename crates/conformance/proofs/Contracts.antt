@@ -90,8 +90,7 @@ pub step-told : stepping.Learnt ≡ (λ κs (s, (c, (bs, (m, (vs, (n, (call, (be
     Carries s (behind bs m vs n c) call beat bytes.now (behind bs' m' vs' n' r.clock) r.answer)
 step-told = refl
 
--- The clock is lent too, and moved on in place. A function that is lent a struct has no `Asked` and `Learnt`, so this is its contract itself, in every model of
--- the logic: it asks for nothing, and ensures the promise as a fact.
+-- The clock is lent too, and moved on in place. This is the contract itself, in every model of the logic: it asks for nothing, and ensures the promise as a fact.
 pub carry-told : (w : World) → carrying-in-place.clauses w.𝓛 w.𝓜.mem w.𝓡.run
     ≡ (λ κs (s, (c, (bs, (m, (vs, (n, (call, (beat, (bytes, _))))))))). record {
       ghost = Unit;

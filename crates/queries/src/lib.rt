@@ -189,7 +189,7 @@ pub fn fit(
             Fitted::Figures(Figures {
                 new_blocks: new.blocks as u64,
                 new_votes: new.votes as u64,
-                bytes: packets::packet_length(8, written as u64, kept as u64),
+                bytes: packets::summed_length(8, written as u64, kept as u64),
             })
         }
     }

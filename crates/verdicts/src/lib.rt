@@ -292,6 +292,18 @@ fn due_verdict(
 
 // ---- the calls
 
+// The salt of a packet with so many blocks and votes: 0 where there is room for two links for each.
+fn salt_for(bytes: &[u8], blocks: usize, votes: usize) -> u64
+    ensures { result ≡ 0 → (blocks ≤ 8192) × (votes ≤ 8192) }
+{
+    if blocks <= 8192 {
+        if votes <= 8192 {
+            return 0;
+        }
+    }
+    mixing::salt_of(bytes)
+}
+
 // A packet's tests, all but that of the places, and how many entries are new: for Receive and Fit. The sets, empty before, hold the first rows
 // of the packet's entries if no test applies: so the entries need not be looked up again when they are stored. The cost beside soundness is
 // four lookups for each block and four for each vote of the packet, however many there are. The links of the table's votes and of the packet's entries are
@@ -344,7 +356,7 @@ pub fn packet_verdict(
     let block_count = header.blocks as usize;
     let slot = beat / 3;
     let vote_count = header.votes as usize;
-    let salt = index::salt_for(bytes, block_count, vote_count);
+    let salt = salt_for(bytes, block_count, vote_count);
     let block_span = index::packet_span(salt, block_count);
     let admitted = admission::admit_blocks(
         slot,

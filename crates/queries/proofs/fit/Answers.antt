@@ -33,9 +33,9 @@ overflow_add-written c =
 pub overflow_add-kept : goal.overflow_add-kept
 overflow_add-kept c = omega (arith, (few (goal.at.overflow_add-kept c).In-New).2)
 
-pub packet_length-requires : goal.packet_length-requires
-packet_length-requires c =
-    let f = few (goal.at.packet_length-requires c).In-New in
+pub summed_length-requires : goal.summed_length-requires
+summed_length-requires c =
+    let f = few (goal.at.summed_length-requires c).In-New in
     (omega arith, omega (arith, f.0, f.1), omega (arith, f.2))
 
 pub returns-in-Refuse : goal.returns-in-Refuse
@@ -46,4 +46,4 @@ pub returns-in-New : goal.returns-in-New
 returns-in-New c =
     let x = c.packet_verdict-counted.ensures in
     let e = c.in-New.is in
-    fit-answers _ _ _ _ x.0 e (x.1 _ e).0 c.packet_length.ensures.0
+    fit-answers _ _ _ _ x.0 e (x.1 _ e).0 c.summed_length.ensures.0

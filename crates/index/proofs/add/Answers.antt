@@ -1,12 +1,8 @@
 -- `add` meets its contract. Assumes nothing.
-use borrow.Author.Rules.{rules}
 use native.Mathlib.Omega.{arith}
 use Prim.Native.Nat.{◌+◌}
-use mathlib.Core.Path.{◌≡◌, refl}
-use Rattle.search_tree.specs.Tree.{Descent}
+use mathlib.Core.Path.{refl}
 use Rattle.search_tree.proofs.Descent.{descent-root, descent-none}
-use Rattle.index.specs.Keys.{mix_of, table_shape}
-use Rattle.index.specs.Index.{key_at}
 use Rattle.index.proofs.Keys.{readable-less}
 use Rattle.index.proofs.Added.{added-put, added-points, added-index}
 use Rattle.index.proofs.add.Goals as goal

@@ -1,5 +1,4 @@
 -- `add_below` meets its contract. Assumes nothing.
-use borrow.Author.Rules.{rules}
 use native.Mathlib.Omega.{arith}
 use Rattle.search_tree.proofs.Tree.{free-within}
 use Rattle.index.proofs.Added.{added-put, added_none, added-points, added-index}

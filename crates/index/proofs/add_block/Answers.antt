@@ -1,5 +1,4 @@
 -- `add_block` meets its contract. Assumes nothing.
-use borrow.Author.Rules.{rules}
 use native.Mathlib.Omega.{arith}
 use Rattle.index.proofs.add_block.Goals as goal
 

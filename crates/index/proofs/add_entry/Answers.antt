@@ -1,12 +1,8 @@
 -- `add_entry` meets its contract. Assumes nothing.
-use borrow.Author.Rules.{rules}
 use native.Mathlib.Omega.{arith}
 use mathlib.Core.Path.{refl}
-use Rattle.search_tree.specs.Tree.{Descent}
 use Rattle.search_tree.proofs.Tree.{free-within}
 use Rattle.search_tree.proofs.Descent.{descent-root, descent-none}
-use Rattle.index.specs.Keys.{packet_shape}
-use Rattle.index.specs.Index.{entry_key}
 use Rattle.index.proofs.Added.{added-put, added_none}
 use Rattle.index.proofs.Shapes.{roots-first}
 use Rattle.index.proofs.add_entry.Goals as goal

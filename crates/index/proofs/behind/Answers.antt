@@ -1,5 +1,4 @@
 -- `behind` meets its contract. Assumes nothing.
-use borrow.Author.Rules.{rules}
 use Prim.Native.Nat.{ℕ, zero, suc, ◌+◌}
 use mathlib.Core.Path.{◌≡◌, refl, ap, sym}
 use Rattle.index.specs.Links.{link_behind}

@@ -1,5 +1,4 @@
 -- `block_at` meets its contract. Assumes nothing.
-use borrow.Author.Rules.{rules}
 use mathlib.Core.Path.{◌∙◌}
 use Rattle.protocol.specs.Chain.{genesis}
 use Rattle.protocol.specs.Store.{in_view}

@@ -1,12 +1,9 @@
 -- `build` meets its contract. Assumes nothing.
-use borrow.Author.Rules.{rules}
 use native.Mathlib.Omega.{arith}
-use Prim.Native.Nat.{◌-◌, ◌≤◌}
 use mathlib.Core.Path.{◌≡◌, refl, sym, ◌∙◌}
-use lib.ListN.{length}
 use Rattle.search_tree.specs.Lists.{distinct}
 use Rattle.search_tree.proofs.Tree.{index-free}
-use Rattle.index.specs.Index.{key_at, IndexOf, listed, keys_differ}
+use Rattle.index.specs.Index.{listed}
 use Rattle.index.proofs.Keys.{readable-less}
 use Rattle.index.proofs.Links.{keys-new, keys-old}
 use Rattle.index.proofs.build.Goals as goal

@@ -1,15 +1,8 @@
 -- The loop of `build`: its invariant and its measure. Assumes nothing.
-use borrow.Author.Rules.{rules}
-use native.Mathlib.Omega.{arith}
 use Prim.Native.Nat.{◌-◌, ◌≤◌}
-use mathlib.Core.Logic.{⊎_elim}
-use mathlib.Core.Path.{◌≡◌, refl, sym, ◌∙◌}
+use mathlib.Core.Path.{◌≡◌}
 use lib.ListN.{length}
-use Rattle.search_tree.specs.Lists.{distinct}
-use Rattle.search_tree.proofs.Tree.{index-free}
-use Rattle.index.specs.Index.{key_at, IndexOf, listed, keys_differ}
-use Rattle.index.proofs.Keys.{readable-less}
-use Rattle.index.proofs.Links.{keys-new, keys-old}
+use Rattle.index.specs.Index.{key_at, IndexOf, keys_differ}
 use Rattle.index.proofs.build.Given as goal
 
 abbrev pub invariant-loop-i : goal.invariant-loop-i

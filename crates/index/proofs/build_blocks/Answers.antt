@@ -1,5 +1,4 @@
 -- `build_blocks` meets its contract. Assumes nothing.
-use borrow.Author.Rules.{rules}
 use mathlib.Core.Path.{◌∙◌}
 use Rattle.index.proofs.Tables.{numbers-differ}
 use Rattle.index.proofs.build_blocks.Goals as goal

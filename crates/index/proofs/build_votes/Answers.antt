@@ -1,5 +1,4 @@
 -- `build_votes` meets its contract. Assumes nothing.
-use borrow.Author.Rules.{rules}
 use mathlib.Core.Path.{◌∙◌}
 use Rattle.index.proofs.Tables.{votes-differ}
 use Rattle.index.proofs.build_votes.Goals as goal

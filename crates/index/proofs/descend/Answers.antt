@@ -1,8 +1,7 @@
 -- `descend` meets its contract. Assumes nothing.
-use borrow.Author.Rules.{rules}
 use native.Mathlib.Omega.{arith}
-use Prim.Native.Nat.{ℕ, ◌+◌, ◌*◌, ◌-◌}
-use mathlib.Core.Path.{◌≡◌, refl, ap, sym, ◌∙◌, subst⁻¹}
+use Prim.Native.Nat.{ℕ}
+use mathlib.Core.Path.{refl, ap, sym, ◌∙◌, subst⁻¹}
 use Rattle.protocol.proofs.Basics.Tests.{clashing}
 use Rattle.search_tree.specs.Tree.{Descent}
 use Rattle.search_tree.proofs.Descent.{descent-later, descent-step, descent-hit, descent-none}

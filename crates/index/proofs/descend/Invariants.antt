@@ -1,14 +1,8 @@
 -- The loop of `descend`: its invariant and its measure. Assumes nothing.
-use borrow.Author.Rules.{rules}
-use native.Mathlib.Omega.{arith}
-use Prim.Native.Nat.{ℕ, ◌+◌, ◌*◌, ◌-◌}
-use mathlib.Core.Path.{◌≡◌, refl, ap, sym, ◌∙◌, subst⁻¹}
-use Rattle.protocol.proofs.Basics.Tests.{clashing}
+use Prim.Native.Nat.{◌+◌, ◌*◌, ◌-◌}
 use Rattle.search_tree.specs.Tree.{Descent}
-use Rattle.search_tree.proofs.Descent.{descent-later, descent-step, descent-hit, descent-none}
-use Rattle.index.specs.Keys.{same_key, mix_of, table_shape}
+use Rattle.index.specs.Keys.{table_shape}
 use Rattle.index.specs.Index.{key_at}
-use Rattle.index.proofs.Keys.{key-same, same_key_lem, readable-less}
 use Rattle.index.proofs.descend.Given as goal
 
 abbrev pub invariant-loop-link : goal.invariant-loop-link

@@ -1,7 +1,6 @@
 -- `descend_entries` meets its contract. Assumes nothing.
-use borrow.Author.Rules.{rules}
 use native.Mathlib.Omega.{arith}
-use Prim.Native.Nat.{ℕ, ◌+◌, ◌-◌, ◌≤◌, ◌<◌}
+use Prim.Native.Nat.{ℕ, ◌-◌, ◌≤◌, ◌<◌}
 use mathlib.Core.Path.{◌≡◌, refl, ap, sym, ◌∙◌, subst⁻¹}
 use Rattle.protocol.proofs.Basics.Tests.{clashing}
 use Rattle.search_tree.specs.Tree.{links_of, child, Descent}

@@ -1,15 +1,8 @@
 -- The loop of `descend_entries`: its invariant and its measure. Assumes nothing.
-use borrow.Author.Rules.{rules}
-use native.Mathlib.Omega.{arith}
-use Prim.Native.Nat.{ℕ, ◌+◌, ◌-◌, ◌≤◌, ◌<◌}
-use mathlib.Core.Path.{◌≡◌, refl, ap, sym, ◌∙◌, subst⁻¹}
-use Rattle.protocol.proofs.Basics.Tests.{clashing}
+use Prim.Native.Nat.{◌-◌}
 use Rattle.search_tree.specs.Tree.{links_of, Descent}
-use Rattle.search_tree.proofs.Descent.{descent-later, descent-step, descent-hit, descent-none}
-use Rattle.index.specs.Keys.{same_key, packet_shape}
+use Rattle.index.specs.Keys.{packet_shape}
 use Rattle.index.specs.Index.{entry_key}
-use Rattle.index.proofs.Keys.{key-same, same_key_lem}
-use Rattle.index.proofs.Shapes.{links-within, child-within}
 use Rattle.index.proofs.descend_entries.Given as goal
 
 abbrev pub invariant-loop-link : goal.invariant-loop-link

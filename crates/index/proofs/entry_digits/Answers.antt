@@ -1,9 +1,8 @@
 -- `entry_digits` meets its contract. Assumes nothing.
-use borrow.Author.Rules.{rules}
 use borrow.Author.Tests.{eq-eqb, ne_eqb}
 use Prim.Native.Nat.{ℕ}
 use mathlib.Core.Bool.{Bool, cond}
-use mathlib.Core.Path.{◌≡◌, ap, sym, ◌∙◌}
+use mathlib.Core.Path.{ap, sym, ◌∙◌}
 use Rattle.index.specs.declared.Key.{Key}
 use Rattle.index.specs.Keys.{mix_of}
 use Rattle.index.proofs.entry_digits.Goals as goal

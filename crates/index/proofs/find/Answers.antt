@@ -1,12 +1,8 @@
 -- `find` meets its contract. Assumes nothing.
-use borrow.Author.Rules.{rules}
 use native.Mathlib.Omega.{arith}
-use Prim.Native.Nat.{◌-◌}
-use mathlib.Core.Path.{◌≡◌, refl, ap, sym, ◌∙◌}
-use Rattle.search_tree.specs.Tree.{Descent}
+use mathlib.Core.Path.{refl, ap, sym, ◌∙◌}
 use Rattle.search_tree.proofs.Descent.{descent-root, descent-hit, descent-none}
-use Rattle.index.specs.Keys.{same_key, mix_of, table_shape}
-use Rattle.index.specs.Index.{key_at}
+use Rattle.index.specs.Keys.{same_key}
 use Rattle.index.proofs.Keys.{key-same, readable-less}
 use Rattle.index.proofs.find.Goals as goal
 

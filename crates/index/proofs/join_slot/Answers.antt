@@ -1,5 +1,4 @@
 -- `join_slot` meets its contract. Assumes nothing.
-use borrow.Author.Rules.{rules}
 use native.Mathlib.Omega.{arith}
 use mathlib.Core.Path.{ap, ◌∙◌}
 use Rattle.search_tree.proofs.Tree.{index-for}

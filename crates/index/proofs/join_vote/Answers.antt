@@ -1,13 +1,9 @@
 -- `join_vote` meets its contract. Assumes nothing.
-use borrow.Author.Rules.{rules}
 use native.Mathlib.Omega.{arith}
-use Prim.Native.Nat.{◌+◌, ◌-◌}
-use mathlib.Core.Path.{◌≡◌, ap, sym, ◌∙◌}
+use Prim.Native.Nat.{◌-◌}
+use mathlib.Core.Path.{ap, ◌∙◌}
 use Rattle.search_tree.proofs.Tree.{index-for, index-unwanted}
-use Rattle.index.specs.declared.Section.TheVariants.{PacketVotes}
 use Rattle.index.specs.Keys.{vote_key}
-use Rattle.index.specs.Index.{entry_key}
-use Rattle.index.specs.Links.{vote_keys}
 use Rattle.index.proofs.Added.{added-index, added-points}
 use Rattle.index.proofs.Firsts.{linked-within}
 use Rattle.index.proofs.Joined.{vote-past, vote-early, vote-late}

@@ -1,5 +1,4 @@
 -- `key_at` meets its contract. Assumes nothing.
-use borrow.Author.Rules.{rules}
 use native.Mathlib.Omega.{arith}
 use mathlib.Core.Path.{◌∙◌}
 use Rattle.index.proofs.Keys.{row_fits, row-keyed}

@@ -1,5 +1,4 @@
 -- `known_block` meets its contract. Assumes nothing.
-use borrow.Author.Rules.{rules}
 use native.Mathlib.Omega.{arith}
 use mathlib.Core.Path.{refl}
 use Rattle.search_tree.proofs.Tree.{index-for}

@@ -1,5 +1,4 @@
 -- `known_slot` meets its contract. Assumes nothing.
-use borrow.Author.Rules.{rules}
 use Rattle.search_tree.proofs.Tree.{index-for}
 use Rattle.index.proofs.known_slot.Goals as goal
 

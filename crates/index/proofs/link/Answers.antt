@@ -1,5 +1,4 @@
 -- `link` meets its contract. Assumes nothing.
-use borrow.Author.Rules.{rules}
 use Rattle.index.proofs.Tables.{number-linked}
 use Rattle.index.proofs.link.Goals as goal
 

@@ -1,5 +1,4 @@
 -- `offsets_of` meets its contract. Assumes nothing.
-use borrow.Author.Rules.{rules}
 use native.Mathlib.Omega.{arith}
 use mathlib.Core.Path.{ap, sym}
 use Rattle.index.specs.Index.{offsets_of}

@@ -4,7 +4,6 @@ use Prim.Native.Nat.{ℕ, ◌+◌, ◌*◌, ◌≤◌}
 use native.Mathlib.Nat.{mul-suc}
 use native.Mathlib.Numerals.{add-one}
 use native.Mathlib.Omega.{arith}
-use lib.ListN.{length}
 use lib.Seq.{get_or-drop}
 use mathlib.Core.Bool.{cond}
 use mathlib.Core.Path.{◌≡◌, ap, sym, ◌∙◌}

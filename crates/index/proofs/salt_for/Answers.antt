@@ -1,5 +1,4 @@
 -- `salt_for` meets its contract. Assumes nothing.
-use borrow.Author.Rules.{rules}
 use native.Mathlib.Omega.{arith}
 use Rattle.index.proofs.salt_for.Goals as goal
 

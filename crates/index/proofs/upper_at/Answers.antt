@@ -1,5 +1,4 @@
 -- `upper_at` meets its contract. Assumes nothing.
-use borrow.Author.Rules.{rules}
 use Rattle.index.proofs.upper_at.Goals as goal
 
 pub returns-then-wide : goal.returns-then-wide

@@ -1,13 +1,9 @@
 -- The loop of `all_voted_sound`: its invariant and its measure. Assumes nothing.
-use borrow.Author.Rules.{rules}
-use native.Mathlib.Omega.{arith}
-use borrow.Author.Tests.{not-true, not-false}
 use Prim.Native.Nat.{◌-◌}
-use mathlib.Core.Path.{◌≡◌, refl, sym, ◌∙◌}
+use mathlib.Core.Path.{◌≡◌}
 use lib.ListN.{drop}
 use Rattle.protocol.specs.Lists.{all_pass}
 use Rattle.protocol.specs.Lent.{rows_of, make_block, make_vote}
-use Rattle.rows.proofs.Rows.{all_pass_lem, all-fail, all_end}
 use Rattle.soundness.specs.Parts.{voted_sound}
 use Rattle.soundness.proofs.all_voted_sound.Given as goal
 

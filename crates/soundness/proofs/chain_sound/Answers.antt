@@ -1,12 +1,7 @@
 -- `chain_sound` meets its contract. Assumes nothing.
-use borrow.Author.Rules.{rules}
 use native.Mathlib.Omega.{arith}
-use borrow.Author.Tests.{not-true, not-false}
-use Prim.Native.Nat.{◌-◌, ◌<◌}
-use mathlib.Core.Path.{◌≡◌, sym, ◌∙◌}
-use Rattle.protocol.specs.Lent.{rows_of, make_block}
-use Rattle.soundness.specs.Parts.{chain_sound}
-use Rattle.soundness.proofs.Turns.{parents_from, parents-pass, parents-fail, parents-end, chain-none, first-pass, first-fail}
+use mathlib.Core.Path.{sym, ◌∙◌}
+use Rattle.soundness.proofs.Turns.{parents-pass, parents-fail, parents-end, chain-none, first-pass, first-fail}
 use Rattle.soundness.proofs.chain_sound.Goals as goal
 
 pub returns-then-used-eq0 : goal.returns-then-used-eq0

@@ -1,12 +1,9 @@
 -- The loop of `chain_sound`: its invariant and its measure. Assumes nothing.
-use borrow.Author.Rules.{rules}
-use native.Mathlib.Omega.{arith}
-use borrow.Author.Tests.{not-true, not-false}
-use Prim.Native.Nat.{◌-◌, ◌<◌}
-use mathlib.Core.Path.{◌≡◌, sym, ◌∙◌}
+use Prim.Native.Nat.{◌-◌}
+use mathlib.Core.Path.{◌≡◌}
 use Rattle.protocol.specs.Lent.{rows_of, make_block}
 use Rattle.soundness.specs.Parts.{chain_sound}
-use Rattle.soundness.proofs.Turns.{parents_from, parents-pass, parents-fail, parents-end, chain-none, first-pass, first-fail}
+use Rattle.soundness.proofs.Turns.{parents_from}
 use Rattle.soundness.proofs.chain_sound.Given as goal
 
 abbrev pub invariant-loop-i : goal.invariant-loop-i

@@ -1,10 +1,6 @@
 -- `first_sound` meets its contract. Assumes nothing.
-use borrow.Author.Rules.{rules}
 use borrow.Author.Tests.{eq-eqb, ne_eqb}
-use mathlib.Core.Bool.{Bool}
-use mathlib.Core.Path.{◌≡◌, sym, ◌∙◌}
-use lib.Dec.{eqb}
-use Rattle.protocol.specs.Words.{value}
+use mathlib.Core.Path.{sym, ◌∙◌}
 use Rattle.protocol.specs.Store.{same_block}
 use Rattle.soundness.proofs.first_sound.Goals as goal
 

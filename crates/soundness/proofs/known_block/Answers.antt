@@ -1,5 +1,4 @@
 -- `known_block` meets its contract. Assumes nothing.
-use borrow.Author.Rules.{rules}
 use mathlib.Core.Bool.{true}
 use mathlib.Core.Path.{refl, sym, ◌∙◌}
 use Rattle.rows.proofs.Find.{found_at, found_none}

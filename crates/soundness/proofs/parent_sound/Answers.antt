@@ -1,13 +1,9 @@
 -- `parent_sound` meets its contract. Assumes nothing.
-use borrow.Author.Rules.{rules}
 use borrow.Author.Tests.{lt-ltb, le-ltb}
 use native.Mathlib.Omega.{arith}
-use mathlib.Core.Bool.{not, ◌&&◌, ◌||◌}
-use mathlib.Core.Path.{◌≡◌, refl, sym, ◌∙◌}
+use mathlib.Core.Path.{refl, sym, ◌∙◌}
 use lib.Dec.{ltb}
 use Rattle.protocol.specs.Words.{value}
-use Rattle.protocol.specs.Lent.{rows_of, make_block}
-use Rattle.rows.specs.Rows.{marked_block}
 use Rattle.index.proofs.Tables.{differ-before}
 use Rattle.soundness.specs.Parts.{parent_sound}
 use Rattle.soundness.proofs.Lookup.{before, not-before, tested-none, tested_at, fails, viewed-passes, waiting-passes}

@@ -1,13 +1,9 @@
 -- `voted_sound` meets its contract. Assumes nothing.
-use borrow.Author.Rules.{rules}
 use borrow.Author.Tests.{le-leb, lt-leb}
 use native.Mathlib.Omega.{arith}
-use mathlib.Core.Bool.{not, ◌&&◌, ◌||◌}
-use mathlib.Core.Path.{◌≡◌, sym, ◌∙◌}
+use mathlib.Core.Path.{sym, ◌∙◌}
 use lib.Dec.{leb}
 use Rattle.protocol.specs.Words.{value}
-use Rattle.protocol.specs.Lent.{rows_of, make_block}
-use Rattle.rows.specs.Rows.{marked_vote}
 use Rattle.soundness.specs.Parts.{voted_sound}
 use Rattle.soundness.proofs.Lookup.{tested-none, tested-below, tested_at, fails, viewed-passes, waiting-passes}
 use Rattle.soundness.proofs.voted_sound.Goals as goal

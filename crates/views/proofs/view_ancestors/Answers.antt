@@ -1,11 +1,8 @@
 -- `view_ancestors` meets its contract. Assumes nothing.
-use borrow.Author.Rules.{rules}
 use native.Mathlib.Omega.{arith}
-use Prim.Native.Nat.{◌≤◌}
-use mathlib.Core.Path.{◌≡◌, refl, ◌∙◌}
-use lib.ListN.{length}
+use mathlib.Core.Path.{refl}
 use Rattle.views.proofs.Indexed.{blocks-indexed}
-use Rattle.views.proofs.Pass.{Pass, pass-begin, pass-waits, pass-shows, pass-end}
+use Rattle.views.proofs.Pass.{pass-begin, pass-waits, pass-shows, pass-end}
 use Rattle.views.proofs.view_ancestors.Goals as goal
 
 pub loop-i-init : goal.loop-i-init

@@ -1,11 +1,8 @@
 -- The loop of `view_ancestors`: its invariant and its measure. Assumes nothing.
-use borrow.Author.Rules.{rules}
-use native.Mathlib.Omega.{arith}
 use Prim.Native.Nat.{◌≤◌}
-use mathlib.Core.Path.{◌≡◌, refl, ◌∙◌}
+use mathlib.Core.Path.{◌≡◌}
 use lib.ListN.{length}
-use Rattle.views.proofs.Indexed.{blocks-indexed}
-use Rattle.views.proofs.Pass.{Pass, pass-begin, pass-waits, pass-shows, pass-end}
+use Rattle.views.proofs.Pass.{Pass}
 use Rattle.views.proofs.view_ancestors.Given as goal
 
 abbrev pub invariant-loop-i : goal.invariant-loop-i

@@ -1,5 +1,4 @@
 -- `view_block` meets its contract. Assumes nothing.
-use borrow.Author.Rules.{rules}
 use native.Mathlib.Omega.{arith}
 use Rattle.views.proofs.Found.{block-below, block_none, block-at}
 use Rattle.views.proofs.view_block.Goals as goal

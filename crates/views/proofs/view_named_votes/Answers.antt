@@ -1,12 +1,10 @@
 -- `view_named_votes` meets its contract. Assumes nothing.
-use borrow.Author.Rules.{rules}
 use native.Mathlib.Omega.{arith}
-use Prim.Native.Nat.{◌-◌, ◌≤◌}
-use mathlib.Core.Path.{◌≡◌, refl, sym, ap, ◌∙◌}
+use mathlib.Core.Path.{refl, sym, ap, ◌∙◌}
 use lib.ListN.{length}
 use Rattle.protocol.proofs.Lent.Rows.{vote-codec}
 use Rattle.views.specs.Named.{named_at}
-use Rattle.views.proofs.Named.{NamedTo, named-begin, named-turn, named-skip, named_end}
+use Rattle.views.proofs.Named.{named-begin, named-turn, named-skip, named_end}
 use Rattle.views.proofs.view_named_votes.Goals as goal
 use Rattle.views.proofs.view_named_votes.Goals.{then-is_named, else-is_named}
 

@@ -1,13 +1,10 @@
 -- The loop of `view_named_votes`: its invariant and its measure. Assumes nothing.
-use borrow.Author.Rules.{rules}
-use native.Mathlib.Omega.{arith}
 use Prim.Native.Nat.{◌-◌, ◌≤◌}
-use mathlib.Core.Logic.{⊎_elim}
-use mathlib.Core.Path.{◌≡◌, refl, sym, ap, ◌∙◌}
+use mathlib.Core.Path.{◌≡◌}
 use lib.ListN.{length}
 use Rattle.protocol.proofs.Lent.Rows.{vote-codec}
 use Rattle.views.specs.Named.{named_at}
-use Rattle.views.proofs.Named.{NamedTo, named-begin, named-turn, named-skip, named_end}
+use Rattle.views.proofs.Named.{NamedTo}
 use Rattle.views.proofs.view_named_votes.Given as goal
 
 abbrev pub invariant-loop-j : goal.invariant-loop-j

@@ -1,7 +1,5 @@
 -- `admit_block` meets its contract. Assumes nothing.
-use borrow.Author.Rules.{rules}
 use native.Mathlib.Omega.{arith}
-use Prim.Native.Nat.{◌<◌}
 use mathlib.Core.Path.{refl, ap, sym, ◌∙◌}
 use Rattle.protocol.specs.Entry.{Block}
 use Rattle.protocol.proofs.Packet.Numbers.{bytes-by-index}

@@ -1,39 +1,34 @@
 -- `admit_blocks` meets its contract. Assumes nothing.
-use borrow.Author.Rules.{rules}
 use borrow.Author.Tests.{not-true, not-false}
 use native.Mathlib.Omega.{arith}
-use Prim.Native.Nat.{◌+◌, ◌-◌, ◌≤◌, ◌<◌}
+use Prim.Native.Nat.{◌≤◌, ◌<◌}
 use mathlib.Core.Path.{◌≡◌, refl, sym, ◌∙◌}
-use lib.ListN.{length, take, drop}
+use lib.ListN.{length}
 use Rattle.protocol.specs.Chain.{genesis}
-use Rattle.protocol.specs.Store.{entries}
 use Rattle.protocol.specs.Packet.{packet_of}
-use Rattle.protocol.specs.Lent.{rows_of, make_block}
-use Rattle.protocol.specs.Calls.Receive.{add_blocks, first_bad_block}
+use Rattle.protocol.specs.Lent.{make_block}
+use Rattle.protocol.specs.Calls.Receive.{add_blocks}
 use Rattle.protocol.proofs.Store.Views.{length-entries}
 use Rattle.protocol.proofs.Store.New.{knows_block, adding-blocks}
 use Rattle.protocol.proofs.Lent.Rows.{length-rows_of}
 use Rattle.packets.proofs.Headers.{header-blocks}
 use Rattle.index.proofs.Shapes.{links-within}
-use Rattle.index.specs.Links.{BlocksIndexed}
-use Rattle.admission.specs.Seen.{BlocksSeen}
 use Rattle.admission.proofs.FirstBad.{block-begin, block-good, block-bad, block-end}
 use Rattle.admission.proofs.Counts.{flag_one, count-begin, count_turn, count-end}
 use Rattle.admission.proofs.admit_blocks.Goals as goal
 
 pub loop-i-init : goal.loop-i-init
-loop-i-init c =
-    (
-      header-blocks _ c.header_of-h.ensures,
-      omega arith,
-      omega arith,
-      refl,
-      refl,
-      count-begin knows_block add_blocks adding-blocks _ (packet_of c.args.bytes.now).blocks _ (length-entries _ ∙ length-rows_of make_block _ _),
-      c.requires.3,
-      c.requires.5,
-      block-begin _ _ _,
-    )
+loop-i-init c = (
+  header-blocks _ c.header_of-h.ensures,
+  omega arith,
+  omega arith,
+  refl,
+  refl,
+  count-begin knows_block add_blocks adding-blocks _ (packet_of c.args.bytes.now).blocks _ (length-entries _ ∙ length-rows_of make_block _ _),
+  c.requires.3,
+  c.requires.5,
+  block-begin _ _ _,
+)
 
 pub admit_block-checked-requires : goal.admit_block-checked-requires
 admit_block-checked-requires c =

@@ -1,24 +1,13 @@
 -- The loop of `admit_blocks`: its invariant and its measure. Assumes nothing.
-use borrow.Author.Rules.{rules}
-use borrow.Author.Tests.{not-true, not-false}
-use native.Mathlib.Omega.{arith}
-use Prim.Native.Nat.{◌+◌, ◌-◌, ◌≤◌, ◌<◌}
-use mathlib.Core.Path.{◌≡◌, refl, sym, ◌∙◌}
+use Prim.Native.Nat.{◌+◌, ◌-◌, ◌≤◌}
+use mathlib.Core.Path.{◌≡◌}
 use lib.ListN.{length, take, drop}
-use Rattle.protocol.specs.Chain.{genesis}
 use Rattle.protocol.specs.Store.{entries}
 use Rattle.protocol.specs.Packet.{packet_of}
 use Rattle.protocol.specs.Lent.{rows_of, make_block}
 use Rattle.protocol.specs.Calls.Receive.{add_blocks, first_bad_block}
-use Rattle.protocol.proofs.Store.Views.{length-entries}
-use Rattle.protocol.proofs.Store.New.{knows_block, adding-blocks}
-use Rattle.protocol.proofs.Lent.Rows.{length-rows_of}
-use Rattle.packets.proofs.Headers.{header-blocks}
-use Rattle.index.proofs.Shapes.{links-within}
 use Rattle.index.specs.Links.{BlocksIndexed}
 use Rattle.admission.specs.Seen.{BlocksSeen}
-use Rattle.admission.proofs.FirstBad.{block-begin, block-good, block-bad, block-end}
-use Rattle.admission.proofs.Counts.{flag_one, count-begin, count_turn, count-end}
 use Rattle.admission.proofs.admit_blocks.Given as goal
 
 abbrev pub invariant-loop-i : goal.invariant-loop-i

@@ -1,12 +1,10 @@
 -- `admit_vote` meets its contract. Assumes nothing.
-use borrow.Author.Rules.{rules}
-use borrow.Author.Tests.{not-true, not-false}
 use native.Mathlib.Omega.{arith}
-use Prim.Native.Nat.{◌≤◌, ◌<◌}
+use Prim.Native.Nat.{◌≤◌}
 use mathlib.Core.Bool.{false≢true}
-use mathlib.Core.Path.{◌≡◌, refl, ap, sym, ◌∙◌}
+use mathlib.Core.Path.{refl, ap, sym, ◌∙◌}
 use mathlib.Core.List.{List}
-use lib.ListN.{length, get_or}
+use lib.ListN.{length}
 use lib.Seq.{take_all}
 use Rattle.protocol.specs.Words.{vote_of}
 use Rattle.protocol.specs.Entry.{Block}
@@ -16,7 +14,6 @@ use Rattle.protocol.specs.Lent.{rows_of, make_block}
 use Rattle.protocol.specs.Calls.Receive.{add_blocks, vote_allowed}
 use Rattle.protocol.proofs.Packet.Numbers.{bytes-by-index}
 use Rattle.protocol.proofs.Packet.Bytes.{read_fits}
-use Rattle.packets.specs.Header.{no_vote}
 use Rattle.index.proofs.Firsts.{linked-within, first_found}
 use Rattle.admission.proofs.FirstBad.{vote-told, vote-found}
 use Rattle.admission.proofs.Links.{link-told}
@@ -34,28 +31,29 @@ block_of-block-requires c =
     (c.requires.0, omega (arith, c.requires.2, linked-within _ c.known_block-link.ensures))
 
 pub returns-then-not-vote_allowed : goal.returns-then-not-vote_allowed
-returns-then-not-vote_allowed c =
-    (sym c.if-not-vote_allowed.true ∙ (let a = c.args in
-    let l : length (packet_of a.bytes.now).blocks ≤ a.known = omega (arith, c.requires.2) in
-    let p = packet_of a.bytes.now in
-    let E = entries (rows_of make_block a.blocks.now a.used) in
-    vote-told _ _ _ _ (link-told _ _ _ a.known (omega (arith, c.requires.2)) _ refl c.known_block-link.ensures c.block_of-block.ensures) c.vote_allowed.ensures
-    ∙ ap (λ (bs : List Block). vote_allowed a.nodes a.slot (add_blocks E bs) (vote_of c.vote_at-vote.result)) (take_all a.known p.blocks l)
-    ∙ ap (vote_allowed a.nodes a.slot (add_blocks E p.blocks)) c.vote_at-vote.ensures), λ e. absurd (false≢true e))
+returns-then-not-vote_allowed c = (
+  sym c.if-not-vote_allowed.true ∙ (let a = c.args in
+      let l : length (packet_of a.bytes.now).blocks ≤ a.known = omega (arith, c.requires.2) in
+      let p = packet_of a.bytes.now in
+      let E = entries (rows_of make_block a.blocks.now a.used) in
+      vote-told _ _ _ _ (link-told _ _ _ a.known (omega (arith, c.requires.2)) _ refl c.known_block-link.ensures c.block_of-block.ensures) c.vote_allowed.ensures
+      ∙ ap (λ (bs : List Block). vote_allowed a.nodes a.slot (add_blocks E bs) (vote_of c.vote_at-vote.result)) (take_all a.known p.blocks l)
+      ∙ ap (vote_allowed a.nodes a.slot (add_blocks E p.blocks)) c.vote_at-vote.ensures),
+  λ e. absurd (false≢true e),
+)
 
 pub note_first-requires : goal.note_first-requires
 note_first-requires c =
     omega (arith, first_found _ c.known_block-link.ensures ((vote-found _ _ _ _ _ c.block_of-block.ensures (sym c.vote_allowed.ensures ∙ c.if-not-vote_allowed.false))), c.requires.5)
 
 pub returns : goal.returns
-returns c =
-    (
-      sym c.if-not-vote_allowed.false ∙ (let a = c.args in
-    let l : length (packet_of a.bytes.now).blocks ≤ a.known = omega (arith, c.requires.2) in
-    let p = packet_of a.bytes.now in
-    let E = entries (rows_of make_block a.blocks.now a.used) in
-    vote-told _ _ _ _ (link-told _ _ _ a.known (omega (arith, c.requires.2)) _ refl c.known_block-link.ensures c.block_of-block.ensures) c.vote_allowed.ensures
-    ∙ ap (λ (bs : List Block). vote_allowed a.nodes a.slot (add_blocks E bs) (vote_of c.vote_at-vote.result)) (take_all a.known p.blocks l)
-    ∙ ap (vote_allowed a.nodes a.slot (add_blocks E p.blocks)) c.vote_at-vote.ensures),
-      λ z. voted-next _ _ _ c.requires.1 c.args.i _ c.args.known _ _ _ c.requires.3 c.vote_at-vote.ensures c.requires.2 c.known_block-link.ensures ((vote-found _ _ _ _ _ c.block_of-block.ensures (sym c.vote_allowed.ensures ∙ c.if-not-vote_allowed.false))) c.requires.5 c.note_first.ensures c.requires.6,
-    )
+returns c = (
+  sym c.if-not-vote_allowed.false ∙ (let a = c.args in
+      let l : length (packet_of a.bytes.now).blocks ≤ a.known = omega (arith, c.requires.2) in
+      let p = packet_of a.bytes.now in
+      let E = entries (rows_of make_block a.blocks.now a.used) in
+      vote-told _ _ _ _ (link-told _ _ _ a.known (omega (arith, c.requires.2)) _ refl c.known_block-link.ensures c.block_of-block.ensures) c.vote_allowed.ensures
+      ∙ ap (λ (bs : List Block). vote_allowed a.nodes a.slot (add_blocks E bs) (vote_of c.vote_at-vote.result)) (take_all a.known p.blocks l)
+      ∙ ap (vote_allowed a.nodes a.slot (add_blocks E p.blocks)) c.vote_at-vote.ensures),
+  λ z. voted-next _ _ _ c.requires.1 c.args.i _ c.args.known _ _ _ c.requires.3 c.vote_at-vote.ensures c.requires.2 c.known_block-link.ensures ((vote-found _ _ _ _ _ c.block_of-block.ensures (sym c.vote_allowed.ensures ∙ c.if-not-vote_allowed.false))) c.requires.5 c.note_first.ensures c.requires.6,
+)

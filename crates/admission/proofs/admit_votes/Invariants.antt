@@ -1,20 +1,13 @@
 -- The loop of `admit_votes`: its invariant and its measure. Assumes nothing.
-use borrow.Author.Rules.{rules}
-use borrow.Author.Tests.{not-true, not-false}
-use native.Mathlib.Omega.{arith}
-use Prim.Native.Nat.{◌+◌, ◌-◌, ◌≤◌, ◌<◌}
-use mathlib.Core.Bool.{true}
-use mathlib.Core.Path.{◌≡◌, refl, sym, ◌∙◌}
+use Prim.Native.Nat.{◌+◌, ◌-◌, ◌≤◌}
+use mathlib.Core.Path.{◌≡◌}
 use lib.ListN.{length, drop}
 use Rattle.protocol.specs.Store.{entries}
 use Rattle.protocol.specs.Packet.{packet_of}
 use Rattle.protocol.specs.Lent.{rows_of, make_block}
 use Rattle.protocol.specs.Calls.Receive.{add_blocks, first_bad_vote}
-use Rattle.packets.proofs.Headers.{header-blocks, header-votes}
 use Rattle.index.specs.Links.{BlocksIndexed}
 use Rattle.admission.specs.Seen.{VotedSeen}
-use Rattle.admission.proofs.FirstBad.{vote-good, vote-bad, vote-end}
-use Rattle.admission.proofs.Seen.{voted-begin}
 use Rattle.admission.proofs.admit_votes.Given as goal
 
 abbrev pub invariant-loop-i : goal.invariant-loop-i

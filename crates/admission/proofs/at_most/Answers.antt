@@ -1,5 +1,4 @@
 -- `at_most` meets its contract. Assumes nothing.
-use borrow.Author.Rules.{rules}
 use Rattle.protocol.specs.Chain.{found_with}
 use Rattle.admission.proofs.at_most.Goals as goal
 

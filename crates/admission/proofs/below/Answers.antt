@@ -1,5 +1,4 @@
 -- `below` meets its contract. Assumes nothing.
-use borrow.Author.Rules.{rules}
 use Rattle.protocol.specs.Chain.{found_with}
 use Rattle.admission.proofs.below.Goals as goal
 

@@ -1,6 +1,4 @@
 -- `block_allowed` meets its contract. Assumes nothing.
-use borrow.Author.Rules.{rules}
-use borrow.Author.Tests.{not-true, not-false}
 use Rattle.admission.specs.Lookup.{block_passes}
 use Rattle.admission.proofs.block_allowed.Goals as goal
 

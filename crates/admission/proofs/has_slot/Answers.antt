@@ -1,5 +1,4 @@
 -- `has_slot` meets its contract. Assumes nothing.
-use borrow.Author.Rules.{rules}
 use mathlib.Core.Path.{sym, ◌∙◌}
 use Rattle.admission.proofs.has_slot.Goals as goal
 

@@ -1,16 +1,11 @@
 -- `header_allowed` meets its contract. Assumes nothing.
-use borrow.Author.Rules.{rules}
 use native.Mathlib.Omega.{arith}
-use Prim.Native.Nat.{ℕ, ◌-◌, ◌≤◌}
-use mathlib.Core.Bool.{Bool, true, ◌&&◌}
+use Prim.Native.Nat.{ℕ, ◌≤◌}
+use mathlib.Core.Bool.{true}
 use mathlib.Core.List.{List}
 use mathlib.Core.Path.{◌≡◌, sym, ◌∙◌}
-use borrow.Author.Tests.{not-true, not-false}
-use lib.Dec.{eqb}
-use lib.ListN.{length, take, drop}
+use lib.ListN.{length, take}
 use lib.Seq.{take_all}
-use Rattle.protocol.specs.Entry.{Block}
-use Rattle.protocol.specs.Words.{value}
 use Rattle.protocol.specs.Lists.{any_pass}
 use Rattle.protocol.specs.Chain.{genesis}
 use Rattle.protocol.specs.Packet.{packet_of, is_proposal}

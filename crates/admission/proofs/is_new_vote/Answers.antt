@@ -1,18 +1,13 @@
 -- `is_new_vote` meets its contract. Assumes nothing.
-use borrow.Author.Rules.{rules}
 use borrow.Author.Tests.{eq-eqb, ne_eqb}
 use native.Mathlib.Omega.{arith}
-use Prim.Native.Nat.{ℕ, ◌+◌, ◌<◌}
+use Prim.Native.Nat.{ℕ}
 use mathlib.Core.Bool.{Bool, true, ◌&&◌, and-true, and-false}
 use mathlib.Core.Path.{◌≡◌, ap, sym, ◌∙◌}
-use lib.Dec.{eqb, leb}
+use lib.Dec.{leb}
 use Rattle.protocol.specs.Entry.{Vote}
 use Rattle.protocol.specs.Store.{since}
-use Rattle.protocol.proofs.Packet.Numbers.{bytes-by-index}
-use Rattle.protocol.proofs.Packet.Bytes.{read_fits}
-use Rattle.index.specs.Firsts.{vote_new}
 use Rattle.index.proofs.Firsts.{first-most}
-use Rattle.admission.specs.Seen.{VotesSeen}
 use Rattle.admission.proofs.Links.{vote-new}
 use Rattle.admission.proofs.Seen.{votes-next}
 use Rattle.admission.proofs.is_new_vote.Goals as goal

@@ -1,5 +1,4 @@
 -- `known_as` meets its contract. Assumes nothing.
-use borrow.Author.Rules.{rules}
 use Rattle.protocol.specs.Calls.Receive.{known_as}
 use Rattle.admission.proofs.known_as.Goals as goal
 

@@ -1,36 +1,30 @@
 -- `new_votes` meets its contract. Assumes nothing.
-use borrow.Author.Rules.{rules}
 use native.Mathlib.Omega.{arith}
-use Prim.Native.Nat.{◌+◌, ◌-◌, ◌≤◌, ◌<◌}
+use Prim.Native.Nat.{◌≤◌, ◌<◌}
 use mathlib.Core.Path.{◌≡◌, refl, ◌∙◌}
 use lib.ListN.{length, get_or, take}
-use Rattle.protocol.specs.Store.{entries}
 use Rattle.protocol.specs.Packet.{packet_of}
-use Rattle.protocol.specs.Lent.{rows_of, make_vote}
-use Rattle.protocol.specs.Calls.Receive.{add_since}
+use Rattle.protocol.specs.Lent.{make_vote}
 use Rattle.protocol.proofs.Store.Views.{length-entries}
 use Rattle.protocol.proofs.Lent.Rows.{length-rows_of}
 use Rattle.protocol.proofs.Store.Since.{adding-since}
 use Rattle.packets.specs.Header.{no_vote}
 use Rattle.packets.proofs.Headers.{header-votes}
 use Rattle.index.proofs.Shapes.{links-within}
-use Rattle.index.specs.Links.{VotesIndexed}
-use Rattle.admission.specs.Seen.{VotesSeen}
 use Rattle.admission.proofs.Counts.{flag_one, since-new, count-begin, count_turn, count-end}
 use Rattle.admission.proofs.new_votes.Goals as goal
 
 pub loop-i-init : goal.loop-i-init
-loop-i-init c =
-    (
-      header-votes _ c.header_of-h.ensures,
-      omega arith,
-      omega arith,
-      refl,
-      refl,
-      count-begin _ _ (adding-since c.args.from) _ (packet_of c.args.bytes.now).votes _ (length-entries _ ∙ length-rows_of make_vote _ _),
-      c.requires.3,
-      c.requires.5,
-    )
+loop-i-init c = (
+  header-votes _ c.header_of-h.ensures,
+  omega arith,
+  omega arith,
+  refl,
+  refl,
+  count-begin _ _ (adding-since c.args.from) _ (packet_of c.args.bytes.now).votes _ (length-entries _ ∙ length-rows_of make_vote _ _),
+  c.requires.3,
+  c.requires.5,
+)
 
 pub is_new_vote-requires : goal.is_new_vote-requires
 is_new_vote-requires c =

@@ -1,22 +1,13 @@
 -- The loop of `new_votes`: its invariant and its measure. Assumes nothing.
-use borrow.Author.Rules.{rules}
-use native.Mathlib.Omega.{arith}
-use Prim.Native.Nat.{◌+◌, ◌-◌, ◌≤◌, ◌<◌}
-use mathlib.Core.Path.{◌≡◌, refl, ◌∙◌}
-use lib.ListN.{length, get_or, take}
+use Prim.Native.Nat.{◌+◌, ◌-◌, ◌≤◌}
+use mathlib.Core.Path.{◌≡◌}
+use lib.ListN.{length, take}
 use Rattle.protocol.specs.Store.{entries}
 use Rattle.protocol.specs.Packet.{packet_of}
 use Rattle.protocol.specs.Lent.{rows_of, make_vote}
 use Rattle.protocol.specs.Calls.Receive.{add_since}
-use Rattle.protocol.proofs.Store.Views.{length-entries}
-use Rattle.protocol.proofs.Lent.Rows.{length-rows_of}
-use Rattle.protocol.proofs.Store.Since.{adding-since}
-use Rattle.packets.specs.Header.{no_vote}
-use Rattle.packets.proofs.Headers.{header-votes}
-use Rattle.index.proofs.Shapes.{links-within}
 use Rattle.index.specs.Links.{VotesIndexed}
 use Rattle.admission.specs.Seen.{VotesSeen}
-use Rattle.admission.proofs.Counts.{flag_one, since-new, count-begin, count_turn, count-end}
 use Rattle.admission.proofs.new_votes.Given as goal
 
 abbrev pub invariant-loop-i : goal.invariant-loop-i

@@ -1,5 +1,4 @@
 -- `same_block_lem` meets its contract. Assumes nothing.
-use borrow.Author.Rules.{rules}
 use mathlib.Core.Path.{sym, ◌∙◌}
 use Rattle.protocol.specs.Store.{same_block}
 use Rattle.admission.proofs.same_block.Goals as goal

@@ -1,6 +1,5 @@
 -- `vote_allowed` meets its contract. Assumes nothing.
-use borrow.Author.Rules.{rules}
-use borrow.Author.Tests.{le-ltb, lt-ltb, not-true, not-false}
+use borrow.Author.Tests.{le-ltb, lt-ltb}
 use Rattle.admission.specs.Lookup.{vote_passes}
 use Rattle.admission.proofs.vote_allowed.Goals as goal
 

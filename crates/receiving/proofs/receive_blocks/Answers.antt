@@ -1,5 +1,4 @@
 -- `receive_blocks` meets its contract. Assumes nothing.
-use borrow.Author.Rules.{rules}
 use native.Mathlib.Omega.{arith}
 use Rattle.protocol.specs.Packet.{packet_of}
 use Rattle.protocol.specs.Lent.{rows_of, make_block}

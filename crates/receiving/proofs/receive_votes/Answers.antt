@@ -1,5 +1,4 @@
 -- `receive_votes` meets its contract. Assumes nothing.
-use borrow.Author.Rules.{rules}
 use native.Mathlib.Omega.{arith}
 use Rattle.protocol.specs.Lists.{any_pass}
 use Rattle.protocol.specs.Store.{same_vote}

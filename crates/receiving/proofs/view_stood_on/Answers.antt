@@ -1,12 +1,8 @@
 -- `view_stood_on` meets its contract. Assumes nothing.
-use borrow.Author.Rules.{rules}
 use native.Mathlib.Omega.{arith}
 use Prim.Native.Nat.{ℕ}
-use mathlib.Core.Path.{◌≡◌}
 use lib.ListN.{length-replicate}
-use Rattle.protocol.specs.Store.{view}
 use Rattle.protocol.specs.Packet.{packet_of}
-use Rattle.protocol.specs.Lent.{rows_of, stored, make_block, block_row}
 use Rattle.index.specs.Firsts.{named}
 use Rattle.search_tree.proofs.Tree.{blank-new}
 use Rattle.receiving.proofs.Carrying.{ordered-named, marks-named, stood-viewed}
@@ -18,13 +14,12 @@ build_blocks-requires c =
     (omega (arith, c.view_named_blocks.auto.blocks, c.requires.0), (omega (arith, c.requires.5), omega (arith, l)), blank-new 12288)
 
 pub view_ancestors-requires : goal.view_ancestors-requires
-view_ancestors-requires c =
-    (
-      omega (arith, c.view_named_blocks.auto.blocks, c.requires.0),
-      marks-named _ _ _ c.requires.2 ((c.view_named_blocks.ensures (named (packet_of c.args.bytes.now)) c.requires.6)),
-      ordered-named _ _ _ c.requires.2 ((c.view_named_blocks.ensures (named (packet_of c.args.bytes.now)) c.requires.6)),
-      c.build_blocks.ensures.1,
-    )
+view_ancestors-requires c = (
+  omega (arith, c.view_named_blocks.auto.blocks, c.requires.0),
+  marks-named _ _ _ c.requires.2 ((c.view_named_blocks.ensures (named (packet_of c.args.bytes.now)) c.requires.6)),
+  ordered-named _ _ _ c.requires.2 ((c.view_named_blocks.ensures (named (packet_of c.args.bytes.now)) c.requires.6)),
+  c.build_blocks.ensures.1,
+)
 
 pub returns : goal.returns
 returns c =

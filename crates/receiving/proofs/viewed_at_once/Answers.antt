@@ -1,9 +1,8 @@
 -- `viewed_at_once` meets its contract. Assumes nothing.
-use borrow.Author.Rules.{rules}
 use Prim.Native.Nat.{◌*◌}
 use mathlib.Core.Path.{◌≡◌, sym, ◌∙◌}
 use native.Mathlib.Omega.{arith}
-use borrow.Author.Tests.{eq-eqb, ne_eqb, not-true, not-false}
+use borrow.Author.Tests.{eq-eqb, ne_eqb}
 use Rattle.protocol.specs.Calls.Receive.{viewed_at_once}
 use Rattle.packets.proofs.Headers.{header-kind, header-slot}
 use Rattle.receiving.proofs.viewed_at_once.Goals as goal

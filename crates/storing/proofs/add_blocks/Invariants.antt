@@ -1,25 +1,16 @@
 -- The loop of `add_blocks`: its invariant and its measure. Assumes nothing.
-use borrow.Author.Rules.{rules}
-use borrow.Author.Tests.{not-true, not-false}
-use native.Mathlib.Omega.{arith}
-use Prim.Native.Nat.{◌-◌, ◌≤◌, ◌<◌}
-use mathlib.Core.Bool.{not}
-use mathlib.Core.Logic.{⊎_elim}
-use mathlib.Core.Path.{◌≡◌, refl, ap, sym, ◌∙◌}
-use lib.ListN.{length, get_or, take}
+use Prim.Native.Nat.{◌-◌, ◌≤◌}
+use mathlib.Core.Path.{◌≡◌}
+use lib.ListN.{length}
 use Rattle.protocol.specs.Entry.{Block}
-use Rattle.protocol.specs.Chain.{genesis}
-use Rattle.protocol.specs.Store.{Marked, entries}
+use Rattle.protocol.specs.Store.{Marked}
 use Rattle.protocol.specs.Packet.{packet_of}
-use Rattle.protocol.specs.Lent.{rows_of, make_block, block_row}
+use Rattle.protocol.specs.Lent.{block_row}
 use Rattle.protocol.specs.Calls.Receive.{add_blocks}
 use Rattle.protocol.proofs.Lent.Rows.{block-codec}
 use Rattle.protocol.proofs.Store.New.{knows_block, adding-blocks}
-use Rattle.protocol.proofs.Packet.Numbers.{bytes-by-index}
-use Rattle.packets.proofs.Form.{counts-below}
-use Rattle.packets.proofs.Headers.{header-blocks}
 use Rattle.storing.specs.Grown.{Holds}
-use Rattle.storing.proofs.Turns.{after, room-now, add_begin, add-marks, add-end, turn-old, turn-room, turn-new}
+use Rattle.storing.proofs.Turns.{after}
 use Rattle.storing.proofs.add_blocks.Given as goal
 
 abbrev pub invariant-loop-i : goal.invariant-loop-i

@@ -15,7 +15,7 @@ use Rattle.protocol.specs.Entry.{Block}
 use Rattle.protocol.specs.Lists.{all_pass, passing}
 use Rattle.protocol.specs.Limits.{limits_of, keeping_to}
 use Rattle.protocol.specs.Store.{entries, kept_from, Places, Node}
-use Rattle.protocol.specs.Sound.{settings_sound, places_sound, sound}
+use Rattle.protocol.specs.Sound.{settings_sound, places_sound}
 use Rattle.protocol.specs.Packet.{Packet, packet_of}
 use Rattle.protocol.specs.Refusal.{Refusal, refusal_number, test, Verdict, pass, refuse, first, refused, done, unless, answer_unless}
 use Rattle.protocol.specs.Calls.Receive.{blocks_after, votes_after, viewed_at_once, receive_tests, receive_answer, receive_into, receive}

@@ -1,5 +1,4 @@
 -- `has` meets its contract. Assumes nothing.
-use borrow.Author.Rules.{rules}
 use native.Mathlib.Omega.{arith}
 use Rattle.bitset.specs.Bitset.{in_set}
 use Rattle.bitset.proofs.has.Goals as goal

@@ -1,5 +1,4 @@
 -- `insert` meets its contract. Assumes nothing.
-use borrow.Author.Rules.{rules}
 use native.Mathlib.Omega.{arith}
 use Rattle.bitset.specs.Bitset.{inserted}
 use Rattle.bitset.proofs.insert.Goals as goal

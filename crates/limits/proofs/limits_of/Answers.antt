@@ -1,5 +1,4 @@
 -- `limits_of` meets its contract. Assumes nothing.
-use borrow.Author.Rules.{rules}
 use mathlib.Core.Path.{refl}
 use Rattle.protocol.specs.Limits.{limits_of}
 use Rattle.limits.proofs.limits_of.Goals as goal

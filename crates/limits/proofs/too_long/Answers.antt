@@ -1,5 +1,4 @@
 -- `too_long_lem` meets its contract. Assumes nothing.
-use borrow.Author.Rules.{rules}
 use mathlib.Core.Path.{refl}
 use Rattle.protocol.specs.Limits.{limits_of}
 use Rattle.limits.proofs.too_long.Goals as goal

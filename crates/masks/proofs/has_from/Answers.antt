@@ -1,5 +1,4 @@
 -- `has_from` meets its contract. Assumes nothing.
-use borrow.Author.Rules.{rules}
 use Rattle.masks.proofs.Masks.{from-word, from-none}
 use Rattle.masks.proofs.has_from.Goals as goal
 

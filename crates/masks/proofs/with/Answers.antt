@@ -1,5 +1,4 @@
 -- `with` meets its contract. Assumes nothing.
-use borrow.Author.Rules.{rules}
 use mathlib.Core.Path.{ap₂, sym, ◌∙◌}
 use lib.Bits.{bit_or}
 use Rattle.protocol.specs.Words.{bit_of}

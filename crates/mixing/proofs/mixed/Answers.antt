@@ -1,5 +1,4 @@
 -- `mixed` meets its contract. Assumes nothing.
-use Rattle.std.proofs.Common.{rules}
 use Rattle.mixing.specs.Mixing.{mix, seeded}
 use Rattle.mixing.proofs.mixed.Goals as goal
 

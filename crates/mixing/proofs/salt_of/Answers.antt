@@ -1,5 +1,4 @@
 -- `salt_of` meets its contract. Assumes nothing.
-use Rattle.std.proofs.Common.{◌-◌, ◌*◌, ◌≤◌, length, arith, rules}
 use Rattle.mixing.proofs.salt_of.Goals as goal
 
 pub loop-i-preserved : goal.loop-i-preserved

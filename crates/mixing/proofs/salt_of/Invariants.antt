@@ -1,5 +1,5 @@
 -- The loop of `salt_of`: its invariant and its measure. Assumes nothing.
-use Rattle.std.proofs.Common.{◌-◌, ◌*◌, ◌≤◌, length, arith, rules}
+use Rattle.std.proofs.Common.{◌-◌, ◌*◌, ◌≤◌, length}
 use Rattle.mixing.proofs.salt_of.Given as goal
 
 abbrev pub invariant-loop-i : goal.invariant-loop-i

@@ -1,5 +1,4 @@
 -- `stirred` meets its contract. Assumes nothing.
-use Rattle.std.proofs.Common.{rules}
 use Rattle.mixing.specs.Mixing.{stir}
 use Rattle.mixing.proofs.stirred.Goals as goal
 

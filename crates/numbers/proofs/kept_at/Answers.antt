@@ -1,5 +1,4 @@
 -- `kept_at` meets its contract. Assumes nothing.
-use borrow.Author.Rules.{rules}
 use mathlib.Core.Path.{refl}
 use Rattle.numbers.specs.NumberWords.{number_in}
 use Rattle.numbers.proofs.kept_at.Goals as goal

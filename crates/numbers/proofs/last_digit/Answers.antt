@@ -1,5 +1,4 @@
 -- `last_digit` meets its contract. Assumes nothing.
-use borrow.Author.Rules.{rules}
 use native.Mathlib.Omega.{arith}
 use Rattle.numbers.proofs.Tenths.{half, high_fits, divided}
 use Rattle.numbers.proofs.last_digit.Goals as goal

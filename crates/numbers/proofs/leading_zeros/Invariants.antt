@@ -1,6 +1,4 @@
 -- The loop of `leading_zeros`: its invariant and its measure. Assumes nothing.
-use borrow.Author.Rules.{rules}
-use native.Mathlib.Omega.{arith}
 use Prim.Native.Nat.{◌-◌, ◌≤◌}
 use Rattle.numbers.proofs.leading_zeros.Given as goal
 

@@ -1,9 +1,7 @@
 -- `put_digits` meets its contract: it writes within the digits. Assumes nothing.
 use borrow.Author.Rules.{rules}
 use native.Mathlib.Omega.{arith}
-use Prim.Native.Nat.{◌≤◌}
-use mathlib.Core.Path.{◌≡◌}
-use lib.ListN.{length, length-set}
+use lib.ListN.{length-set}
 use Rattle.numbers.proofs.put_digits.Goals as goal
 
 pub loop-i-init : goal.loop-i-init

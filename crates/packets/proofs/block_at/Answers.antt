@@ -1,7 +1,6 @@
 -- `packets::block_at` meets its contract. Assumes nothing.
 use mathlib.Core.Path.{◌≡◌, ap, ◌∙◌}
 use native.Mathlib.Omega.{arith}
-use borrow.Author.Rules.{rules}
 use Rattle.protocol.specs.Chain.{genesis}
 use Rattle.protocol.specs.Packet.{after_blocks, width_of, width_in}
 use Rattle.protocol.proofs.Packet.Numbers.{bytes-by-index}

@@ -1,10 +1,7 @@
 -- The loop of `bytewise_at`: its invariant and its measure. Assumes nothing.
-use Prim.Native.Nat.{◌+◌, ◌*◌, ◌-◌, ◌^◌, ◌≤◌, ◌<◌}
-use mathlib.Core.Path.{◌≡◌, sym}
-use native.Mathlib.Omega.{arith}
-use borrow.Author.Rules.{rules}
+use Prim.Native.Nat.{◌+◌, ◌-◌, ◌^◌, ◌≤◌, ◌<◌}
+use mathlib.Core.Path.{◌≡◌}
 use Rattle.protocol.specs.Packet.{number_at}
-use Rattle.packets.proofs.Fields.{field-none, field_step, field-step-below, fits_word}
 use Rattle.packets.proofs.bytewise_at.Given as goal
 
 abbrev pub invariant-loop-i : goal.invariant-loop-i

@@ -1,6 +1,5 @@
 -- `packets::half_at` meets its contract. Assumes nothing.
 use mathlib.Core.Path.{sym}
-use borrow.Author.Rules.{rules}
 use Rattle.packets.proofs.Fields.{field-none}
 use Rattle.packets.proofs.half_at.Goals as goal
 

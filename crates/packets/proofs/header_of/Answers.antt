@@ -1,6 +1,5 @@
 -- `packets::header_of` meets its contract. Assumes nothing.
 use native.Mathlib.Omega.{arith}
-use borrow.Author.Rules.{rules}
 use Rattle.protocol.proofs.Packet.Numbers.{bytes-by-index}
 use Rattle.packets.proofs.Reading.{header_made}
 use Rattle.packets.proofs.header_of.Goals as goal

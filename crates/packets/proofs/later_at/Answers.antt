@@ -1,6 +1,5 @@
 -- `packets::later_at` meets its contract. Assumes nothing.
 use mathlib.Core.Path.{◌∙◌}
-use borrow.Author.Rules.{rules}
 use Rattle.packets.proofs.Reading.{field-after}
 use Rattle.packets.proofs.later_at.Goals as goal
 

@@ -1,7 +1,6 @@
 -- `packets::one_at` meets its contract. Assumes nothing.
 use mathlib.Core.Path.{sym}
 use native.Mathlib.Omega.{arith}
-use borrow.Author.Rules.{rules}
 use Rattle.packets.proofs.Fields.{field-one}
 use Rattle.packets.proofs.one_at.Goals as goal
 

@@ -1,12 +1,6 @@
 -- `packets::well_formed` meets its contract: the length decides, and then the header. Assumes nothing.
-use mathlib.Core.Path.{◌≡◌, sym, ◌∙◌}
-use mathlib.Core.Bool.{true, false, ◌||◌}
+use mathlib.Core.Path.{sym, ◌∙◌}
 use native.Mathlib.Omega.{arith}
-use borrow.Author.Rules.{rules}
-use borrow.Author.Tests.{not-true, not-false}
-use lib.Dec.{eqb}
-use Rattle.protocol.specs.Words.{value}
-use Rattle.protocol.specs.Packet.{is_proposal, header_formed, well_formed}
 use Rattle.protocol.proofs.Packet.Numbers.{bytes-by-index}
 use Rattle.packets.proofs.Form.{counts-below, formed-not, formed-header, headed-proposal, headed-wrong, headed-slot, headed-gossip}
 use Rattle.packets.proofs.well_formed.Goals as goal

@@ -1,6 +1,5 @@
 -- `packets::whole_block` meets its contract. Assumes nothing.
 use native.Mathlib.Omega.{arith}
-use borrow.Author.Rules.{rules}
 use Rattle.packets.proofs.Entries.{block_here}
 use Rattle.packets.proofs.whole_block.Goals as goal
 

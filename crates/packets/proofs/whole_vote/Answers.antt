@@ -1,5 +1,4 @@
 -- `packets::whole_vote` meets its contract. Assumes nothing.
-use borrow.Author.Rules.{rules}
 use Rattle.packets.proofs.Entries.{vote-here}
 use Rattle.packets.proofs.whole_vote.Goals as goal
 

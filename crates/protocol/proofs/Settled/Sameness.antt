@@ -1,7 +1,7 @@
 -- The walk with a margin has one result, which depends on the members and their weights only; so does the settled block. And the weights without the silent
 -- voters as counts of voters' sets. Assumes nothing.
 use Prim.Native.Nat.{ℕ, suc, ◌+◌, ◌<◌}
-use mathlib.Core.Path.{◌≡◌, refl, sym, ap, ◌∙◌}
+use mathlib.Core.Path.{◌≡◌, sym, ap, ◌∙◌}
 use mathlib.Core.Bool.{Bool, true, false, not, ◌&&◌, cond, and-true, and-false}
 use mathlib.Core.List.{List}
 use native.Mathlib.Nat.{le_antisymm}
@@ -21,7 +21,7 @@ use Rattle.protocol.proofs.Filters.Relations.{SameFor}
 use Rattle.protocol.proofs.Walk.Best.{best-one}
 use Rattle.protocol.proofs.Walk.Relations.{IsBest}
 use Rattle.protocol.proofs.Walk.Sameness.{weight-same}
-use Rattle.protocol.proofs.Settled.Relations.{Leads, Safe, Rival, Margin, leaf, halt, onward}
+use Rattle.protocol.proofs.Settled.Relations.{Safe, Rival, Margin, leaf, halt, onward}
 use Rattle.protocol.proofs.Settled.Margin.{margin-is}
 use Rattle.protocol.proofs.Settled.Walk.{settled-walk}
 

@@ -11,7 +11,7 @@ use Rattle.protocol.specs.Entry.{Block, Vote}
 use Rattle.protocol.specs.Chain.{genesis}
 use Rattle.protocol.specs.Filters.{Choice, chosen, nothing, kept_choice}
 use Rattle.protocol.specs.Walk.{count_below, walk_in}
-use Rattle.protocol.specs.Settled.{filled, Filling, filled_head, settled_block, Certain}
+use Rattle.protocol.specs.Settled.{Filling, filled_head, settled_block, Certain}
 use Rattle.protocol.specs.SettledWalk.{heard_at, settled_walk}
 use Rattle.protocol.proofs.Chain.Above.{above-trans, above-split, above-compare, siblings-apart, above-true, above_holds}
 use Rattle.protocol.proofs.Chain.Relations.{In, Known, Sound, Above, here}

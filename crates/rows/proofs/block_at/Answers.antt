@@ -1,5 +1,4 @@
 -- `block_at` meets its contract. Assumes nothing.
-use borrow.Author.Rules.{rules}
 use mathlib.Core.Path.{sym}
 use Rattle.rows.proofs.Words.{block_words_lem}
 use Rattle.rows.proofs.block_at.Goals as goal

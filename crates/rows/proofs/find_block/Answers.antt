@@ -1,12 +1,5 @@
 -- `find_block` meets its contract. Assumes nothing.
-use borrow.Author.Rules.{rules}
-use native.Mathlib.Omega.{arith}
-use Prim.Native.Nat.{◌-◌}
-use mathlib.Core.Path.{◌≡◌, refl, sym, ◌∙◌}
-use lib.ListN.{drop}
-use Rattle.protocol.specs.Words.{value}
-use Rattle.protocol.specs.Lent.{rows_of, make_block}
-use Rattle.rows.specs.Find.{row_from}
+use mathlib.Core.Path.{refl, sym, ◌∙◌}
 use Rattle.rows.proofs.Find.{row-hit, row-miss, row-end}
 use Rattle.rows.proofs.find_block.Goals as goal
 

@@ -1,13 +1,10 @@
 -- The loop of `find_block`: its invariant and its measure. Assumes nothing.
-use borrow.Author.Rules.{rules}
-use native.Mathlib.Omega.{arith}
 use Prim.Native.Nat.{◌-◌}
-use mathlib.Core.Path.{◌≡◌, refl, sym, ◌∙◌}
+use mathlib.Core.Path.{◌≡◌}
 use lib.ListN.{drop}
 use Rattle.protocol.specs.Words.{value}
 use Rattle.protocol.specs.Lent.{rows_of, make_block}
 use Rattle.rows.specs.Find.{row_from}
-use Rattle.rows.proofs.Find.{row-hit, row-miss, row-end}
 use Rattle.rows.proofs.find_block.Given as goal
 
 abbrev pub invariant-loop-i : goal.invariant-loop-i

@@ -1,5 +1,4 @@
 -- `vote_at` meets its contract. Assumes nothing.
-use borrow.Author.Rules.{rules}
 use mathlib.Core.Path.{sym}
 use Rattle.rows.proofs.Words.{vote-words}
 use Rattle.rows.proofs.vote_at.Goals as goal

@@ -45,7 +45,7 @@ admit_block-checked-requires c =
 pub returns-then-not-checked : goal.returns-then-not-checked
 returns-then-not-checked c =
     let l = c.loop-i in (
-      sym (l.invariant.8 ∙ block-bad _ _ _ l.i ((omega (arith, c.loop-i.invariant.0, c.loop-i-test.true))) (sym c.admit_block-checked.ensures.0 ∙ not-true _ c.if-not-checked.true)),
+      sym (l.invariant.8 ∙ block-bad _ _ _ l.i (omega (arith, c.loop-i.invariant.0, c.loop-i-test.true)) (sym c.admit_block-checked.ensures.0 ∙ not-true _ c.if-not-checked.true)),
       λ h. absurd (omega (arith, h, l.invariant.0, c.loop-i-test.true)),
     )
 
@@ -63,10 +63,10 @@ loop-i-preserved c =
       omega (arith, f, l.invariant.2),
       c.admit_block-checked.auto.packet_links ∙ l.invariant.3,
       c.admit_block-checked.auto.firsts ∙ l.invariant.4,
-      count_turn knows_block add_blocks adding-blocks _ (packet_of c.args.bytes.now).blocks _ genesis _ l.i ((omega (arith, c.loop-i.invariant.0, c.loop-i-test.true))) l.invariant.5 c.admit_block-checked.ensures.1,
+      count_turn knows_block add_blocks adding-blocks _ (packet_of c.args.bytes.now).blocks _ genesis _ l.i (omega (arith, c.loop-i.invariant.0, c.loop-i-test.true)) l.invariant.5 c.admit_block-checked.ensures.1,
       c.admit_block-checked.ensures.2,
       c.admit_block-checked.ensures.3,
-      l.invariant.8 ∙ block-good _ _ _ l.i ((omega (arith, c.loop-i.invariant.0, c.loop-i-test.true))) (sym c.admit_block-checked.ensures.0 ∙ not-false _ c.if-not-checked.false),
+      l.invariant.8 ∙ block-good _ _ _ l.i (omega (arith, c.loop-i.invariant.0, c.loop-i-test.true)) (sym c.admit_block-checked.ensures.0 ∙ not-false _ c.if-not-checked.false),
     )
 
 pub returns : goal.returns

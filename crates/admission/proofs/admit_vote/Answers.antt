@@ -1,13 +1,12 @@
 -- `admit_vote` meets its contract. Assumes nothing.
 use native.Mathlib.Omega.{arith}
-use Prim.Native.Nat.{◌≤◌}
-use mathlib.Core.Bool.{false≢true}
-use mathlib.Core.Path.{refl, ap, sym, ◌∙◌}
+use Prim.Native.Nat.{ℕ, ◌≤◌}
+use mathlib.Core.Bool.{Bool, false≢true}
+use mathlib.Core.Path.{◌≡◌, refl, ap, sym, ◌∙◌}
 use mathlib.Core.List.{List}
-use lib.ListN.{length}
+use lib.ListN.{length, take}
 use lib.Seq.{take_all}
-use Rattle.protocol.specs.Words.{vote_of}
-use Rattle.protocol.specs.Entry.{Block}
+use Rattle.protocol.specs.Entry.{Block, Vote}
 use Rattle.protocol.specs.Store.{entries}
 use Rattle.protocol.specs.Packet.{packet_of}
 use Rattle.protocol.specs.Lent.{rows_of, make_block}
@@ -20,6 +19,12 @@ use Rattle.admission.proofs.Links.{link-told}
 use Rattle.admission.proofs.Seen.{voted-next}
 use Rattle.admission.proofs.admit_vote.Goals as goal
 
+-- the answer on a vote among the packet's first `known` blocks, where these are all
+among-all : (nodes slot : ℕ) (old bs : List Block) (known : ℕ) → length bs ≤ known → {t : Bool} {a b : Vote}
+    → t ≡ vote_allowed nodes slot (add_blocks old (take known bs)) a → a ≡ b → t ≡ vote_allowed nodes slot (add_blocks old bs) b
+among-all nodes slot old bs known l {t} {a} e v =
+    e ∙ ap (λ (xs : List Block). vote_allowed nodes slot (add_blocks old xs) a) (take_all known bs l) ∙ ap (vote_allowed nodes slot (add_blocks old bs)) v
+
 pub known_block-link-requires : goal.known_block-link-requires
 known_block-link-requires c =
     let bs = c.args.bytes.now in
@@ -31,29 +36,25 @@ block_of-block-requires c =
     (c.requires.0, omega (arith, c.requires.2, linked-within _ c.known_block-link.ensures))
 
 pub returns-then-not-vote_allowed : goal.returns-then-not-vote_allowed
-returns-then-not-vote_allowed c = (
-  sym c.if-not-vote_allowed.true ∙ (let a = c.args in
-      let l : length (packet_of a.bytes.now).blocks ≤ a.known = omega (arith, c.requires.2) in
-      let p = packet_of a.bytes.now in
-      let E = entries (rows_of make_block a.blocks.now a.used) in
-      vote-told _ _ _ _ (link-told _ _ _ a.known (omega (arith, c.requires.2)) _ refl c.known_block-link.ensures c.block_of-block.ensures) c.vote_allowed.ensures
-      ∙ ap (λ (bs : List Block). vote_allowed a.nodes a.slot (add_blocks E bs) (vote_of c.vote_at-vote.result)) (take_all a.known p.blocks l)
-      ∙ ap (vote_allowed a.nodes a.slot (add_blocks E p.blocks)) c.vote_at-vote.ensures),
-  λ e. absurd (false≢true e),
-)
+returns-then-not-vote_allowed c =
+    let a = c.args in
+    let p = packet_of a.bytes.now in
+    let t = vote-told _ _ _ _ (link-told _ _ _ a.known (omega (arith, c.requires.2)) _ refl c.known_block-link.ensures c.block_of-block.ensures) c.vote_allowed.ensures in (
+      sym c.if-not-vote_allowed.true ∙ among-all a.nodes a.slot (entries (rows_of make_block a.blocks.now a.used)) p.blocks a.known (omega (arith, c.requires.2)) t c.vote_at-vote.ensures,
+      λ e. absurd (false≢true e),
+    )
 
 pub note_first-requires : goal.note_first-requires
 note_first-requires c =
-    omega (arith, first_found _ c.known_block-link.ensures ((vote-found _ _ _ _ _ c.block_of-block.ensures (sym c.vote_allowed.ensures ∙ c.if-not-vote_allowed.false))), c.requires.5)
+    let found = vote-found _ _ _ _ _ c.block_of-block.ensures (sym c.vote_allowed.ensures ∙ c.if-not-vote_allowed.false) in
+    omega (arith, first_found _ c.known_block-link.ensures found, c.requires.5)
 
 pub returns : goal.returns
-returns c = (
-  sym c.if-not-vote_allowed.false ∙ (let a = c.args in
-      let l : length (packet_of a.bytes.now).blocks ≤ a.known = omega (arith, c.requires.2) in
-      let p = packet_of a.bytes.now in
-      let E = entries (rows_of make_block a.blocks.now a.used) in
-      vote-told _ _ _ _ (link-told _ _ _ a.known (omega (arith, c.requires.2)) _ refl c.known_block-link.ensures c.block_of-block.ensures) c.vote_allowed.ensures
-      ∙ ap (λ (bs : List Block). vote_allowed a.nodes a.slot (add_blocks E bs) (vote_of c.vote_at-vote.result)) (take_all a.known p.blocks l)
-      ∙ ap (vote_allowed a.nodes a.slot (add_blocks E p.blocks)) c.vote_at-vote.ensures),
-  λ z. voted-next _ _ _ c.requires.1 c.args.i _ c.args.known _ _ _ c.requires.3 c.vote_at-vote.ensures c.requires.2 c.known_block-link.ensures ((vote-found _ _ _ _ _ c.block_of-block.ensures (sym c.vote_allowed.ensures ∙ c.if-not-vote_allowed.false))) c.requires.5 c.note_first.ensures c.requires.6,
-)
+returns c =
+    let a = c.args in
+    let p = packet_of a.bytes.now in
+    let t = vote-told _ _ _ _ (link-told _ _ _ a.known (omega (arith, c.requires.2)) _ refl c.known_block-link.ensures c.block_of-block.ensures) c.vote_allowed.ensures in
+    let found = vote-found _ _ _ _ _ c.block_of-block.ensures (sym c.vote_allowed.ensures ∙ c.if-not-vote_allowed.false) in (
+      sym c.if-not-vote_allowed.false ∙ among-all a.nodes a.slot (entries (rows_of make_block a.blocks.now a.used)) p.blocks a.known (omega (arith, c.requires.2)) t c.vote_at-vote.ensures,
+      λ z. voted-next _ _ _ c.requires.1 a.i _ a.known _ _ _ c.requires.3 c.vote_at-vote.ensures c.requires.2 c.known_block-link.ensures found c.requires.5 c.note_first.ensures c.requires.6,
+    )

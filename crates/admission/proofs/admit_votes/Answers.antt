@@ -25,7 +25,7 @@ loop-i-init c =
 
 pub admit_vote-requires : goal.admit_vote-requires
 admit_vote-requires c =
-    (c.requires.0, c.requires.1, c.loop-i.invariant.0, (omega (arith, c.loop-i.invariant.1, c.loop-i-test.true)), c.loop-i.invariant.4, omega (arith, c.requires.3, c.loop-i.invariant.0, c.loop-i.invariant.3), c.loop-i.invariant.5)
+    (c.requires.0, c.requires.1, c.loop-i.invariant.0, omega (arith, c.loop-i.invariant.1, c.loop-i-test.true), c.loop-i.invariant.4, omega (arith, c.requires.3, c.loop-i.invariant.0, c.loop-i.invariant.3), c.loop-i.invariant.5)
 
 pub returns-then-not-admit_vote : goal.returns-then-not-admit_vote
 returns-then-not-admit_vote c =
@@ -44,7 +44,7 @@ loop-i-preserved c =
       c.admit_vote.auto.firsts ∙ l.invariant.3,
       l.invariant.4,
       c.admit_vote.ensures.1 e,
-      l.invariant.6 ∙ vote-good _ _ _ _ l.i ((omega (arith, c.loop-i.invariant.1, c.loop-i-test.true))) refl (sym c.admit_vote.ensures.0 ∙ e),
+      l.invariant.6 ∙ vote-good _ _ _ _ l.i (omega (arith, c.loop-i.invariant.1, c.loop-i-test.true)) refl (sym c.admit_vote.ensures.0 ∙ e),
     )
 
 pub returns : goal.returns

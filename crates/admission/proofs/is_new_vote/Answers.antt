@@ -26,8 +26,16 @@ note_first-requires c =
 
 pub returns-then-link-ne0 : goal.returns-then-link-ne0
 returns-then-link-ne0 c =
-    (sym (simp (sym ((vote-new _ _ _ c.args.i (omega (arith, c.requires.2)) _ c.join_vote-link.ensures.0)) ∙ ne_eqb c.join_vote-link.result 0 (λ z. omega (arith, z, c.if-link-ne0.true)), and-false)), c.join_vote-link.ensures.1, (votes-next _ _ _ c.requires.1 c.args.i _ _ _ c.requires.2 c.join_vote-link.ensures.0 c.requires.5 c.note_first.ensures c.requires.6))
+    let new = vote-new _ _ _ c.args.i (omega (arith, c.requires.2)) _ c.join_vote-link.ensures.0 in (
+      sym (simp (sym new ∙ ne_eqb c.join_vote-link.result 0 (λ z. omega (arith, z, c.if-link-ne0.true)), and-false)),
+      c.join_vote-link.ensures.1,
+      votes-next _ _ _ c.requires.1 c.args.i _ _ _ c.requires.2 c.join_vote-link.ensures.0 c.requires.5 c.note_first.ensures c.requires.6,
+    )
 
 pub returns : goal.returns
 returns c =
-    (slot-told c.args.from c.vote_at-vote.ensures (sym ((vote-new _ _ _ c.args.i (omega (arith, c.requires.2)) _ c.join_vote-link.ensures.0)) ∙ eq-eqb c.join_vote-link.result 0 (omega (arith, c.if-link-ne0.false))), c.join_vote-link.ensures.1, (votes-next _ _ _ c.requires.1 c.args.i _ _ _ c.requires.2 c.join_vote-link.ensures.0 c.requires.5 c.note_first.ensures c.requires.6))
+    let new = vote-new _ _ _ c.args.i (omega (arith, c.requires.2)) _ c.join_vote-link.ensures.0 in (
+      slot-told c.args.from c.vote_at-vote.ensures (sym new ∙ eq-eqb c.join_vote-link.result 0 (omega (arith, c.if-link-ne0.false))),
+      c.join_vote-link.ensures.1,
+      votes-next _ _ _ c.requires.1 c.args.i _ _ _ c.requires.2 c.join_vote-link.ensures.0 c.requires.5 c.note_first.ensures c.requires.6,
+    )

@@ -52,7 +52,7 @@ loop-i-preserved c =
       omega (arith, f, l.invariant.2),
       c.is_new_vote.auto.packet_links ∙ l.invariant.3,
       c.is_new_vote.auto.firsts ∙ l.invariant.4,
-      count_turn _ _ (adding-since c.args.from) _ (packet_of c.args.bytes.now).votes _ no_vote _ l.i ((omega (arith, c.loop-i.invariant.0, c.loop-i-test.true))) l.invariant.5
+      count_turn _ _ (adding-since c.args.from) _ (packet_of c.args.bytes.now).votes _ no_vote _ l.i (omega (arith, c.loop-i.invariant.0, c.loop-i-test.true)) l.invariant.5
           (c.is_new_vote.ensures.0 ∙ since-new c.args.from _ (take l.i (packet_of c.args.bytes.now).votes) (get_or (packet_of c.args.bytes.now).votes l.i no_vote)),
       c.is_new_vote.ensures.1,
       c.is_new_vote.ensures.2,

@@ -1,4 +1,4 @@
--- `same_block_lem` meets its contract. Assumes nothing.
+-- `same_block` meets its contract. Assumes nothing.
 use mathlib.Core.Path.{sym, ◌∙◌}
 use Rattle.protocol.specs.Store.{same_block}
 use Rattle.admission.proofs.same_block.Goals as goal

@@ -1,16 +1,11 @@
 -- The loop of `against_others`: its invariant and its measure. Assumes nothing.
-use borrow.Author.Rules.{rules}
-use native.Mathlib.Omega.{arith}
-use Prim.Native.Nat.{◌-◌, ◌≤◌, ◌<◌}
-use mathlib.Core.Path.{◌≡◌, refl, sym, ◌∙◌}
+use Prim.Native.Nat.{◌-◌, ◌≤◌}
+use mathlib.Core.Path.{◌≡◌}
 use lib.ListN.{length, drop}
 use Rattle.protocol.specs.Packet.{packet_of}
 use Rattle.protocol.specs.EquivocationPasses.{against_others}
-use Rattle.packets.proofs.Headers.{header-votes}
 use Rattle.index.specs.Links.{PacketSlotIndex}
-use Rattle.index.proofs.Firsts.{linked-within}
 use Rattle.equivocation.specs.First.{first_of}
-use Rattle.equivocation.proofs.Passes.{against-turn, against-end}
 use Rattle.equivocation.proofs.against_others.Given as goal
 
 abbrev pub invariant-loop-i : goal.invariant-loop-i

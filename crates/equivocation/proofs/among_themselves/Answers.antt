@@ -1,18 +1,13 @@
 -- `among_themselves` meets its contract. Assumes nothing.
-use borrow.Author.Rules.{rules}
 use native.Mathlib.Omega.{arith}
-use Prim.Native.Nat.{◌-◌, ◌≤◌, ◌<◌}
-use mathlib.Core.List.{[]}
+use Prim.Native.Nat.{◌≤◌, ◌<◌}
 use mathlib.Core.Path.{◌≡◌, refl, sym, ◌∙◌}
-use lib.ListN.{length, take, drop}
+use lib.ListN.{length}
 use Rattle.protocol.specs.Packet.{packet_of}
-use Rattle.protocol.specs.EquivocationPasses.{among_themselves}
 use Rattle.packets.proofs.Headers.{header-votes}
 use Rattle.search_tree.proofs.Tree.{index-free}
-use Rattle.index.specs.Links.{PacketSlotIndex}
 use Rattle.index.proofs.Firsts.{linked-within}
 use Rattle.index.proofs.Shapes.{links-within, first-links}
-use Rattle.equivocation.specs.First.{first_of}
 use Rattle.equivocation.proofs.Passes.{among-turn, among-end}
 use Rattle.equivocation.proofs.among_themselves.Goals as goal
 

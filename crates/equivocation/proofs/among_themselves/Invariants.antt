@@ -1,19 +1,12 @@
 -- The loop of `among_themselves`: its invariant and its measure. Assumes nothing.
-use borrow.Author.Rules.{rules}
-use native.Mathlib.Omega.{arith}
-use Prim.Native.Nat.{◌-◌, ◌≤◌, ◌<◌}
+use Prim.Native.Nat.{◌-◌, ◌≤◌}
 use mathlib.Core.List.{[]}
-use mathlib.Core.Path.{◌≡◌, refl, sym, ◌∙◌}
+use mathlib.Core.Path.{◌≡◌}
 use lib.ListN.{length, take, drop}
 use Rattle.protocol.specs.Packet.{packet_of}
 use Rattle.protocol.specs.EquivocationPasses.{among_themselves}
-use Rattle.packets.proofs.Headers.{header-votes}
-use Rattle.search_tree.proofs.Tree.{index-free}
 use Rattle.index.specs.Links.{PacketSlotIndex}
-use Rattle.index.proofs.Firsts.{linked-within}
-use Rattle.index.proofs.Shapes.{links-within, first-links}
 use Rattle.equivocation.specs.First.{first_of}
-use Rattle.equivocation.proofs.Passes.{among-turn, among-end}
 use Rattle.equivocation.proofs.among_themselves.Given as goal
 
 abbrev pub invariant-loop-i : goal.invariant-loop-i

@@ -1,5 +1,4 @@
 -- `meet` meets its contract. Assumes nothing.
-use borrow.Author.Rules.{rules}
 use mathlib.Core.Bool.{true, false}
 use mathlib.Core.Path.{◌≡◌, sym, ◌∙◌}
 use Rattle.protocol.specs.EquivocationPasses.{meet}

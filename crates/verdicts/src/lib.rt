@@ -3,7 +3,7 @@
 // The other tests look through one table at most.
 #![tactic(auto)]
 
-ghost use Rattle.std.specs.Prelude.{◌||◌, [], ◌∷◌, ◌≡◌, ◌/◌, ◌<◌, eqb, ltb, replicate};
+ghost use Rattle.std.specs.Prelude.{◌||◌, [], ◌∷◌, ◌≡◌, ◌/◌, ◌<◌, ◌≤◌, eqb, ltb, replicate};
 ghost use Rattle.protocol.specs.Limits.{loom};
 ghost use Rattle.protocol.specs.Words.{value};
 ghost use Rattle.protocol.specs.Store.{fresh_clock};

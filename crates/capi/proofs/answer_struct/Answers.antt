@@ -1,5 +1,4 @@
 -- `capi::answer_struct` meets its contract: the struct of every answer of a call that changes the memory. Assumes nothing.
-use borrow.Author.Rules.{rules}
 use Prim.Native.Nat.{ℕ}
 use mathlib.Core.Bool.{Bool, true, false, cond}
 use mathlib.Core.Path.{◌≡◌, refl, ap, sym, ◌∙◌}

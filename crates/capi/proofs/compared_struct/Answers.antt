@@ -1,5 +1,4 @@
 -- `capi::compared_struct` meets its contract: the struct of every answer of Compare. Assumes nothing.
-use borrow.Author.Rules.{rules}
 use mathlib.Core.Path.{ap, sym, ◌∙◌}
 use Rattle.capi.specs.Structs.{compared_struct}
 use Rattle.capi.proofs.compared_struct.Goals as goal

@@ -1,5 +1,4 @@
 -- `capi::fitted_struct` meets its contract: the struct of every answer of Fit. Assumes nothing.
-use borrow.Author.Rules.{rules}
 use Prim.Native.Nat.{ℕ}
 use mathlib.Core.Path.{ap, sym, ◌∙◌}
 use Rattle.verdicts.specs.Verdict.{refusal_index_of}

@@ -1,5 +1,4 @@
 -- `capi::found_struct` meets its contract: the struct of every answer of Head, Deep and Fast. Assumes nothing.
-use borrow.Author.Rules.{rules}
 use Prim.Native.Nat.{ℕ}
 use mathlib.Core.Path.{ap, sym, ◌∙◌}
 use Rattle.capi.specs.declared.Found.{Found}

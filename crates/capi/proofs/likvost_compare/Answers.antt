@@ -1,5 +1,4 @@
 -- `capi::likvost_compare` meets its contract: Compare. Assumes nothing.
-use borrow.Author.Rules.{rules}
 use Rattle.capi.proofs.Questions.{compares}
 use Rattle.capi.proofs.likvost_compare.Goals as goal
 

@@ -1,5 +1,4 @@
 -- `capi::likvost_deep` meets its contract: Deep. Assumes nothing.
-use borrow.Author.Rules.{rules}
 use Rattle.capi.proofs.Questions.{deep}
 use Rattle.capi.proofs.likvost_deep.Goals as goal
 

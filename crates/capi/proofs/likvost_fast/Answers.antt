@@ -1,5 +1,4 @@
 -- `capi::likvost_fast` meets its contract: Fast. Assumes nothing.
-use borrow.Author.Rules.{rules}
 use Rattle.capi.proofs.Questions.{fast}
 use Rattle.capi.proofs.likvost_fast.Goals as goal
 

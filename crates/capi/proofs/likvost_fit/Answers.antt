@@ -1,5 +1,4 @@
 -- `capi::likvost_fit` meets its contract: Fit. Assumes nothing.
-use borrow.Author.Rules.{rules}
 use Rattle.capi.proofs.Questions.{fit}
 use Rattle.capi.proofs.likvost_fit.Goals as goal
 

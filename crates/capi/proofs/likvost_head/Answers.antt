@@ -1,5 +1,4 @@
 -- `capi::likvost_head` meets its contract: Head. Assumes nothing.
-use borrow.Author.Rules.{rules}
 use Rattle.capi.proofs.Questions.{head}
 use Rattle.capi.proofs.likvost_head.Goals as goal
 

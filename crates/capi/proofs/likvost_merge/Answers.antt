@@ -1,5 +1,4 @@
 -- `capi::likvost_merge` meets its contract: Merge. Assumes nothing.
-use borrow.Author.Rules.{rules}
 use Rattle.capi.proofs.Changes.{merges}
 use Rattle.capi.proofs.likvost_merge.Goals as goal
 

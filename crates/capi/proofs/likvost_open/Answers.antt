@@ -1,5 +1,4 @@
 -- `capi::likvost_open` meets its contract: Open. Assumes nothing.
-use borrow.Author.Rules.{rules}
 use Rattle.capi.proofs.Changes.{opens}
 use Rattle.capi.proofs.likvost_open.Goals as goal
 

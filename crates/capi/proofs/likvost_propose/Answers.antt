@@ -1,5 +1,4 @@
 -- `capi::likvost_propose` meets its contract: Propose. Assumes nothing.
-use borrow.Author.Rules.{rules}
 use Rattle.capi.proofs.Changes.{proposes}
 use Rattle.capi.proofs.likvost_propose.Goals as goal
 

@@ -1,5 +1,4 @@
 -- `capi::likvost_receive` meets its contract: Receive. Assumes nothing.
-use borrow.Author.Rules.{rules}
 use Rattle.capi.proofs.Changes.{receives}
 use Rattle.capi.proofs.likvost_receive.Goals as goal
 

@@ -1,5 +1,4 @@
 -- `capi::likvost_settled` meets its contract: Settled. Assumes nothing.
-use borrow.Author.Rules.{rules}
 use Rattle.capi.proofs.Questions.{settled}
 use Rattle.capi.proofs.likvost_settled.Goals as goal
 

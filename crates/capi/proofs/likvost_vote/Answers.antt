@@ -1,5 +1,4 @@
 -- `capi::likvost_vote` meets its contract: Vote. Assumes nothing.
-use borrow.Author.Rules.{rules}
 use Rattle.capi.proofs.Changes.{votes}
 use Rattle.capi.proofs.likvost_vote.Goals as goal
 

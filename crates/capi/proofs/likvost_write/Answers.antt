@@ -1,5 +1,4 @@
 -- `capi::likvost_write` meets its contract: Write. Assumes nothing.
-use borrow.Author.Rules.{rules}
 use Rattle.capi.proofs.Questions.{writes}
 use Rattle.capi.proofs.likvost_write.Goals as goal
 

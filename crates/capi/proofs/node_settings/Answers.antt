@@ -1,5 +1,4 @@
 -- `capi::node_settings` meets its contract. Assumes nothing.
-use borrow.Author.Rules.{rules}
 use borrow.Author.Tests.{eq-eqb, ne_eqb}
 use Rattle.capi.specs.Structs.{node_settings}
 use Rattle.capi.proofs.node_settings.Goals as goal

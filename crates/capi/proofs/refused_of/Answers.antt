@@ -1,5 +1,4 @@
 -- `capi::refused_of` meets its contract: the struct of a refusal of Compare. Assumes nothing.
-use borrow.Author.Rules.{rules}
 use Prim.Native.Nat.{ℕ}
 use mathlib.Core.Path.{ap, ◌∙◌}
 use Rattle.verdicts.specs.Verdict.{refusal_number_of}

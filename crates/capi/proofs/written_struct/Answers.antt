@@ -1,5 +1,4 @@
 -- `capi::written_struct` meets its contract: the struct of every answer of Write. Assumes nothing.
-use borrow.Author.Rules.{rules}
 use Prim.Native.Nat.{ℕ}
 use mathlib.Core.Path.{ap, sym, ◌∙◌}
 use Rattle.capi.specs.declared.Written.{Written}

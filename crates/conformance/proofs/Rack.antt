@@ -18,7 +18,8 @@ use Rattle.protocol.specs.Calls.Fit.{fit_query}
 use Rattle.protocol.specs.Calls.Compare.{compare_query}
 use Rattle.protocol.specs.Lent.{Lent, places_of, node_of, lent_sound, call_lent, ask_lent}
 use Rattle.protocol.specs.CallList.{Call, Receive, Propose, Vote, Merge, refused_by}
-use Rattle.protocol.specs.Rack.{as_loom, by_room, compared_by}
+use Rattle.protocol.specs.Rack.{as_loom, by_room}
+use Rattle.protocol.specs.RackPackets.{compared_by}
 use Rattle.protocol.proofs.Calls.Open.{opened as opened-fresh}
 use Rattle.protocol.proofs.Lent.Memory.{lent-true}
 use Rattle.protocol.proofs.Lent.Calls.{Lawful, receive-lawful, propose-lawful, vote-lawful, merge-lawful, ask-lent}
@@ -29,6 +30,7 @@ use Rattle.answers.specs.Answers.{Value, nothing_more, received, block, answer_o
 use Rattle.answers.specs.Promises.{Leaves, Writes}
 use Rattle.conformance.specs.CodeCallList.{Promised}
 use Rattle.conformance.specs.CodeRack.{SameCalls, opened, then_call, CodeRackAsLoom}
+use Rattle.conformance.specs.CodeRackPackets.{CodeRackPacketsAsLoom}
 use Rattle.conformance.proofs.Answers.{refused-mapped}
 use Rattle.conformance.proofs.Memory.{Healthy, opened-done, opened-node, opened-healthy, called, wrote}
 
@@ -140,6 +142,14 @@ code-rack-as-loom s m m' R =
       λ t a a' P P'. P ∙ asked-alike s m m' B (λ p y. fast_query s p y t) (λ p y. fast_query (as_loom s) p y t) (fast-same B.roomier (node_of m) S t) ∙ sym P',
       λ t silent a a' P P'. P ∙ ap (map_answer chosen) (asked-alike s m m' B (λ p y. settled_query s p y t silent) (λ p y. settled_query (as_loom s) p y t silent)
           (settled_same B.roomier (node_of m) S t silent)) ∙ sym P',
+      written-alike s m m' B,
+    )
+
+pub code-rack-packets-as-loom : CodeRackPacketsAsLoom
+unfolding CodeRackPacketsAsLoom
+code-rack-packets-as-loom s m m' R =
+    let B = along s m m' R in
+    let S = node-sound s m m' B in (
       λ beat bytes a a' P P' n. P
           ∙ asked-alike s m m' B (λ p y. fit_query s p y beat bytes) (λ p y. fit_query (as_loom s) p y beat bytes)
           (fit_same B.roomier (node_of m) S beat bytes (sym (ap (refused_by by_room) (P ∙ ask-lent s (λ p y. fit_query s p y beat bytes) m B.rack)) ∙ n))
@@ -148,5 +158,4 @@ code-rack-as-loom s m m' R =
           ∙ asked-alike s m m' B (λ p y. compare_query s p y beat one two) (λ p y. compare_query (as_loom s) p y beat one two)
           (compare_same B.roomier (node_of m) S beat one two (sym (ap (compared_by by_room) (P ∙ ask-lent s (λ p y. compare_query s p y beat one two) m B.rack)) ∙ n))
           ∙ sym P',
-      written-alike s m m' B,
     )

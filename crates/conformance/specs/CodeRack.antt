@@ -4,15 +4,13 @@ use Rattle.protocol.specs.declared.Settings.{Settings}
 use Rattle.protocol.specs.declared.Width.{Width}
 use Rattle.protocol.specs.Lent.{Lent, places_of, node_of}
 use Rattle.protocol.specs.CallList.{Call, refused_by}
-use Rattle.protocol.specs.Rack.{as_loom, by_room, compared_by}
+use Rattle.protocol.specs.Rack.{as_loom, by_room}
 use Rattle.answers.specs.declared.Found.{Found}
-use Rattle.answers.specs.declared.Fitted.{Fitted}
-use Rattle.answers.specs.declared.Compared.{Compared}
 use Rattle.answers.specs.declared.Answer.{Answer}
 use Rattle.answers.specs.declared.Answer.TheVariants as answer
 use Rattle.answers.specs.declared.Written.{Written}
-use Rattle.answers.specs.Answers.{answer_of, found_of, fitted_of, compared_of, written_of}
-use Rattle.answers.specs.Promises.{Opens, IsHead, IsDeep, IsFast, IsSettled, IsFit, IsCompared, Writes}
+use Rattle.answers.specs.Answers.{answer_of, found_of, written_of}
+use Rattle.answers.specs.Promises.{Opens, IsHead, IsDeep, IsFast, IsSettled, Writes}
 use Rattle.conformance.specs.CodeCallList.{Promised}
 
 -- The memories that an Open of a rack, one of a loom with as many places and the same other settings, and then the same calls of the code on both left,
@@ -23,8 +21,8 @@ pub data SameCalls (s : Settings) : Lent → Lent → Type 0 where
   then_call : {m m' : Lent} → SameCalls s m m' → (c : Call) (next next' : Lent) (r r' : Answer) →
       Promised s m c next r → Promised (as_loom s) m' c next' r' → refused_by by_room (answer_of r) ≡ false → SameCalls s next next'
 
--- They hold the same used rows, marks and clock; the next call that the rack does not refuse so, every question about a slot, every question about packets
--- that it does not refuse so, and every Write is answered alike, a refusal with its index, and Write leaves the same buffer.
+-- They hold the same used rows, marks and clock; the next call that the rack does not refuse so, every question and every Write is answered alike, a
+-- refusal with its index, and Write leaves the same buffer.
 unfoldable pub CodeRackAsLoom : Type 0
 CodeRackAsLoom =
     (s : Settings) (m m' : Lent) → SameCalls s m m' →
@@ -35,9 +33,5 @@ CodeRackAsLoom =
     × ((t : ℕ) (a a' : Found) → IsDeep s m t a → IsDeep (as_loom s) m' t a' → found_of a ≡ found_of a')
     × ((t : ℕ) (a a' : Found) → IsFast s m t a → IsFast (as_loom s) m' t a' → found_of a ≡ found_of a')
     × ((t silent : ℕ) (a a' : Found) → IsSettled s m t silent a → IsSettled (as_loom s) m' t silent a' → found_of a ≡ found_of a')
-    × ((beat : ℕ) (bytes : List ℕ) (a a' : Fitted) → IsFit s m beat bytes a → IsFit (as_loom s) m' beat bytes a' →
-    refused_by by_room (fitted_of a) ≡ false → fitted_of a ≡ fitted_of a')
-    × ((beat : ℕ) (one two : List ℕ) (a a' : Compared) → IsCompared s m beat one two a → IsCompared (as_loom s) m' beat one two a' →
-    compared_by by_room (compared_of a) ≡ false → compared_of a ≡ compared_of a')
     × ((proposal : Bool) (width : Width) (old new new' : List ℕ) (r r' : Written) →
     Writes s m proposal width old new r → Writes (as_loom s) m' proposal width old new' r' → (written_of r ≡ written_of r') × (new ≡ new'))

@@ -5,6 +5,7 @@ pub mod Conformance
 pub mod CodeCallList
 pub mod CodeRemoval
 pub mod CodeRack
+pub mod CodeRackPackets
 pub mod CodeSettled
 pub mod CodeDeepAgreement
 pub mod CodeFastHolds

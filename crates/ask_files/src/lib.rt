@@ -39,9 +39,18 @@ fn ask_one(rt: &HostRuntime, program: Program, name: &str) -> io::Result<()> {
     }
 }
 
-pub fn ask_all(rt: &HostRuntime, program: Program) -> io::Result<()> {
+// Each file is asked as this program asks.
+pub fn ask_each(rt: &HostRuntime, program: Program) -> io::Result<()> {
     for name in env::args(rt)?.skip(1) {
         ask_one(rt, program, name.as_str())?;
     }
     Ok(())
+}
+
+// As `silentask` asks, or as `chainask` does.
+pub fn ask_all(rt: &HostRuntime, silent: bool) -> io::Result<()> {
+    if silent {
+        return ask_each(rt, Program::Silentask);
+    }
+    ask_each(rt, Program::Chainask)
 }

@@ -1,9 +1,8 @@
 // The cases of `chainask`: each argument names a file of data/, which is asked as `chainask` asks its standard input.
 #![tactic(auto)]
 
-use asking::Program;
 use std::io;
 
 fn main(rt: HostRuntime) -> io::Result<()> {
-    ask_files::ask_all(&rt, Program::Chainask)
+    ask_files::ask_all(&rt, false)
 }

@@ -5,5 +5,5 @@ use asking::Program;
 use std::io;
 
 fn main(rt: HostRuntime) -> io::Result<()> {
-    ask_files::ask_all(&rt, Program::Fitask)
+    ask_files::ask_each(&rt, Program::Fitask)
 }

@@ -5,5 +5,5 @@ use asking::Program;
 use std::io;
 
 fn main(rt: HostRuntime) -> io::Result<()> {
-    ask_files::ask_all(&rt, Program::Pairask)
+    ask_files::ask_each(&rt, Program::Pairask)
 }

@@ -42,7 +42,7 @@
  * No call allocates, keeps a pointer or waits.
  * Different nodes may be called from different threads; calls on one node are made one after another.
  *
- * Build the archive with `rt staticlib capi`, and link target/staticlib/libcapi.a (Linux on x86-64). It needs memset alone.
+ * Build the archive with `sh tools/staticlib.sh`, and link target/staticlib/libcapi.a (Linux on x86-64). It needs memset alone.
  */
 #ifndef LIKVOST_H
 #define LIKVOST_H

@@ -32,11 +32,11 @@ row_key o ws j =
     let row = drop (o.words * j) ws in
     record { a = get_or row o.a 0; b = get_or row o.b 0; c = get_or row o.c 0; d = cond o.wide (get_or row o.d 0) 0 }
 
--- the key of row j; of the view its mark stands where the number does
+-- the key of row j; by voter and slot its slot or its mark stands where the number does
 abbrev pub key_at : Kind → List ℕ → ℕ → Key
 key_at Blocks ws j = number_key (row_at make_block ws j).entry.number
 key_at Votes ws j = vote_key (row_at make_vote ws j).entry
-key_at Slots ws j = slot_key_of (row_at make_vote ws j).entry
+key_at Slots ws j = let v = (row_at make_vote ws j).entry in record { a = v.slot; b = v.slot; c = v.voter; d = 0 }
 key_at View ws j = let v = (row_at make_vote ws j).entry in record { a = get_or (drop (vote_words * j) ws) 4 0; b = v.slot; c = v.voter; d = 0 }
 
 -- the first n rows can be read

@@ -3,7 +3,7 @@ use Prim.Native.Nat.{◌-◌}
 use mathlib.Core.Path.{◌≡◌}
 use lib.ListN.{length}
 use borrow.Author.Rules.{rules}
-use Rattle.case_lines.proofs.lines.Given as goal
+use Rattle.cases.proofs.lines.Given as goal
 
 abbrev pub invariant-loop-start : goal.invariant-loop-start
 invariant-loop-start l = (length l.blocks ≡ length l.initial.blocks) × (length l.votes ≡ length l.initial.votes)

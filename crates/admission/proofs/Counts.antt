@@ -6,7 +6,6 @@ use mathlib.Core.List.{List}
 use mathlib.Core.Path.{◌≡◌, refl, ap, sym, ◌∙◌}
 use native.Mathlib.Omega.{arith}
 use lib.ListN.{length, get_or, take}
-use lib.Seq.{take_all}
 use mir.Val.{bool_byte}
 use Rattle.protocol.specs.Entry.{Vote}
 use Rattle.protocol.specs.Lists.{any_pass}
@@ -47,6 +46,3 @@ module _ {A : Type 0} (has : List A → A → Bool) (add : List A → List A →
           length-one has (add old (take i xs)) (get_or xs i d),
           ← q,
         ) (omega (arith, e))
-
-    pub count-end : (n i : ℕ) → length xs ≤ i → k + n ≡ length (add old (take i xs)) → k + n ≡ length (add old xs)
-    count-end n i h e = rw (take_all i xs h) at e

@@ -1,12 +1,13 @@
 -- What a link into the table's entries and the packet's says: the block found by a number, and whether the packet's next entry is new.
 -- Assumes nothing.
 use Prim.Native.Nat.{ℕ, ◌+◌, ◌≤◌}
-use mathlib.Core.Bool.{Bool, true, not, not-not}
+use mathlib.Core.Bool.{Bool, true, false, not, not-not}
 use mathlib.Core.List.{List, ◌++◌}
-use mathlib.Core.Path.{◌≡◌, ap, sym, ◌∙◌}
+use mathlib.Core.Path.{◌≡◌, refl, ap, sym, ◌∙◌}
 use native.Mathlib.Omega.{arith}
-use lib.Dec.{eqb}
+use lib.Dec.{eqb, eqb-suc-zero}
 use lib.ListN.{length, get_or, take}
+use Rattle.std.specs.Prelude.{Option, Some, None, is_some}
 use Rattle.protocol.specs.Entry.{Block, Vote}
 use Rattle.protocol.specs.Chain.{Lookup, find, found_with, genesis}
 use Rattle.protocol.specs.Store.{entries, same_vote}
@@ -17,7 +18,7 @@ use Rattle.protocol.proofs.Basics.Members.{any_append}
 use Rattle.protocol.proofs.Store.New.{any-added}
 use Rattle.packets.specs.Header.{no_vote}
 use Rattle.rows.proofs.Find.{known-any}
-use Rattle.search_tree.specs.Tree.{Points}
+use Rattle.search_tree.specs.Tree.{link_of, Points}
 use Rattle.search_tree.proofs.Lists.{any-linked}
 use Rattle.index.specs.declared.Key.{Key}
 use Rattle.index.specs.Keys.{number_key, vote_key}
@@ -26,6 +27,13 @@ use Rattle.index.specs.Firsts.{block_new, vote_new}
 use Rattle.index.proofs.Known.{known-front, known_next}
 use Rattle.index.proofs.Joined.{block-linked, vote-linked, vote-among, link-found}
 use Rattle.admission.proofs.Known.{added-joined}
+
+-- a row was found if its link is not 0
+pub no-row : (row : Option ℕ) (none : Bool) → is_some row ≡ not none → none ≡ eqb (link_of row) 0
+no-row None true e = refl
+no-row None false e = e
+no-row (Some j) true e = e ∙ sym (eqb-suc-zero j)
+no-row (Some j) false e = sym (eqb-suc-zero j)
 
 no-link : (link : ℕ) {t : Bool} → not (eqb link 0) ≡ t → eqb link 0 ≡ not t
 no-link link e = sym (not-not (eqb link 0)) ∙ ap not e

@@ -1,3 +1,3 @@
--- Laws that the calls share, from the verdict that code found. Assumes nothing.
-pub mod Verdict
+-- The laws that the calls share. Assumes nothing.
 pub mod Leaves
+pub mod Tables

@@ -32,7 +32,7 @@ fn ask_one(rt: &HostRuntime, program: Program, name: &str) -> io::Result<()> {
             println!(rt; "{name}")?;
             let mut buf = [0u8; 65537];
             let n = read_full(&mut file, &mut buf)?;
-            asking::answer(program, &buf[..n], 1);
+            asking::answer(rt, program, &buf[..n]);
             Ok(())
         }
         Err(error) => eprintln!(rt; "{name}: {error}"),
@@ -45,12 +45,4 @@ pub fn ask_each(rt: &HostRuntime, program: Program) -> io::Result<()> {
         ask_one(rt, program, name.as_str())?;
     }
     Ok(())
-}
-
-// As `silentask` asks, or as `chainask` does.
-pub fn ask_all(rt: &HostRuntime, silent: bool) -> io::Result<()> {
-    if silent {
-        return ask_each(rt, Program::Silentask);
-    }
-    ask_each(rt, Program::Chainask)
 }

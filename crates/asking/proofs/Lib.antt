@@ -1,4 +1,4 @@
--- Laws of specs/Ask and specs/Answers. Assumes nothing.
+-- Laws of specs/Ask and specs/Steps. Assumes nothing.
 pub mod Gather
 pub mod Steps
 pub mod StepsPackets

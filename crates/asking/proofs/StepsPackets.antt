@@ -19,10 +19,10 @@ rest-is : (n : ℕ) (bs : List ℕ) → take (length bs - n) (drop n bs) ≡ dro
 rest-is n bs = take_all (length bs - n) (drop n bs) (le_of_eq (length-drop n bs))
 
 -- it lends the first packet's bytes, and those from its end on to the last
-abbrev first_lent : ℕ → List ℕ → List ℕ
+abbrev pub first_lent : ℕ → List ℕ → List ℕ
 first_lent n bs = take (13 + n - 13) (drop 13 bs)
 
-abbrev second_lent : ℕ → List ℕ → List ℕ
+abbrev pub second_lent : ℕ → List ℕ → List ℕ
 second_lent n bs = take (length bs - (13 + n)) (drop (13 + n) bs)
 
 module _ (bs : List ℕ) {s : Settings} {t : ℕ} {r : rules.Answer PacketFindings} (S : s ≡ settings_in bs) (T : t ≡ number_at bs 5 4) where

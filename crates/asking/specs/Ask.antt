@@ -25,6 +25,13 @@ module _ {A B : Type 0} where
   unfoldable pub and_then : (Places → Node → Outcome A) → (Places → Node → Answer B) → Places → Node → Answer B
   and_then call next p x = then_answer (call p x).answer (next p (call p x).node)
 
+  -- the same of two calls that both change the node
+  unfoldable pub then_call : (Places → Node → Outcome A) → (Places → Node → Outcome B) → Places → Node → Outcome B
+  then_call call next p x = record {
+    answer = and_then call (λ q y. (next q y).answer) p x;
+    node = (next p (call p x).node).node;
+  }
+
 -- ---- the three answers: head, deep block and fast block; or the settled block
 
 pub data Findings : Type 0 where
@@ -48,13 +55,10 @@ unfoldable pub ask_for : Settings → ℕ → Question → Places → Node → A
 ask_for s slot Chain = ask_all s slot
 ask_for s slot (Settled silent) = ask_settled s slot silent
 
--- ---- the calls before them
+-- ---- the calls before them: Open, Receive and Merge
 
-unfoldable pub merge_and_ask : Settings → ℕ → ℕ → Question → Places → Node → Answer Findings
-merge_and_ask s beat slot question = and_then (λ p x. merge s p x beat) (ask_for s slot question)
-
-unfoldable pub receive_and_ask : Settings → ℕ → ℕ → Question → List ℕ → Places → Node → Answer Findings
-receive_and_ask s beat slot question bytes = and_then (λ p x. receive s p x beat bytes) (merge_and_ask s beat slot question)
+unfoldable pub prepared : Settings → ℕ → List ℕ → Places → Node → Outcome Unit
+prepared s beat bytes = then_call (open_node s) (then_call (λ p x. receive s p x beat bytes) (λ p x. merge s p x beat))
 
 abbrev pub places : Places
 places = record { blocks = 512; votes = 1024 }
@@ -64,7 +68,7 @@ abbrev pub empty : Node
 empty = record { blocks = []; votes = []; clock = record { seen = 0; done = 0; merged = 0; proposed = 0 } }
 
 unfoldable pub open_and_ask : Settings → ℕ → Question → List ℕ → Answer Findings
-open_and_ask s slot question bytes = and_then (open_node s) (receive_and_ask s (3 * slot + 2) slot question bytes) places empty
+open_and_ask s slot question bytes = and_then (prepared s (3 * slot + 2) bytes) (ask_for s slot question) places empty
 
 -- ---- the input: n in 1 byte, E and K in 2 each, a slot in 4, and a packet
 

@@ -6,12 +6,10 @@ use Rattle.protocol.specs.Store.{Places, Node}
 use Rattle.protocol.specs.Packet.{number_at}
 use Rattle.protocol.specs.Refusal.{by, Answer, refused}
 use Rattle.protocol.specs.Calls.Open.{open_node}
-use Rattle.protocol.specs.Calls.Receive.{receive}
-use Rattle.protocol.specs.Calls.Merge.{merge}
 use Rattle.protocol.specs.Calls.Fit.{Figures, fit_query}
 use Rattle.protocol.specs.Calls.Compare.{Comparison, compare_query}
 use Rattle.answers.specs.Answers.{map_answer}
-use Rattle.asking.specs.Ask.{and_then, places, empty, settings_in}
+use Rattle.asking.specs.Ask.{and_then, prepared, places, empty, settings_in}
 
 -- ---- what is found: the figures of Fit; or what Compare says
 
@@ -27,14 +25,8 @@ ask_compare s beat one two p x = map_answer compares (compare_query s p x beat o
 
 -- ---- the calls before them
 
-unfoldable pub merge_and_fit : Settings → ℕ → List ℕ → Places → Node → Answer PacketFindings
-merge_and_fit s beat second = and_then (λ p x. merge s p x beat) (ask_fit s beat second)
-
-unfoldable pub receive_and_fit : Settings → ℕ → List ℕ → List ℕ → Places → Node → Answer PacketFindings
-receive_and_fit s beat bytes second = and_then (λ p x. receive s p x beat bytes) (merge_and_fit s beat second)
-
 unfoldable pub open_and_fit : Settings → ℕ → List ℕ → List ℕ → Answer PacketFindings
-open_and_fit s slot bytes second = and_then (open_node s) (receive_and_fit s (3 * slot + 2) bytes second) places empty
+open_and_fit s slot bytes second = and_then (prepared s (3 * slot + 2) bytes) (ask_fit s (3 * slot + 2) second) places empty
 
 unfoldable pub open_and_compare : Settings → ℕ → List ℕ → List ℕ → Answer PacketFindings
 open_and_compare s slot one two = and_then (open_node s) (ask_compare s (3 * slot + 2) one two) places empty

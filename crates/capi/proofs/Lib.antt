@@ -1,5 +1,3 @@
--- What the exported functions promise, from what the node's calls ensure; refusal numbers.
-pub mod Changes
-pub mod Questions
+-- Refusal numbers, and what no profile's number makes. Assumes nothing.
 pub mod Numbers
 pub mod Profiles

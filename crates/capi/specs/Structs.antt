@@ -1,7 +1,7 @@
 -- The exported structs: which settings and clock they hold, and which struct stands for which answer of the node.
 -- `refusal` is 0 if the call was carried out, else document 01's number; `index` is the refused entry's; a field that the answer does not have is 0.
 -- Assumes nothing.
-use Rattle.std.specs.Prelude.{◌≡◌, ℕ, Bool, false, cond, eqb}
+use Rattle.std.specs.Prelude.{◌≡◌, ℕ, Bool, false, cond, eqb, Option, Some, None, Result, Ok, Err}
 use Rattle.protocol.specs.declared.Profile.{Profile}
 use Rattle.protocol.specs.declared.Profile.TheVariants.{Loom, Rack}
 use Rattle.protocol.specs.declared.Settings as protocol_settings
@@ -13,16 +13,11 @@ use Rattle.protocol.specs.Refusal.{by, refused}
 use Rattle.protocol.specs.Lent.{Lent, open_lent, lent_sound}
 use Rattle.verdicts.specs.declared.Refusal.{Refusal}
 use Rattle.verdicts.specs.Verdict.{refusal_number_of, refusal_index_of}
-use Rattle.answers.specs.declared.Answer.{Answer as NodeAnswer}
-use Rattle.answers.specs.declared.Answer.TheVariants as answer
-use Rattle.answers.specs.declared.Found.{Found as NodeFound}
-use Rattle.answers.specs.declared.Found.TheVariants as found
-use Rattle.answers.specs.declared.Fitted.{Fitted as NodeFitted}
-use Rattle.answers.specs.declared.Fitted.TheVariants as fitted
-use Rattle.answers.specs.declared.Compared.{Compared as NodeCompared}
-use Rattle.answers.specs.declared.Compared.TheVariants as comparing
-use Rattle.answers.specs.declared.Written.{Written as NodeWritten}
-use Rattle.answers.specs.declared.Written.TheVariants as written
+use Rattle.equivocation.specs.declared.Equivocation.{Equivocation}
+use Rattle.answers.specs.declared.Received.{Received}
+use Rattle.answers.specs.declared.Figures.{Figures}
+use Rattle.answers.specs.declared.NotCompared.{NotCompared}
+use Rattle.answers.specs.declared.NotCompared.TheVariants as not_compared
 use Rattle.capi.specs.declared.Settings.{Settings}
 use Rattle.capi.specs.declared.Clock.{Clock}
 use Rattle.capi.specs.declared.Number.{Number}
@@ -72,11 +67,18 @@ node_width wide = cond wide Wide Narrow
 
 -- ---- answers
 
--- the clock is the one after the call
-abbrev pub answer_struct : Clock → NodeAnswer → Answer
-answer_struct k answer.Done =
-    record { refusal = 0; index = 0; value = no_number; new_blocks = 0; new_votes = 0; viewed = 0; clock = k }
-answer_struct k (answer.Received t) =
+-- Of a call that changes the memory, the clock is the one after the call. It was refused, or carried out: Open and Merge have no value, Receive has its
+-- counts, and Propose and Vote have a block.
+abbrev pub refused_struct : Clock → Refusal → Answer
+refused_struct k e =
+    record { refusal = refusal_number_of e; index = refusal_index_of e; value = no_number; new_blocks = 0; new_votes = 0; viewed = 0; clock = k }
+
+abbrev pub done_struct : Clock → Result Unit Refusal → Answer
+done_struct k (Ok a) = record { refusal = 0; index = 0; value = no_number; new_blocks = 0; new_votes = 0; viewed = 0; clock = k }
+done_struct k (Err e) = refused_struct k e
+
+abbrev pub received_struct : Clock → Result Received Refusal → Answer
+received_struct k (Ok t) =
     record {
       refusal = 0;
       index = 0;
@@ -86,19 +88,25 @@ answer_struct k (answer.Received t) =
       viewed = cond t.viewed 1 0;
       clock = k;
     }
-answer_struct k (answer.Block b) =
-    record { refusal = 0; index = 0; value = exported_number b; new_blocks = 0; new_votes = 0; viewed = 0; clock = k }
-answer_struct k (answer.Refused e) =
-    record { refusal = refusal_number_of e; index = refusal_index_of e; value = no_number; new_blocks = 0; new_votes = 0; viewed = 0; clock = k }
+received_struct k (Err e) = refused_struct k e
 
-abbrev pub found_struct : NodeFound → Found
-found_struct (found.Block b) = record { refusal = 0; found = 1; value = exported_number b }
-found_struct found.Nothing = record { refusal = 0; found = 0; value = no_number }
-found_struct (found.Refused e) = record { refusal = refusal_number_of e; found = 0; value = no_number }
+abbrev pub block_struct : Clock → Result protocol_number.Number Refusal → Answer
+block_struct k (Ok b) = record { refusal = 0; index = 0; value = exported_number b; new_blocks = 0; new_votes = 0; viewed = 0; clock = k }
+block_struct k (Err e) = refused_struct k e
 
-abbrev pub fitted_struct : NodeFitted → Fitted
-fitted_struct (fitted.Figures f) = record { refusal = 0; index = 0; new_blocks = f.new_blocks; new_votes = f.new_votes; bytes = f.bytes }
-fitted_struct (fitted.Refused e) = record { refusal = refusal_number_of e; index = refusal_index_of e; new_blocks = 0; new_votes = 0; bytes = 0 }
+-- Head, Deep and Settled; and Fast, which may find none
+abbrev pub found_struct : Result protocol_number.Number Refusal → Found
+found_struct (Ok b) = record { refusal = 0; found = 1; value = exported_number b }
+found_struct (Err e) = record { refusal = refusal_number_of e; found = 0; value = no_number }
+
+abbrev pub fast_struct : Result (Option protocol_number.Number) Refusal → Found
+fast_struct (Ok (Some b)) = record { refusal = 0; found = 1; value = exported_number b }
+fast_struct (Ok None) = record { refusal = 0; found = 0; value = no_number }
+fast_struct (Err e) = record { refusal = refusal_number_of e; found = 0; value = no_number }
+
+abbrev pub fitted_struct : Result Figures Refusal → Fitted
+fitted_struct (Ok f) = record { refusal = 0; index = 0; new_blocks = f.new_blocks; new_votes = f.new_votes; bytes = f.bytes }
+fitted_struct (Err e) = record { refusal = refusal_number_of e; index = refusal_index_of e; new_blocks = 0; new_votes = 0; bytes = 0 }
 
 -- no equivocation, and why: refused, for packet 1 or 2, or 0 for none
 abbrev pub refused_of : ℕ → Refusal → Compared
@@ -114,8 +122,8 @@ refused_of packet e =
       other = no_number;
     }
 
-abbrev pub compared_struct : NodeCompared → Compared
-compared_struct (comparing.Equivocation e) =
+abbrev pub compared_struct : Result (Option Equivocation) NotCompared → Compared
+compared_struct (Ok (Some e)) =
     record {
       refusal = 0;
       index = 0;
@@ -126,15 +134,15 @@ compared_struct (comparing.Equivocation e) =
       block = exported_number e.block;
       other = exported_number e.other;
     }
-compared_struct comparing.Nobody =
+compared_struct (Ok None) =
     record { refusal = 0; index = 0; packet = 0; found = 0; voter = 0; slot = 0; block = no_number; other = no_number }
-compared_struct (comparing.FirstRefused e) = refused_of 1 e
-compared_struct (comparing.SecondRefused e) = refused_of 2 e
-compared_struct (comparing.Refused e) = refused_of 0 e
+compared_struct (Err (not_compared.First e)) = refused_of 1 e
+compared_struct (Err (not_compared.Second e)) = refused_of 2 e
+compared_struct (Err (not_compared.Memory e)) = refused_of 0 e
 
-abbrev pub written_struct : NodeWritten → Written
-written_struct (written.Bytes n) = record { refusal = 0; bytes = n }
-written_struct (written.Refused e) = record { refusal = refusal_number_of e; bytes = 0 }
+abbrev pub written_struct : Result ℕ Refusal → Written
+written_struct (Ok n) = record { refusal = 0; bytes = n }
+written_struct (Err e) = record { refusal = refusal_number_of e; bytes = 0 }
 
 -- ---- what every exported function promises
 

@@ -7,9 +7,13 @@ ghost use Rattle.std.specs.Prelude.{◌≡◌};
 ghost use Rattle.protocol.specs.Words.{value};
 ghost use Rattle.verdicts.specs.Lent.{lent, lent_at_entry, lent_at_exit};
 ghost use Rattle.answers.specs.Promises.{Opens, Receives, Proposes, Votes, Merges, IsHead, IsDeep, IsFast, IsSettled, IsFit, IsCompared, Writes};
-ghost use Rattle.capi.specs.Structs.{node_settings_with, node_settings, node_clock, exported_clock, node_number, node_width, answer_struct, found_struct, fitted_struct, refused_of, compared_struct, written_struct, Stands};
+ghost use Rattle.capi.specs.Structs.{node_settings, node_clock, exported_clock, node_number, node_width, exported_number, refused_struct, done_struct, received_struct, block_struct, found_struct, fast_struct, fitted_struct, refused_of, compared_struct, written_struct, Stands};
 
+use answers::{Figures, NotCompared, Received};
+use equivocation::Equivocation;
+use lent::{Lent, LentMut};
 use protocol::{Profile, Width};
+use verdicts::Refusal;
 
 // The names of the profiles. Every other number, 0 too, names none.
 const LOOM: u64 = 1;
@@ -102,233 +106,277 @@ pub struct Written {
 
 // ---- from the exported structs to the node's, and back
 
-// The settings with these limits and so many nodes.
-fn node_settings_with(profile: Profile, nodes: u64, settings: Settings) -> protocol::Settings
-    ensures { result ≡ node_settings_with profile nodes settings }
-{
-    protocol::Settings {
-        profile,
-        nodes,
-        own: settings.own,
-        expiry: settings.expiry,
-        depth: settings.depth,
-    }
-}
-
 // A profile that is neither of the two is never taken for one: with no node the settings are out of range, so Open refuses by 1 and every other
 // call by 6.
-fn node_settings(settings: Settings) -> protocol::Settings
-    ensures { result ≡ node_settings settings }
-{
-    if settings.profile == LOOM {
-        return node_settings_with(Profile::Loom, settings.nodes, settings);
-    }
-    if settings.profile == RACK {
-        return node_settings_with(Profile::Rack, settings.nodes, settings);
-    }
-    node_settings_with(Profile::Loom, 0, settings)
-}
+impl From<Settings> for protocol::Settings {
+    ghost from_gives = { λ settings r. r ≡ node_settings settings };
 
-fn node_clock(clock: Clock) -> protocol::Clock
-    ensures { result ≡ node_clock clock }
-{
-    protocol::Clock {
-        seen: clock.seen,
-        done: clock.done,
-        merged: clock.merged,
-        proposed: clock.proposed,
+    #[tactic(auto, unfolding(crate::specs::Structs::node_settings))]
+    fn from(settings: Settings) -> protocol::Settings {
+        let (profile, nodes) = match settings.profile {
+            LOOM => (Profile::Loom, settings.nodes),
+            RACK => (Profile::Rack, settings.nodes),
+            _ => (Profile::Loom, 0),
+        };
+        protocol::Settings {
+            profile,
+            nodes,
+            own: settings.own,
+            expiry: settings.expiry,
+            depth: settings.depth,
+        }
     }
 }
 
-fn exported_clock(clock: protocol::Clock) -> Clock
-    ensures { result ≡ exported_clock clock }
-{
-    Clock {
-        seen: clock.seen,
-        done: clock.done,
-        merged: clock.merged,
-        proposed: clock.proposed,
+impl From<Clock> for protocol::Clock {
+    ghost from_gives = { λ clock r. r ≡ node_clock clock };
+
+    fn from(clock: Clock) -> protocol::Clock {
+        protocol::Clock {
+            seen: clock.seen,
+            done: clock.done,
+            merged: clock.merged,
+            proposed: clock.proposed,
+        }
     }
 }
 
-fn node_number(number: Number) -> protocol::Number
-    ensures { result ≡ node_number number }
-{
-    protocol::Number {
-        lower: number.lower,
-        upper: number.upper,
+impl From<protocol::Clock> for Clock {
+    ghost from_gives = { λ clock r. r ≡ exported_clock clock };
+
+    fn from(clock: protocol::Clock) -> Clock {
+        Clock {
+            seen: clock.seen,
+            done: clock.done,
+            merged: clock.merged,
+            proposed: clock.proposed,
+        }
     }
 }
 
+impl From<Number> for protocol::Number {
+    ghost from_gives = { λ number r. r ≡ node_number number };
+
+    fn from(number: Number) -> protocol::Number {
+        protocol::Number {
+            lower: number.lower,
+            upper: number.upper,
+        }
+    }
+}
+
+impl From<protocol::Number> for Number {
+    ghost from_gives = { λ number r. r ≡ exported_number number };
+
+    fn from(number: protocol::Number) -> Number {
+        Number {
+            lower: number.lower,
+            upper: number.upper,
+        }
+    }
+}
+
+// No From: a flag and a width are both foreign here (the orphan rule).
 fn node_width(wide: bool) -> Width
     ensures { result ≡ node_width wide }
 {
-    if wide {
-        return Width::Wide;
-    }
-    Width::Narrow
+    if wide { Width::Wide } else { Width::Narrow }
 }
 
-fn answer_struct(answer: answers::Answer, clock: Clock) -> Answer
-    ensures { result ≡ answer_struct clock answer }
-{
-    match answer {
-        answers::Answer::Done => Answer {
-            refusal: 0,
-            index: 0,
-            value: Number { lower: 0, upper: 0 },
+// ---- from the node's answers to the exported structs
+
+// What stands where an answer has no number.
+const NO_NUMBER: Number = Number { lower: 0, upper: 0 };
+
+impl Answer {
+    // A call that was refused.
+    fn refused(refusal: Refusal, clock: Clock) -> Answer
+        ensures { result ≡ refused_struct clock refusal }
+    {
+        Answer {
+            refusal: refusal.number(),
+            index: refusal.index() as u64,
+            value: NO_NUMBER,
             new_blocks: 0,
             new_votes: 0,
             viewed: 0,
             clock,
-        },
-        answers::Answer::Received(taken) => Answer {
-            refusal: 0,
-            index: 0,
-            value: Number { lower: 0, upper: 0 },
-            new_blocks: taken.new_blocks,
-            new_votes: taken.new_votes,
-            viewed: taken.viewed as u64,
-            clock,
-        },
-        answers::Answer::Block(number) => Answer {
-            refusal: 0,
-            index: 0,
-            value: Number {
-                lower: number.lower,
-                upper: number.upper,
+        }
+    }
+
+    // Open and Merge.
+    fn of_done(answer: Result<(), Refusal>, clock: Clock) -> Answer
+        ensures same { result ≡ done_struct clock answer }
+        ensures clock { result.clock ≡ clock }
+    {
+        match answer {
+            Ok(()) => Answer {
+                refusal: 0,
+                index: 0,
+                value: NO_NUMBER,
+                new_blocks: 0,
+                new_votes: 0,
+                viewed: 0,
+                clock,
             },
-            new_blocks: 0,
-            new_votes: 0,
-            viewed: 0,
-            clock,
-        },
-        answers::Answer::Refused(refusal) => Answer {
-            refusal: verdicts::number(refusal),
-            index: verdicts::index(refusal) as u64,
-            value: Number { lower: 0, upper: 0 },
-            new_blocks: 0,
-            new_votes: 0,
-            viewed: 0,
-            clock,
-        },
+            Err(refusal) => Answer::refused(refusal, clock),
+        }
     }
-}
 
-fn found_struct(found: answers::Found) -> Found
-    ensures { result ≡ found_struct found }
-{
-    match found {
-        answers::Found::Block(number) => Found {
-            refusal: 0,
-            found: 1,
-            value: Number {
-                lower: number.lower,
-                upper: number.upper,
+    // Receive.
+    fn of_received(answer: Result<Received, Refusal>, clock: Clock) -> Answer
+        ensures same { result ≡ received_struct clock answer }
+        ensures clock { result.clock ≡ clock }
+    {
+        match answer {
+            Ok(taken) => Answer {
+                new_blocks: taken.new_blocks,
+                new_votes: taken.new_votes,
+                viewed: taken.viewed as u64,
+                ..Answer::of_done(Ok(()), clock)
             },
-        },
-        answers::Found::Nothing => Found {
-            refusal: 0,
+            Err(refusal) => Answer::refused(refusal, clock),
+        }
+    }
+
+    // Propose and Vote.
+    fn of_block(answer: Result<protocol::Number, Refusal>, clock: Clock) -> Answer
+        ensures same { result ≡ block_struct clock answer }
+        ensures clock { result.clock ≡ clock }
+    {
+        match answer {
+            Ok(number) => Answer {
+                value: number.into(),
+                ..Answer::of_done(Ok(()), clock)
+            },
+            Err(refusal) => Answer::refused(refusal, clock),
+        }
+    }
+}
+
+impl From<Result<Option<protocol::Number>, Refusal>> for Found {
+    ghost from_gives = { λ found r. r ≡ fast_struct found };
+
+    fn from(found: Result<Option<protocol::Number>, Refusal>) -> Found {
+        match found {
+            Ok(Some(number)) => Found {
+                refusal: 0,
+                found: 1,
+                value: number.into(),
+            },
+            Ok(None) => Found {
+                refusal: 0,
+                found: 0,
+                value: NO_NUMBER,
+            },
+            Err(refusal) => Found {
+                refusal: refusal.number(),
+                found: 0,
+                value: NO_NUMBER,
+            },
+        }
+    }
+}
+
+impl From<Result<protocol::Number, Refusal>> for Found {
+    ghost from_gives = { λ found r. r ≡ found_struct found };
+
+    fn from(found: Result<protocol::Number, Refusal>) -> Found {
+        Found::from(found.map(Some))
+    }
+}
+
+impl From<Result<Figures, Refusal>> for Fitted {
+    ghost from_gives = { λ fitted r. r ≡ fitted_struct fitted };
+
+    fn from(fitted: Result<Figures, Refusal>) -> Fitted {
+        match fitted {
+            Ok(figures) => Fitted {
+                refusal: 0,
+                index: 0,
+                new_blocks: figures.new_blocks,
+                new_votes: figures.new_votes,
+                bytes: figures.bytes,
+            },
+            Err(refusal) => Fitted {
+                refusal: refusal.number(),
+                index: refusal.index() as u64,
+                new_blocks: 0,
+                new_votes: 0,
+                bytes: 0,
+            },
+        }
+    }
+}
+
+impl Compared {
+    // No voter, with the refusal's number and index and the packet that it is of.
+    fn refused(packet: u64, refusal: Refusal) -> Compared
+        ensures { result ≡ refused_of packet refusal }
+    {
+        Compared {
+            refusal: refusal.number(),
+            index: refusal.index() as u64,
+            packet,
             found: 0,
-            value: Number { lower: 0, upper: 0 },
-        },
-        answers::Found::Refused(refusal) => Found {
-            refusal: verdicts::number(refusal),
-            found: 0,
-            value: Number { lower: 0, upper: 0 },
-        },
+            voter: 0,
+            slot: 0,
+            block: NO_NUMBER,
+            other: NO_NUMBER,
+        }
     }
 }
 
-fn fitted_struct(fitted: answers::Fitted) -> Fitted
-    ensures { result ≡ fitted_struct fitted }
-{
-    match fitted {
-        answers::Fitted::Figures(figures) => Fitted {
-            refusal: 0,
-            index: 0,
-            new_blocks: figures.new_blocks,
-            new_votes: figures.new_votes,
-            bytes: figures.bytes,
-        },
-        answers::Fitted::Refused(refusal) => Fitted {
-            refusal: verdicts::number(refusal),
-            index: verdicts::index(refusal) as u64,
-            new_blocks: 0,
-            new_votes: 0,
-            bytes: 0,
-        },
-    }
-}
+impl From<Result<Option<Equivocation>, NotCompared>> for Compared {
+    ghost from_gives = { λ compared r. r ≡ compared_struct compared };
 
-fn refused_of(packet: u64, refusal: verdicts::Refusal) -> Compared
-    ensures { result ≡ refused_of packet refusal }
-{
-    Compared {
-        refusal: verdicts::number(refusal),
-        index: verdicts::index(refusal) as u64,
-        packet,
-        found: 0,
-        voter: 0,
-        slot: 0,
-        block: Number { lower: 0, upper: 0 },
-        other: Number { lower: 0, upper: 0 },
-    }
-}
-
-fn compared_struct(compared: answers::Compared) -> Compared
-    ensures { result ≡ compared_struct compared }
-{
-    match compared {
-        answers::Compared::Equivocation(e) => {
-            let block = e.block;
-            let other = e.other;
-            Compared {
+    fn from(compared: Result<Option<Equivocation>, NotCompared>) -> Compared {
+        match compared {
+            Ok(Some(e)) => Compared {
                 refusal: 0,
                 index: 0,
                 packet: 0,
                 found: 1,
                 voter: e.voter,
                 slot: e.slot,
-                block: Number {
-                    lower: block.lower,
-                    upper: block.upper,
-                },
-                other: Number {
-                    lower: other.lower,
-                    upper: other.upper,
-                },
-            }
+                block: e.block.into(),
+                other: e.other.into(),
+            },
+            Ok(None) => Compared {
+                refusal: 0,
+                index: 0,
+                packet: 0,
+                found: 0,
+                voter: 0,
+                slot: 0,
+                block: NO_NUMBER,
+                other: NO_NUMBER,
+            },
+            Err(NotCompared::First(refusal)) => Compared::refused(1, refusal),
+            Err(NotCompared::Second(refusal)) => Compared::refused(2, refusal),
+            Err(NotCompared::Memory(refusal)) => Compared::refused(0, refusal),
         }
-        answers::Compared::Nobody => Compared {
-            refusal: 0,
-            index: 0,
-            packet: 0,
-            found: 0,
-            voter: 0,
-            slot: 0,
-            block: Number { lower: 0, upper: 0 },
-            other: Number { lower: 0, upper: 0 },
-        },
-        answers::Compared::FirstRefused(refusal) => refused_of(1, refusal),
-        answers::Compared::SecondRefused(refusal) => refused_of(2, refusal),
-        answers::Compared::Refused(refusal) => refused_of(0, refusal),
     }
 }
 
-fn written_struct(written: answers::Written) -> Written
-    ensures { result ≡ written_struct written }
-{
-    match written {
-        answers::Written::Bytes(bytes) => Written { refusal: 0, bytes },
-        answers::Written::Refused(refusal) => Written {
-            refusal: verdicts::number(refusal),
-            bytes: 0,
-        },
+impl From<Result<u64, Refusal>> for Written {
+    ghost from_gives = { λ written r. r ≡ written_struct written };
+
+    fn from(written: Result<u64, Refusal>) -> Written {
+        match written {
+            Ok(bytes) => Written { refusal: 0, bytes },
+            Err(refusal) => Written {
+                refusal: refusal.number(),
+                bytes: 0,
+            },
+        }
     }
 }
 
 // ---- calls that change the memory
+
+// Each lends the node what it is passed and writes the counts back. The lines are the same in the five: a generic over the call is no plainer, since its contract
+// has to say what the call leaves behind every reference.
 
 pub fn likvost_open(
     settings: Settings,
@@ -339,19 +387,20 @@ pub fn likvost_open(
     votes_used: &mut usize,
 ) -> Answer
     ensures { Stands (Opens (node_settings settings) (lent_at_entry blocks blocks_used votes votes_used (node_clock clock))
-        (lent_at_exit blocks blocks_used votes votes_used (node_clock result.clock))) (answer_struct result.clock) result }
+        (lent_at_exit blocks blocks_used votes votes_used (node_clock result.clock))) (done_struct result.clock) result }
 {
-    let moved = node::open(
-        node_settings(settings),
-        node_clock(clock),
-        blocks,
-        blocks_used,
-        votes,
-        votes_used,
-    );
-    let after = moved.clock;
-    let answer = moved.answer;
-    answer_struct(answer, exported_clock(after))
+    let mut lent = LentMut {
+        settings: settings.into(),
+        clock: clock.into(),
+        blocks: &mut *blocks,
+        blocks_used: *blocks_used,
+        votes: &mut *votes,
+        votes_used: *votes_used,
+    };
+    let answer = node::open(&mut lent);
+    *blocks_used = lent.blocks_used;
+    *votes_used = lent.votes_used;
+    Answer::of_done(answer, lent.clock.into())
 }
 
 pub fn likvost_receive(
@@ -365,21 +414,20 @@ pub fn likvost_receive(
     packet: &[u8],
 ) -> Answer
     ensures { Stands (Receives (node_settings settings) (lent_at_entry blocks blocks_used votes votes_used (node_clock clock)) beat packet.now
-        (lent_at_exit blocks blocks_used votes votes_used (node_clock result.clock))) (answer_struct result.clock) result }
+        (lent_at_exit blocks blocks_used votes votes_used (node_clock result.clock))) (received_struct result.clock) result }
 {
-    let moved = node::receive(
-        node_settings(settings),
-        node_clock(clock),
-        blocks,
-        blocks_used,
-        votes,
-        votes_used,
-        beat,
-        packet,
-    );
-    let after = moved.clock;
-    let answer = moved.answer;
-    answer_struct(answer, exported_clock(after))
+    let mut lent = LentMut {
+        settings: settings.into(),
+        clock: clock.into(),
+        blocks: &mut *blocks,
+        blocks_used: *blocks_used,
+        votes: &mut *votes,
+        votes_used: *votes_used,
+    };
+    let answer = node::receive(&mut lent, beat, packet);
+    *blocks_used = lent.blocks_used;
+    *votes_used = lent.votes_used;
+    Answer::of_received(answer, lent.clock.into())
 }
 
 pub fn likvost_propose(
@@ -393,21 +441,20 @@ pub fn likvost_propose(
     number: Number,
 ) -> Answer
     ensures { Stands (Proposes (node_settings settings) (lent_at_entry blocks blocks_used votes votes_used (node_clock clock)) beat (value (node_number number))
-        (lent_at_exit blocks blocks_used votes votes_used (node_clock result.clock))) (answer_struct result.clock) result }
+        (lent_at_exit blocks blocks_used votes votes_used (node_clock result.clock))) (block_struct result.clock) result }
 {
-    let moved = node::propose(
-        node_settings(settings),
-        node_clock(clock),
-        blocks,
-        blocks_used,
-        votes,
-        votes_used,
-        beat,
-        node_number(number),
-    );
-    let after = moved.clock;
-    let answer = moved.answer;
-    answer_struct(answer, exported_clock(after))
+    let mut lent = LentMut {
+        settings: settings.into(),
+        clock: clock.into(),
+        blocks: &mut *blocks,
+        blocks_used: *blocks_used,
+        votes: &mut *votes,
+        votes_used: *votes_used,
+    };
+    let answer = node::propose(&mut lent, beat, number.into());
+    *blocks_used = lent.blocks_used;
+    *votes_used = lent.votes_used;
+    Answer::of_block(answer, lent.clock.into())
 }
 
 pub fn likvost_vote(
@@ -420,20 +467,20 @@ pub fn likvost_vote(
     beat: u64,
 ) -> Answer
     ensures { Stands (Votes (node_settings settings) (lent_at_entry blocks blocks_used votes votes_used (node_clock clock)) beat
-        (lent_at_exit blocks blocks_used votes votes_used (node_clock result.clock))) (answer_struct result.clock) result }
+        (lent_at_exit blocks blocks_used votes votes_used (node_clock result.clock))) (block_struct result.clock) result }
 {
-    let moved = node::vote(
-        node_settings(settings),
-        node_clock(clock),
-        blocks,
-        blocks_used,
-        votes,
-        votes_used,
-        beat,
-    );
-    let after = moved.clock;
-    let answer = moved.answer;
-    answer_struct(answer, exported_clock(after))
+    let mut lent = LentMut {
+        settings: settings.into(),
+        clock: clock.into(),
+        blocks: &mut *blocks,
+        blocks_used: *blocks_used,
+        votes: &mut *votes,
+        votes_used: *votes_used,
+    };
+    let answer = node::vote(&mut lent, beat);
+    *blocks_used = lent.blocks_used;
+    *votes_used = lent.votes_used;
+    Answer::of_block(answer, lent.clock.into())
 }
 
 pub fn likvost_merge(
@@ -446,20 +493,20 @@ pub fn likvost_merge(
     beat: u64,
 ) -> Answer
     ensures { Stands (Merges (node_settings settings) (lent_at_entry blocks blocks_used votes votes_used (node_clock clock)) beat
-        (lent_at_exit blocks blocks_used votes votes_used (node_clock result.clock))) (answer_struct result.clock) result }
+        (lent_at_exit blocks blocks_used votes votes_used (node_clock result.clock))) (done_struct result.clock) result }
 {
-    let moved = node::merge(
-        node_settings(settings),
-        node_clock(clock),
-        blocks,
-        blocks_used,
-        votes,
-        votes_used,
-        beat,
-    );
-    let after = moved.clock;
-    let answer = moved.answer;
-    answer_struct(answer, exported_clock(after))
+    let mut lent = LentMut {
+        settings: settings.into(),
+        clock: clock.into(),
+        blocks: &mut *blocks,
+        blocks_used: *blocks_used,
+        votes: &mut *votes,
+        votes_used: *votes_used,
+    };
+    let answer = node::merge(&mut lent, beat);
+    *blocks_used = lent.blocks_used;
+    *votes_used = lent.votes_used;
+    Answer::of_done(answer, lent.clock.into())
 }
 
 // ---- Head, Deep, Fast, Settled, Fit and Compare: the memory is only read
@@ -475,16 +522,15 @@ pub fn likvost_head(
 ) -> Found
     ensures { Stands (IsHead (node_settings settings) (lent blocks.now votes.now blocks_used votes_used (node_clock clock)) slot) found_struct result }
 {
-    let found = queries::head(
-        node_settings(settings),
-        node_clock(clock),
+    let lent = Lent {
+        settings: settings.into(),
+        clock: clock.into(),
         blocks,
         blocks_used,
         votes,
         votes_used,
-        slot,
-    );
-    found_struct(found)
+    };
+    queries::head(lent, slot).into()
 }
 
 pub fn likvost_deep(
@@ -498,16 +544,15 @@ pub fn likvost_deep(
 ) -> Found
     ensures { Stands (IsDeep (node_settings settings) (lent blocks.now votes.now blocks_used votes_used (node_clock clock)) slot) found_struct result }
 {
-    let found = queries::deep(
-        node_settings(settings),
-        node_clock(clock),
+    let lent = Lent {
+        settings: settings.into(),
+        clock: clock.into(),
         blocks,
         blocks_used,
         votes,
         votes_used,
-        slot,
-    );
-    found_struct(found)
+    };
+    queries::deep(lent, slot).into()
 }
 
 pub fn likvost_fast(
@@ -519,18 +564,17 @@ pub fn likvost_fast(
     votes_used: usize,
     slot: u64,
 ) -> Found
-    ensures { Stands (IsFast (node_settings settings) (lent blocks.now votes.now blocks_used votes_used (node_clock clock)) slot) found_struct result }
+    ensures { Stands (IsFast (node_settings settings) (lent blocks.now votes.now blocks_used votes_used (node_clock clock)) slot) fast_struct result }
 {
-    let found = queries::fast(
-        node_settings(settings),
-        node_clock(clock),
+    let lent = Lent {
+        settings: settings.into(),
+        clock: clock.into(),
         blocks,
         blocks_used,
         votes,
         votes_used,
-        slot,
-    );
-    found_struct(found)
+    };
+    queries::fast(lent, slot).into()
 }
 
 pub fn likvost_settled(
@@ -545,17 +589,15 @@ pub fn likvost_settled(
 ) -> Found
     ensures { Stands (IsSettled (node_settings settings) (lent blocks.now votes.now blocks_used votes_used (node_clock clock)) slot silent) found_struct result }
 {
-    let found = queries::settled(
-        node_settings(settings),
-        node_clock(clock),
+    let lent = Lent {
+        settings: settings.into(),
+        clock: clock.into(),
         blocks,
         blocks_used,
         votes,
         votes_used,
-        slot,
-        silent,
-    );
-    found_struct(found)
+    };
+    queries::settled(lent, slot, silent).into()
 }
 
 pub fn likvost_fit(
@@ -570,17 +612,15 @@ pub fn likvost_fit(
 ) -> Fitted
     ensures { Stands (IsFit (node_settings settings) (lent blocks.now votes.now blocks_used votes_used (node_clock clock)) beat packet.now) fitted_struct result }
 {
-    let fitted = queries::fit(
-        node_settings(settings),
-        node_clock(clock),
+    let lent = Lent {
+        settings: settings.into(),
+        clock: clock.into(),
         blocks,
         blocks_used,
         votes,
         votes_used,
-        beat,
-        packet,
-    );
-    fitted_struct(fitted)
+    };
+    queries::fit(lent, beat, packet).into()
 }
 
 pub fn likvost_compare(
@@ -596,18 +636,15 @@ pub fn likvost_compare(
 ) -> Compared
     ensures { Stands (IsCompared (node_settings settings) (lent blocks.now votes.now blocks_used votes_used (node_clock clock)) beat one.now two.now) compared_struct result }
 {
-    let compared = queries::compare(
-        node_settings(settings),
-        node_clock(clock),
+    let lent = Lent {
+        settings: settings.into(),
+        clock: clock.into(),
         blocks,
         blocks_used,
         votes,
         votes_used,
-        beat,
-        one,
-        two,
-    );
-    compared_struct(compared)
+    };
+    queries::compare(lent, beat, one, two).into()
 }
 
 // ---- Write: the memory is only read, the buffer is written
@@ -625,16 +662,13 @@ pub fn likvost_write(
 ) -> Written
     ensures { Stands (Writes (node_settings settings) (lent blocks.now votes.now blocks_used votes_used (node_clock clock)) proposal (node_width wide) buffer.old buffer.new) written_struct result }
 {
-    let written = writing::write(
-        node_settings(settings),
-        node_clock(clock),
+    let lent = Lent {
+        settings: settings.into(),
+        clock: clock.into(),
         blocks,
         blocks_used,
         votes,
         votes_used,
-        proposal,
-        node_width(wide),
-        buffer,
-    );
-    written_struct(written)
+    };
+    writing::write(lent, proposal, node_width(wide), buffer).into()
 }

@@ -1,11 +1,11 @@
 // The archive for programs in C: the twelve calls of capi under the names that include/likvost.h declares, with the clauses of capi.
-// Each hands its arguments on as they came, so what capi/specs/Structs says of the answers holds of these.
+// The twelve names and their arguments are the C interface, so they stand here and in capi. Each hands its arguments on as they came, so what capi/specs/Structs says of the answers holds of these.
 #![tactic(auto)]
 
 ghost use Rattle.protocol.specs.Words.{value};
 ghost use Rattle.verdicts.specs.Lent.{lent, lent_at_entry, lent_at_exit};
 ghost use Rattle.answers.specs.Promises.{Opens, Receives, Proposes, Votes, Merges, IsHead, IsDeep, IsFast, IsSettled, IsFit, IsCompared, Writes};
-ghost use Rattle.capi.specs.Structs.{node_settings, node_clock, node_number, node_width, answer_struct, found_struct, fitted_struct, compared_struct, written_struct, Stands};
+ghost use Rattle.capi.specs.Structs.{node_settings, node_clock, node_number, node_width, done_struct, received_struct, block_struct, found_struct, fast_struct, fitted_struct, compared_struct, written_struct, Stands};
 
 use capi::{Answer, Clock, Compared, Fitted, Found, Number, Settings, Written};
 
@@ -21,7 +21,7 @@ pub extern "C" fn likvost_open(
     votes_used: &mut usize,
 ) -> Answer
     ensures { Stands (Opens (node_settings settings) (lent_at_entry blocks blocks_used votes votes_used (node_clock clock))
-        (lent_at_exit blocks blocks_used votes votes_used (node_clock result.clock))) (answer_struct result.clock) result }
+        (lent_at_exit blocks blocks_used votes votes_used (node_clock result.clock))) (done_struct result.clock) result }
 {
     capi::likvost_open(settings, clock, blocks, blocks_used, votes, votes_used)
 }
@@ -38,7 +38,7 @@ pub extern "C" fn likvost_receive(
     packet: &[u8],
 ) -> Answer
     ensures { Stands (Receives (node_settings settings) (lent_at_entry blocks blocks_used votes votes_used (node_clock clock)) beat packet.now
-        (lent_at_exit blocks blocks_used votes votes_used (node_clock result.clock))) (answer_struct result.clock) result }
+        (lent_at_exit blocks blocks_used votes votes_used (node_clock result.clock))) (received_struct result.clock) result }
 {
     capi::likvost_receive(
         settings,
@@ -64,7 +64,7 @@ pub extern "C" fn likvost_propose(
     number: Number,
 ) -> Answer
     ensures { Stands (Proposes (node_settings settings) (lent_at_entry blocks blocks_used votes votes_used (node_clock clock)) beat (value (node_number number))
-        (lent_at_exit blocks blocks_used votes votes_used (node_clock result.clock))) (answer_struct result.clock) result }
+        (lent_at_exit blocks blocks_used votes votes_used (node_clock result.clock))) (block_struct result.clock) result }
 {
     capi::likvost_propose(
         settings,
@@ -89,7 +89,7 @@ pub extern "C" fn likvost_vote(
     beat: u64,
 ) -> Answer
     ensures { Stands (Votes (node_settings settings) (lent_at_entry blocks blocks_used votes votes_used (node_clock clock)) beat
-        (lent_at_exit blocks blocks_used votes votes_used (node_clock result.clock))) (answer_struct result.clock) result }
+        (lent_at_exit blocks blocks_used votes votes_used (node_clock result.clock))) (block_struct result.clock) result }
 {
     capi::likvost_vote(
         settings,
@@ -113,7 +113,7 @@ pub extern "C" fn likvost_merge(
     beat: u64,
 ) -> Answer
     ensures { Stands (Merges (node_settings settings) (lent_at_entry blocks blocks_used votes votes_used (node_clock clock)) beat
-        (lent_at_exit blocks blocks_used votes votes_used (node_clock result.clock))) (answer_struct result.clock) result }
+        (lent_at_exit blocks blocks_used votes votes_used (node_clock result.clock))) (done_struct result.clock) result }
 {
     capi::likvost_merge(
         settings,
@@ -184,7 +184,7 @@ pub extern "C" fn likvost_fast(
     votes_used: usize,
     slot: u64,
 ) -> Found
-    ensures { Stands (IsFast (node_settings settings) (lent blocks.now votes.now blocks_used votes_used (node_clock clock)) slot) found_struct result }
+    ensures { Stands (IsFast (node_settings settings) (lent blocks.now votes.now blocks_used votes_used (node_clock clock)) slot) fast_struct result }
 {
     capi::likvost_fast(
         settings,

@@ -1,6 +1,8 @@
 // Answers the question on standard input.
 #![tactic(auto)]
 
-fn main() {
-    asking::ask(0, 1);
+use asking::Program;
+
+fn main(rt: HostRuntime) {
+    asking::ask(&rt, Program::Chainask)
 }

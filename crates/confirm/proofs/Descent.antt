@@ -14,7 +14,7 @@ use Rattle.protocol.proofs.Confirm.Deep.{late-number, deep-here, deep-next}
 use Rattle.rows.specs.Rows.{row_at}
 use Rattle.subtree_voters.specs.BlockRows.{block_at, blocks_of, parent_row}
 use Rattle.vote_filters.specs.Latest.{selected, votes_of}
-use Rattle.fork_choice.proofs.Tables.{head-number}
+use Rattle.fork_choice.proofs.SoundTables.{head-number}
 use Rattle.fork_choice.proofs.Held.{Held, is_in, lists, parent_is, parent_in, row-pos}
 
 -- from row i the way down ends where it ends from `x`

@@ -1,18 +1,17 @@
 -- The fast block's answer, and the last row with three quarters of the voters. Assumes nothing.
-use Rattle.std.specs.Prelude.{ℕ, zero, suc, ◌*◌, ◌&&◌, cond, List, leb}
+use Rattle.std.specs.Prelude.{ℕ, zero, suc, ◌*◌, ◌&&◌, cond, Option, Some, None, List, leb}
+use Rattle.protocol.specs.declared.Number.{Number}
 use Rattle.protocol.specs.Words.{value}
 use Rattle.protocol.specs.Filters.{Choice, chosen, nothing}
 use Rattle.protocol.specs.Lent.{make_block}
 use Rattle.rows.specs.Rows.{row_at}
 use Rattle.subtree_voters.specs.BlockRows.{block_at}
 use Rattle.fork_choice.specs.Weights.{weight_at_row}
-use Rattle.confirm.specs.declared.Choice.{Choice as CodeChoice}
-use Rattle.confirm.specs.declared.Choice.TheVariants.{Chosen, Nothing}
 
 -- the answer of code: a block's number, or none
-abbrev pub choice_in : CodeChoice → Choice
-choice_in (Chosen x) = chosen (value x)
-choice_in Nothing = nothing
+abbrev pub choice_in : Option Number → Choice
+choice_in (Some x) = chosen (value x)
+choice_in None = nothing
 
 -- the last of the first k rows that is in view and has three quarters of n voters
 unfoldable pub top_choice : List ℕ → List ℕ → ℕ → ℕ → Choice

@@ -16,9 +16,8 @@ use Rattle.protocol.proofs.Calls.Refusal.{unless-done, unless-refused}
 use Rattle.protocol.proofs.Equivocation.Found.{equivocation-found}
 use Rattle.protocol.proofs.Lent.Memory.{lent-true}
 use Rattle.protocol.proofs.Lent.Calls.{receive-lawful, ask-lent}
-use Rattle.answers.specs.Answers.{Value, received, map_answer}
+use Rattle.answers.specs.Answers.{received_of}
 use Rattle.conformance.specs.CodeCompared.{ReceivesFresh, CodeCompared}
-use Rattle.conformance.proofs.Answers.{done-mapped}
 use Rattle.conformance.proofs.Memory.{Healthy, called}
 
 -- ---- what Receive answers on fresh tables is the verdict there
@@ -27,25 +26,19 @@ module _ (s : Settings) (m : Lent) (beat : ℕ) (bytes : List ℕ) where
   on-fresh : Answer Received
   on-fresh = (receive s (places_of m) fresh beat bytes).answer
 
-  is-fresh : {r : Answer Value} → ReceivesFresh s m beat bytes r → r ≡ map_answer received on-fresh
+  is-fresh : {r : Answer Received} → ReceivesFresh s m beat bytes r → on-fresh ≡ r
   unfolding on-fresh
   is-fresh F =
       let H : Healthy s (places_of m) F.tables = record { places = F.places; sound = F.sound } in
-      sym F.is ∙ (called s (places_of m) fresh F.tables H (sym F.is_fresh) received _ (receive-lawful s beat bytes) F.left F.answer F.receives).answer
+      sym (called s (places_of m) fresh F.tables H (sym F.is_fresh) received_of _ (receive-lawful s beat bytes) F.left F.answer F.receives).answer ∙ F.is
 
   refused-fresh : (k : Refusal) → ReceivesFresh s m beat bytes (refused k) → fresh_verdict s (places_of m) beat bytes ≡ refuse k
   unfolding on-fresh receive fresh_verdict
-  refused-fresh k F = (unless-refused (fresh_verdict s (places_of m) beat bytes) fresh _ _ k (only on-fresh (is-fresh F))).0
-    where
-      only : (o : Answer Received) → refused k ≡ map_answer received o → o ≡ refused k
-      only (refused j) e = unfold map_answer in (let z : k ≡ j = cc in ap refused (sym z))
-      only (done a) e = unfold map_answer in (let z : ◌≡◌ {A = ℕ} 0 1 = cc in absurd (omega arith))
+  refused-fresh k F = (unless-refused (fresh_verdict s (places_of m) beat bytes) fresh _ _ k (is-fresh F)).0
 
-  done-fresh : (a : Value) → ReceivesFresh s m beat bytes (done a) → fresh_verdict s (places_of m) beat bytes ≡ pass
+  done-fresh : (a : Received) → ReceivesFresh s m beat bytes (done a) → fresh_verdict s (places_of m) beat bytes ≡ pass
   unfolding on-fresh receive fresh_verdict
-  done-fresh a F =
-      let d = done-mapped received on-fresh a (sym (is-fresh F)) in
-      (unless-done (fresh_verdict s (places_of m) beat bytes) fresh _ _ d.0 d.1).0
+  done-fresh a F = (unless-done (fresh_verdict s (places_of m) beat bytes) fresh _ _ a (is-fresh F)).0
 
 -- ---- Compare on lent memory
 

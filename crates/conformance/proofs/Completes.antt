@@ -6,11 +6,10 @@ use native.Mathlib.Nat.{mod-lt}
 use native.Mathlib.Omega.{arith}
 use lib.Dec.{eqb, T}
 use borrow.Author.Tests.{eqb-true, eqb-false}
+use Rattle.std.specs.Prelude.{Ok}
 use Rattle.protocol.specs.declared.Width.TheVariants.{Wide}
 use Rattle.protocol.specs.Lent.{Lent, open_lent}
 use Rattle.protocol.proofs.Lent.Open.{open-lent-answer}
-use Rattle.answers.specs.Answers.{nothing_more, map_answer}
-use Rattle.answers.specs.declared.Answer.TheVariants as answer
 use Rattle.answers.specs.Promises.{Opens}
 use Rattle.resilience.specs.Run as model
 use Rattle.resilience.specs.Run.{Step, Begin, Due, Gossip, Proposal, Receive, World, Run, settings, is_honest, allowed, step}
@@ -58,11 +57,11 @@ module _ (D : Deployment) (O : Opened (network D)) where
   memory : ℕ → Lent
   memory i = (open_lent (settings (network D) i) (D.lent i)).lent
 
-  opens : (i : ℕ) → T (is_honest (network D) i) → Opens (settings (network D) i) (D.lent i) (memory i) answer.Done
-  unfolding memory Opened map_answer
+  opens : (i : ℕ) → T (is_honest (network D) i) → Opens (settings (network D) i) (D.lent i) (memory i) (Ok tt)
+  unfolding memory Opened
   opens i h = record {
     memory = refl;
-    answer = sym (ap (map_answer (λ t. nothing_more)) (open-lent-answer (settings (network D) i) (D.lent i) ∙ O i h));
+    answer = sym (open-lent-answer (settings (network D) i) (D.lent i) ∙ O i h);
   }
 
   completed : (v : World) → Run (network D) v → (w : State) × CodeRun D w × (decoded D w ≡ v)

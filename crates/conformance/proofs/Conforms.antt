@@ -4,8 +4,8 @@ use mathlib.Core.Path.{◌≡◌, refl, sym, subst}
 use mathlib.Core.Bool.{Bool, true, false, cond}
 use mathlib.Core.List.{[]}
 use lib.Dec.{T}
+use Rattle.std.specs.Prelude.{Ok}
 use Rattle.protocol.specs.Lent.{Lent, node_of}
-use Rattle.answers.specs.declared.Answer.TheVariants as answer
 use Rattle.answers.specs.Promises.{Opens}
 use Rattle.resilience.specs.Run as model
 use Rattle.resilience.specs.Run.{World, Run, Onward, settings, is_honest}
@@ -33,7 +33,7 @@ pub record Conforming (D : Deployment) (w : State) : Type 0 where
 -- ---- the start
 
 module _ (D : Deployment) (memory : ℕ → Lent)
-    (O : (i : ℕ) → T (is_honest (network D) i) → Opens (settings (network D) i) (D.lent i) (memory i) answer.Done) where
+    (O : (i : ℕ) → T (is_honest (network D) i) → Opens (settings (network D) i) (D.lent i) (memory i) (Ok tt)) where
   -- an honest node is as Open leaves it
   starts : (i : ℕ) (b : Bool) → is_honest (network D) i ≡ b
       → cond b (node_of (memory i)) ((model.start (network D)).node i) ≡ (model.start (network D)).node i

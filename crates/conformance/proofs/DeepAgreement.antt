@@ -3,18 +3,16 @@ use Prim.Native.Nat.{ℕ, ◌%◌}
 use mathlib.Core.Path.{◌≡◌, sym, ap, ◌∙◌, subst}
 use mathlib.Core.Bool.{true}
 use native.Mathlib.Omega.{arith}
+use Rattle.std.specs.Prelude.{Result, Ok, Err}
 use Rattle.protocol.specs.declared.Number.{Number}
 use Rattle.protocol.specs.Words.{value}
-use Rattle.protocol.specs.Filters.{chosen}
 use Rattle.protocol.specs.Refusal.{done}
 use Rattle.protocol.specs.Calls.Vote.{vote}
 use Rattle.protocol.specs.Calls.Query.{deep_of, deep_query}
 use Rattle.protocol.specs.Lent.{ask_lent}
 use Rattle.protocol.proofs.Lent.Calls.{vote-lawful}
-use Rattle.answers.specs.Answers.{block, found_of, map_answer}
-use Rattle.answers.specs.declared.Answer.TheVariants as answer
-use Rattle.answers.specs.declared.Found.{Found}
-use Rattle.answers.specs.declared.Found.TheVariants as found
+use Rattle.verdicts.specs.declared.Refusal.{Refusal}
+use Rattle.answers.specs.Answers.{answered}
 use Rattle.resilience.specs.Run.{settings, is_honest, Due}
 use Rattle.resilience.specs.Resilience.{Opened}
 use Rattle.resilience.specs.DeepAgreement.{HonestBlock, Agreed, JustVoted, DeepAfterVote, DeepAnswered, DeepWhileJoined}
@@ -29,7 +27,6 @@ use Rattle.conformance.specs.CodeRun.{votes}
 use Rattle.conformance.specs.CodeDeepAgreement.{CodeJustVoted, CodeDeepAfterVote, CodeDeepAgreement, CodeDeepAnswered}
 use Rattle.conformance.specs.CodeFlooding.{CodeFloodAgreement}
 use Rattle.conformance.specs.CodeAsynchrony.{CodeAsynchronyAgreement}
-use Rattle.conformance.proofs.Answers.{done-mapped}
 use Rattle.conformance.proofs.Memory.{called}
 use Rattle.conformance.proofs.Steps.{Follows, follows}
 use Rattle.conformance.proofs.Conforms.{Conforming, conforming, going}
@@ -50,16 +47,13 @@ module _ (D : Deployment) (i a : ℕ) (u : State) (A : CodeJustVoted D i a u) wh
   F : Follows D A.before (Due i A.number) u
   F =
       subst (λ (o : State). Follows D A.before (Due i A.number) o) (sym A.left)
-      (follows D A.before C.healthy (Due i A.number) _ (is_true _ A.due) (votes i A.number A.memory (answer.Block A.block) phase A.vote))
+      (follows D A.before C.healthy (Due i A.number) _ (is_true _ A.due) (votes i A.number A.memory (Ok A.block) phase A.vote))
 
   replied : (vote (settings (network D) i) ((network D).places i) ((decoded D A.before).node i) A.before.beat).answer ≡ done (value A.block)
   replied =
       let s = settings (network D) i in
-      let K = called s ((network D).places i) ((decoded D A.before).node i) (A.before.memory i) (C.healthy i honest)
-      (holds D A.before C.healthy i honest) block (λ p x. vote s p x A.before.beat) (vote-lawful s A.before.beat) A.memory (answer.Block A.block) A.vote in
-      let r = done-mapped block _ (block (value A.block)) (sym K.answer) in
-      let e : r.0 ≡ value A.block = cc in
-      r.1 ∙ ap done e
+      sym (called s ((network D).places i) ((decoded D A.before).node i) (A.before.memory i) (C.healthy i honest)
+      (holds D A.before C.healthy i honest) value (λ p x. vote s p x A.before.beat) (vote-lawful s A.before.beat) A.memory (Ok A.block) A.vote).answer
 
   just-voted : JustVoted (network D) i a (decoded D u)
   just-voted = record {
@@ -80,28 +74,24 @@ module _ (D : Deployment) (i a : ℕ) (u : State) (A : CodeJustVoted D i a u) wh
 
 -- ---- the claims
 
-answers-block : (r : Found) (d : ℕ) → found_of r ≡ done (chosen d) → (e : Number) × (r ≡ found.Block e)
-answers-block (found.Block b) d e = (b, λ i. found.Block b)
-answers-block found.Nothing d e = let z : ◌≡◌ {A = ℕ} 0 1 = cc in absurd (omega arith)
-answers-block (found.Refused k) d e = let z : ◌≡◌ {A = ℕ} 0 1 = cc in absurd (omega arith)
+answers-block : (r : Result Number Refusal) (d : ℕ) → answered value r ≡ done d → (e : Number) × (r ≡ Ok e)
+answers-block (Ok b) d e = (b, λ i. Ok b)
+answers-block (Err k) d e = let z : ◌≡◌ {A = ℕ} 0 1 = cc in absurd (omega arith)
 
 pub code-deep-answered : CodeDeepAnswered
-unfolding CodeDeepAnswered DeepAnswered map_answer
+unfolding CodeDeepAnswered DeepAnswered
 code-deep-answered D i a u A r P =
     answers-block r (deep_of (settings (network D) i) ((decoded D u).node i) a)
-    (P ∙ ap (map_answer chosen) (deep-asked D i a u A ∙ deep-answered (network D) i a (decoded D u) (just-voted D i a u A)))
+    (P ∙ deep-asked D i a u A ∙ deep-answered (network D) i a (decoded D u) (just-voted D i a u A))
 
 decoded-deep : (D : Deployment) (w : State) (i a d : ℕ) → CodeDeepAfterVote D w i a d → DeepAfterVote (network D) (decoded D w) i a d
 decoded-deep D w i a d H =
     let A = H.just_voted in
     let u = H.state in
-    let r = done-mapped chosen _ (chosen (value H.number)) (sym H.deep) in
-    let f : r.0 ≡ value H.number = cc in
-    let e : r.0 ≡ d = f ∙ sym H.block in
     record {
       world = decoded D u;
       just_voted = just-voted D i a u A;
-      deep = sym (deep-asked D i a u A) ∙ r.1 ∙ ap done e;
+      deep = sym (deep-asked D i a u A) ∙ sym H.deep ∙ ap done (sym H.block);
       onward = (going D u w (F D i a u A).healthy H.onward).onward;
     }
 

@@ -19,7 +19,7 @@ use Rattle.protocol.proofs.Lent.Memory.{lent-true}
 use Rattle.protocol.proofs.Lent.Calls.{receive-lawful, ask-lent}
 use Rattle.protocol.proofs.Store.Sound.{sound-true}
 use Rattle.protocol.proofs.Figures.{figures-found}
-use Rattle.answers.specs.Answers.{received}
+use Rattle.answers.specs.Answers.{received_of}
 use Rattle.conformance.specs.CodeFigures.{CodeFiguresFound}
 use Rattle.conformance.proofs.Memory.{called, wrote}
 
@@ -51,7 +51,7 @@ code-figures-found s m beat bytes r F = (
         λ profile m' S' holds alike b v y a R old new w room W.
             let s' = keeping_to profile s in
             let N = sound-true s' (places_of m') (node_of m') (lent-true s' m' S').node in
-            let C = called s' (places_of m') (node_of m) m' (record { places = refl; sound = S' }) (sym holds) received (λ p x. receive s' p x beat bytes) (receive-lawful s' beat bytes) y a R in
+            let C = called s' (places_of m') (node_of m) m' (record { places = refl; sound = S' }) (sym holds) received_of (λ p x. receive s' p x beat bytes) (receive-lawful s' beat bytes) y a R in
             let e = wrote s' (places_of m') (receive s' (places_of m') (node_of m) beat bytes).node y C.healthy (sym C.node) false Wide old in
             let kb = length-rows_of make_block m.blocks m.blocks_used in
             let kv = length-rows_of make_vote m.votes m.votes_used in

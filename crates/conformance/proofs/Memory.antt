@@ -1,22 +1,21 @@
 -- The memory of an honest node along a run: it stays sound and has the places it was lent, and a call on it is the call on the node that it
 -- holds. Assumes nothing.
 use Prim.Native.Nat.{ℕ}
-use mathlib.Core.Path.{◌≡◌, refl, sym, ap, ◌∙◌}
+use mathlib.Core.Path.{◌≡◌, sym, ap, ◌∙◌}
 use mathlib.Core.Bool.{Bool, true}
 use mathlib.Core.List.{List}
-use native.Mathlib.Omega.{arith}
+use Rattle.std.specs.Prelude.{Result, Ok}
 use Rattle.protocol.specs.declared.Settings.{Settings}
 use Rattle.protocol.specs.declared.Width.{Width}
 use Rattle.protocol.specs.Store.{Places, Node}
-use Rattle.protocol.specs.Refusal.{Outcome, Answer, refused, done}
+use Rattle.protocol.specs.Refusal.{Outcome, done}
 use Rattle.protocol.specs.Calls.Open.{open_node}
 use Rattle.protocol.specs.Calls.Write.{write}
 use Rattle.protocol.specs.Lent.{Lent, places_of, node_of, lent_sound, open_lent, call_lent, write_lent}
 use Rattle.protocol.proofs.Lent.Open.{open_lent_lem, open-lent-answer, open-lent-node}
 use Rattle.protocol.proofs.Lent.Calls.{Lawful, call-lent, write-lent}
-use Rattle.answers.specs.Answers.{Value, nothing_more, answer_of, map_answer}
-use Rattle.answers.specs.declared.Answer as answers
-use Rattle.answers.specs.declared.Answer.TheVariants as answer
+use Rattle.verdicts.specs.declared.Refusal as verdicts
+use Rattle.answers.specs.Answers.{answered}
 use Rattle.answers.specs.Promises.{Leaves, Opens}
 
 -- sound memory with these places
@@ -26,14 +25,9 @@ pub record Healthy (s : Settings) (pl : Places) (m : Lent) : Type 0 where
 
 -- ---- Open
 
-module _ (s : Settings) (old m : Lent) (O : Opens s old m answer.Done) where
-  done-only : (o : Answer Unit) → done nothing_more ≡ map_answer (λ a. nothing_more) o → o ≡ done tt
-  unfolding map_answer
-  done-only (refused k) e = let z : ◌≡◌ {A = ℕ} 0 1 = cc in absurd (omega arith)
-  done-only (done tt) e = refl
-
+module _ (s : Settings) (old m : Lent) (O : Opens s old m (Ok tt)) where
   lent-done : (open_lent s old).answer ≡ done tt
-  lent-done = done-only (open_lent s old).answer O.answer
+  lent-done = sym O.answer
 
   pub opened-done : (open_node s (places_of old) (node_of old)).answer ≡ done tt
   opened-done = sym (open-lent-answer s old) ∙ lent-done
@@ -48,22 +42,22 @@ module _ (s : Settings) (old m : Lent) (O : Opens s old m answer.Done) where
 
 -- ---- the other calls
 
--- the memory and the answer after the call of which o is the outcome
-pub record Called (s : Settings) (pl : Places) {A : Type 0} (value : A → Value) (o : Outcome A) (m : Lent) (r : answers.Answer) : Type 0 where
+-- the memory and the answer after the call of which o is the outcome; `of` tells what the values of code are
+pub record Called (s : Settings) (pl : Places) {A B : Type 0} (of : A → B) (o : Outcome B) (m : Lent) (r : Result A verdicts.Refusal) : Type 0 where
   pub node : node_of m ≡ o.node
-  pub answer : answer_of r ≡ map_answer value o.answer
+  pub answer : answered of r ≡ o.answer
   pub healthy : Healthy s pl m
 
 -- on the memory m, which holds the node x
 module _ (s : Settings) (pl : Places) (x : Node) (m : Lent) (H : Healthy s pl m) (holds : x ≡ node_of m) where
-  pub called : {A : Type 0} (value : A → Value) (call : Places → Node → Outcome A) → Lawful s call → (y : Lent) (r : answers.Answer)
-      → Leaves value (call_lent s call m) y r → Called s pl value (call pl x) y r
-  called value call L y r P =
+  pub called : {A B : Type 0} (of : A → B) (call : Places → Node → Outcome B) → Lawful s call → (y : Lent) (r : Result A verdicts.Refusal)
+      → Leaves of (call_lent s call m) y r → Called s pl of (call pl x) y r
+  called of call L y r P =
       let C = call-lent s call m L H.sound in
       let same : call (places_of m) (node_of m) ≡ call pl x = λ k. call (H.places k) (sym holds k) in
       record {
         node = ap node_of P.memory ∙ C.node ∙ ap (λ o. o.node) same;
-        answer = P.answer ∙ ap (map_answer value) (C.answer ∙ ap (λ o. o.answer) same);
+        answer = P.answer ∙ C.answer ∙ ap (λ o. o.answer) same;
         healthy = record {
           places = ap places_of P.memory ∙ C.places ∙ H.places;
           sound = ap (lent_sound s) P.memory ∙ C.sound;

@@ -6,8 +6,10 @@ use mathlib.Core.Bool.{Bool, true, false, false≢true, ◌||◌, cond}
 use mathlib.Core.List.{List, [], ◌∷◌}
 use lib.Dec.{eqb}
 use borrow.Author.Tests.{eqb-true}
+use Rattle.std.specs.Prelude.{Result, Ok, Err}
+use Rattle.protocol.specs.declared.Number.{Number}
 use Rattle.protocol.specs.declared.Width.{Width}
-use Rattle.protocol.specs.Words.{number_as}
+use Rattle.protocol.specs.Words.{value, number_as}
 use Rattle.protocol.proofs.Words.{join-halves}
 use Rattle.protocol.specs.declared.Settings.{Settings}
 use Rattle.protocol.specs.Lists.{any_pass, all_pass}
@@ -15,6 +17,7 @@ use Rattle.protocol.specs.Store.{Places, Node}
 use Rattle.protocol.specs.Refusal.{by, by_entry, Test, refused, done, Outcome}
 use Rattle.protocol.specs.Refusal as rules
 use Rattle.protocol.specs.Calls.Receive.{receive_tests}
+use Rattle.protocol.specs.Calls.Receive as received
 use Rattle.protocol.specs.Calls.Fit.{packet_tests}
 use Rattle.protocol.specs.Calls.Propose.{propose_tests}
 use Rattle.protocol.specs.Calls.Vote.{vote_tests}
@@ -27,11 +30,8 @@ use Rattle.protocol.proofs.Calls.Refusal.{refused-has, Decided, carried, decline
 use Rattle.verdicts.specs.declared.Refusal.{Refusal}
 use Rattle.verdicts.specs.declared.Refusal.TheVariants as refusal
 use Rattle.verdicts.specs.Verdict.{refusal_of}
-use Rattle.answers.specs.Answers.{Value, nothing_more, received, block, answer_of, written_of, map_answer}
-use Rattle.answers.specs.declared.Answer.{Answer}
-use Rattle.answers.specs.declared.Answer.TheVariants as answer
-use Rattle.answers.specs.declared.Written.{Written}
-use Rattle.answers.specs.declared.Written.TheVariants as written
+use Rattle.answers.specs.declared.Received.{Received}
+use Rattle.answers.specs.Answers.{answered, nothing_of, received_of}
 use Rattle.answers.specs.Promises.{Leaves, Receives, Proposes, Votes, Merges, Writes}
 
 -- ---- refusals
@@ -63,37 +63,27 @@ refusal-of (by_entry k i) h = go (either (eqb k 9) (eqb k 20) h)
     go (inl e) = (refusal.BadBlock i, ap (λ (j : ℕ). by_entry j i) (sym (eqb-true k 9 e)))
     go (inr e) = (refusal.BadVote i, ap (λ (j : ℕ). by_entry j i) (sym (eqb-true k 20 e)))
 
--- ---- calls that change the memory
+-- ---- answers
 
-answer_with : Value → Answer
-answer_with nothing_more = answer.Done
-answer_with (received t) = answer.Received (record { new_blocks = t.new_blocks; new_votes = t.new_votes; viewed = t.viewed })
-answer_with (block b) = answer.Block (number_as b)
-
-answer-with : (a : Value) → answer_of (answer_with a) ≡ done a
-unfolding answer_with
-answer-with nothing_more = refl
-answer-with (received t) = refl
-answer-with (block b) = ap (λ (n : ℕ). done (block n)) (join-halves b)
-
-module _ {A : Type 0} (value : A → Value) where
-  abbrev HasAnswer : rules.Answer A → Type 0
-  HasAnswer o = (r : Answer) × (answer_of r ≡ map_answer value o)
+-- `of` tells what the values of code are, and every value has one of code
+module _ {A B : Type 0} (of : A → B) (back : (b : B) → (a : A) × (of a ≡ b)) where
+  abbrev HasAnswer : rules.Answer B → Type 0
+  HasAnswer o = (r : Result A Refusal) × (answered of r ≡ o)
 
   refused-answer : (k : rules.Refusal) → is_refusal k ≡ true → HasAnswer (refused k)
-  unfolding map_answer
-  refused-answer k h = let f = refusal-of k h in (answer.Refused f.0, ap refused f.1)
+  refused-answer k h = let f = refusal-of k h in (Err f.0, ap refused f.1)
 
-  done-answer : (a : A) → HasAnswer (done a)
-  unfolding map_answer
-  done-answer a = (answer_with (value a), answer-with (value a))
+  done-answer : (b : B) → HasAnswer (done b)
+  done-answer b = let g = back b in (Ok g.0, ap done g.1)
 
-  decided-answer : (ts : List Test) (a : A) (o : rules.Answer A) → all_pass (λ t. is_refusal t.refusal) ts ≡ true → Decided ts a o → HasAnswer o
-  decided-answer ts a o h (carried f e) = rw e (done-answer a)
-  decided-answer ts a o h (declined k F e) = rw e (refused-answer k (refused-has is_refusal ts k h F))
+  decided-answer : (ts : List Test) (b : B) (o : rules.Answer B) → all_pass (λ t. is_refusal t.refusal) ts ≡ true → Decided ts b o → HasAnswer o
+  decided-answer ts b o h (carried f e) = rw e (done-answer b)
+  decided-answer ts b o h (declined k F e) = rw e (refused-answer k (refused-has is_refusal ts k h F))
 
-  module _ (s : Settings) (call : Places → Node → Outcome A) (m : Lent) (f : HasAnswer (call (places_of m) (node_of m)).answer) where
-    left-answer : (o : rules.Answer A) (x : Node) → HasAnswer o → HasAnswer (leave o x m).answer
+  -- ---- calls that change the memory
+
+  module _ (s : Settings) (call : Places → Node → Outcome B) (m : Lent) (f : HasAnswer (call (places_of m) (node_of m)).answer) where
+    left-answer : (o : rules.Answer B) (x : Node) → HasAnswer o → HasAnswer (leave o x m).answer
     unfolding leave
     left-answer (refused k) x g = g
     left-answer (done a) x g = g
@@ -103,43 +93,46 @@ module _ {A : Type 0} (value : A → Value) where
     on-answer true = left-answer (call (places_of m) (node_of m)).answer (call (places_of m) (node_of m)).node f
     on-answer false = refused-answer (by 6) refl
 
-    met : (y : Lent) × (r : Answer) × Leaves value (call_lent s call m) y r
+    met : (y : Lent) × (r : Result A Refusal) × Leaves of (call_lent s call m) y r
     unfolding call_lent
     met = let g = on-answer (lent_sound s m) in ((call_lent s call m).lent, g.0, record { memory = refl; answer = g.1 })
 
+received-back : (t : received.Received) → (a : Received) × (received_of a ≡ t)
+received-back t = (record { new_blocks = t.new_blocks; new_votes = t.new_votes; viewed = t.viewed }, refl)
+
+number-back : (b : ℕ) → (a : Number) × (value a ≡ b)
+number-back b = (number_as b, join-halves b)
+
+nothing-back : (b : Unit) → (a : Unit) × (nothing_of a ≡ b)
+nothing-back tt = (tt, refl)
+
+length-back : (n : ℕ) → (a : ℕ) × (a ≡ n)
+length-back n = (n, refl)
+
 module _ (s : Settings) (m : Lent) where
-  pub receive-met : (beat : ℕ) (bytes : List ℕ) → (y : Lent) × (r : Answer) × Receives s m beat bytes y r
+  pub receive-met : (beat : ℕ) (bytes : List ℕ) → (y : Lent) × (r : Result Received Refusal) × Receives s m beat bytes y r
   unfolding receive_tests packet_tests any_pass all_pass
-  receive-met beat bytes = met received s _ m (decided-answer received _ _ _ refl (receive-decided s (places_of m) (node_of m) beat bytes))
+  receive-met beat bytes =
+      met received_of received-back s _ m (decided-answer received_of received-back _ _ _ refl (receive-decided s (places_of m) (node_of m) beat bytes))
 
-  pub propose-met : (beat number : ℕ) → (y : Lent) × (r : Answer) × Proposes s m beat number y r
+  pub propose-met : (beat number : ℕ) → (y : Lent) × (r : Result Number Refusal) × Proposes s m beat number y r
   unfolding propose_tests any_pass all_pass
-  propose-met beat number = met block s _ m (decided-answer block _ _ _ refl (propose-decided s (places_of m) (node_of m) beat number))
+  propose-met beat number = met value number-back s _ m (decided-answer value number-back _ _ _ refl (propose-decided s (places_of m) (node_of m) beat number))
 
-  pub vote-met : (beat : ℕ) → (y : Lent) × (r : Answer) × Votes s m beat y r
+  pub vote-met : (beat : ℕ) → (y : Lent) × (r : Result Number Refusal) × Votes s m beat y r
   unfolding vote_tests any_pass all_pass
-  vote-met beat = met block s _ m (decided-answer block _ _ _ refl (vote-decided s (places_of m) (node_of m) beat))
+  vote-met beat = met value number-back s _ m (decided-answer value number-back _ _ _ refl (vote-decided s (places_of m) (node_of m) beat))
 
-  pub merge-met : (beat : ℕ) → (y : Lent) × (r : Answer) × Merges s m beat y r
+  pub merge-met : (beat : ℕ) → (y : Lent) × (r : Result Unit Refusal) × Merges s m beat y r
   unfolding merge_tests any_pass all_pass
-  merge-met beat = met (λ t. nothing_more) s _ m (decided-answer (λ t. nothing_more) _ _ _ refl (merge-decided s (places_of m) (node_of m) beat))
+  merge-met beat = met nothing_of nothing-back s _ m (decided-answer nothing_of nothing-back _ _ _ refl (merge-decided s (places_of m) (node_of m) beat))
 
   -- ---- Write
 
-  abbrev HasLength : rules.Answer ℕ → Type 0
-  HasLength o = (r : Written) × (written_of r ≡ o)
-
-  refused-length : (k : rules.Refusal) → is_refusal k ≡ true → HasLength (refused k)
-  refused-length k h = let f = refusal-of k h in (written.Refused f.0, ap refused f.1)
-
-  decided-length : (ts : List Test) (n : ℕ) (o : rules.Answer ℕ) → all_pass (λ t. is_refusal t.refusal) ts ≡ true → Decided ts n o → HasLength o
-  decided-length ts n o h (carried f e) = (written.Bytes n, sym e)
-  decided-length ts n o h (declined k F e) = rw e (refused-length k (refused-has is_refusal ts k h F))
-
-  pub write-met : (proposal : Bool) (width : Width) (old : List ℕ) → (new : List ℕ) × (r : Written) × Writes s m proposal width old new r
+  pub write-met : (proposal : Bool) (width : Width) (old : List ℕ) → (new : List ℕ) × (r : Result ℕ Refusal) × Writes s m proposal width old new r
   unfolding write_lent write_tests any_pass all_pass
   write-met proposal width old = let g = go (lent_sound s m) in (_, g.0, record { buffer = refl; answer = g.1 })
     where
-      go : (b : Bool) → HasLength (cond b (write s (places_of m) (node_of m) proposal width old) (record { answer = refused (by 6); buffer = old })).answer
-      go true = decided-length _ _ _ refl (write-decided s (places_of m) (node_of m) proposal width old)
-      go false = refused-length (by 6) refl
+      go : (b : Bool) → HasAnswer (λ n. n) length-back (cond b (write s (places_of m) (node_of m) proposal width old) (record { answer = refused (by 6); buffer = old })).answer
+      go true = decided-answer (λ n. n) length-back _ _ _ refl (write-decided s (places_of m) (node_of m) proposal width old)
+      go false = refused-answer (λ n. n) length-back (by 6) refl

@@ -3,9 +3,9 @@ use Prim.Native.Nat.{ℕ}
 use mathlib.Core.Path.{◌≡◌, refl, sym, ap, ◌∙◌, subst}
 use mathlib.Core.Bool.{Bool, true, false}
 use mathlib.Core.List.{List}
+use Rattle.std.specs.Prelude.{Result}
 use Rattle.protocol.specs.declared.Settings.{Settings}
 use Rattle.protocol.specs.declared.Width.{Width}
-use Rattle.protocol.specs.Filters.{chosen}
 use Rattle.protocol.specs.Store.{Places, Node}
 use Rattle.protocol.specs.Sound.{sound}
 use Rattle.protocol.specs.Refusal.{Answer, Outcome}
@@ -24,14 +24,12 @@ use Rattle.protocol.proofs.Calls.Open.{opened as opened-fresh}
 use Rattle.protocol.proofs.Lent.Memory.{lent-true}
 use Rattle.protocol.proofs.Lent.Calls.{Lawful, receive-lawful, propose-lawful, vote-lawful, merge-lawful, ask-lent}
 use Rattle.protocol.proofs.Rack.AsLoom.{Roomier, receive-same, propose-same, vote-same, merge-same, head-same, deep-same, fast-same, settled_same, fit_same, compare_same, write_same}
-use Rattle.answers.specs.declared.Answer as answers
-use Rattle.answers.specs.declared.Written as written
-use Rattle.answers.specs.Answers.{Value, nothing_more, received, block, answer_of, written_of, map_answer}
+use Rattle.verdicts.specs.declared.Refusal.{Refusal}
+use Rattle.answers.specs.Answers.{answered}
 use Rattle.answers.specs.Promises.{Leaves, Writes}
-use Rattle.conformance.specs.CodeCallList.{Promised}
+use Rattle.conformance.specs.CodeCallList.{Found, Meant, meant_by, answer_of, Promised}
 use Rattle.conformance.specs.CodeRack.{SameCalls, opened, then_call, CodeRackAsLoom}
 use Rattle.conformance.specs.CodeRackPackets.{CodeRackPacketsAsLoom}
-use Rattle.conformance.proofs.Answers.{refused-mapped}
 use Rattle.conformance.proofs.Memory.{Healthy, opened-done, opened-node, opened-healthy, called, wrote}
 
 module _ (s : Settings) where
@@ -57,19 +55,19 @@ module _ (s : Settings) where
 
     -- ---- one call
 
-    record Alike (next next' : Lent) (r r' : answers.Answer) : Type 0 where
+    record Alike (c : Call) (next next' : Lent) (r r' : Result (Found c) Refusal) : Type 0 where
       beside : Beside next next'
-      answers : answer_of r ≡ answer_of r'
+      answers : answer_of c r ≡ answer_of c r'
 
-    alike : {A : Type 0} (value : A → Value) (call call' : Places → Node → Outcome A) → Lawful s call → Lawful (as_loom s) call'
+    alike : (c : Call) (call call' : Places → Node → Outcome (Meant c)) → Lawful s call → Lawful (as_loom s) call'
         → (refused_by by_room (call (places_of m) x).answer ≡ false → call (places_of m) x ≡ call' (places_of m') x)
-        → (next next' : Lent) (r r' : answers.Answer) → Leaves value (call_lent s call m) next r → Leaves value (call_lent (as_loom s) call' m') next' r'
-        → refused_by by_room (answer_of r) ≡ false → Alike next next' r r'
-    alike value call call' L L' f next next' r r' P P' n =
-        let C = called s (places_of m) x m on-rack refl value call L next r P in
-        let C' = called (as_loom s) (places_of m') x m' on-loom B.same value call' L' next' r' P' in
-        let o = call (places_of m) x in
-        let e = f (sym (refused-mapped value by_room o.answer) ∙ sym (ap (refused_by by_room) C.answer) ∙ n) in
+        → (next next' : Lent) (r r' : Result (Found c) Refusal)
+        → Leaves (meant_by c) (call_lent s call m) next r → Leaves (meant_by c) (call_lent (as_loom s) call' m') next' r'
+        → refused_by by_room (answer_of c r) ≡ false → Alike c next next' r r'
+    alike c call call' L L' f next next' r r' P P' n =
+        let C = called s (places_of m) x m on-rack refl (meant_by c) call L next r P in
+        let C' = called (as_loom s) (places_of m') x m' on-loom B.same (meant_by c) call' L' next' r' P' in
+        let e = f (sym (ap (refused_by by_room) C.answer) ∙ n) in
         record {
           beside = record {
             rack = C.healthy.sound;
@@ -79,22 +77,22 @@ module _ (s : Settings) where
                 (subst (λ (p : Places). Roomier s (places_of m) p) (sym C'.healthy.places) B.roomier);
             same = C.node ∙ ap (λ q. q.node) e ∙ sym C'.node;
           };
-          answers = C.answer ∙ ap (λ q. map_answer value q.answer) e ∙ sym C'.answer;
+          answers = C.answer ∙ ap (λ q. q.answer) e ∙ sym C'.answer;
         }
 
-    next-alike : (c : Call) (next next' : Lent) (r r' : answers.Answer) → Promised s m c next r → Promised (as_loom s) m' c next' r'
-        → refused_by by_room (answer_of r) ≡ false → Alike next next' r r'
+    next-alike : (c : Call) (next next' : Lent) (r r' : Result (Found c) Refusal) → Promised s m c next r → Promised (as_loom s) m' c next' r'
+        → refused_by by_room (answer_of c r) ≡ false → Alike c next next' r r'
     next-alike (Receive beat bytes) =
-        alike received (λ p y. receiving.receive s p y beat bytes) (λ p y. receiving.receive (as_loom s) p y beat bytes)
+        alike (Receive beat bytes) (λ p y. receiving.receive s p y beat bytes) (λ p y. receiving.receive (as_loom s) p y beat bytes)
         (receive-lawful s beat bytes) (receive-lawful (as_loom s) beat bytes) (receive-same B.roomier x node-sound beat bytes)
     next-alike (Propose beat number) =
-        alike block (λ p y. proposing.propose s p y beat number) (λ p y. proposing.propose (as_loom s) p y beat number)
+        alike (Propose beat number) (λ p y. proposing.propose s p y beat number) (λ p y. proposing.propose (as_loom s) p y beat number)
         (propose-lawful s beat number) (propose-lawful (as_loom s) beat number) (propose-same B.roomier x node-sound beat number)
     next-alike (Vote beat) =
-        alike block (λ p y. voting.vote s p y beat) (λ p y. voting.vote (as_loom s) p y beat)
+        alike (Vote beat) (λ p y. voting.vote s p y beat) (λ p y. voting.vote (as_loom s) p y beat)
         (vote-lawful s beat) (vote-lawful (as_loom s) beat) (vote-same B.roomier x node-sound beat)
     next-alike (Merge beat) =
-        alike (λ a. nothing_more) (λ p y. merging.merge s p y beat) (λ p y. merging.merge (as_loom s) p y beat)
+        alike (Merge beat) (λ p y. merging.merge s p y beat) (λ p y. merging.merge (as_loom s) p y beat)
         (merge-lawful s beat) (merge-lawful (as_loom s) beat) (merge-same B.roomier x node-sound beat)
 
     -- ---- a question, and Write
@@ -102,8 +100,8 @@ module _ (s : Settings) where
     asked-alike : {A : Type 0} (ask ask' : Places → Node → Answer A) → ask (places_of m) x ≡ ask' (places_of m') x → ask_lent s ask m ≡ ask_lent (as_loom s) ask' m'
     asked-alike ask ask' e = ask-lent s ask m B.rack ∙ e ∙ ap (ask' (places_of m')) B.same ∙ sym (ask-lent (as_loom s) ask' m' B.loom)
 
-    written-alike : (proposal : Bool) (width : Width) (old new new' : List ℕ) (r r' : written.Written)
-        → Writes s m proposal width old new r → Writes (as_loom s) m' proposal width old new' r' → (written_of r ≡ written_of r') × (new ≡ new')
+    written-alike : (proposal : Bool) (width : Width) (old new new' : List ℕ) (r r' : Result ℕ Refusal)
+        → Writes s m proposal width old new r → Writes (as_loom s) m' proposal width old new' r' → (answered (λ n. n) r ≡ answered (λ n. n) r') × (new ≡ new')
     written-alike proposal width old new new' r r' W W' =
         let e =
         wrote s (places_of m) x m on-rack refl proposal width old ∙ write_same B.roomier x node-sound proposal width old
@@ -137,11 +135,11 @@ code-rack-as-loom s m m' R =
     let S = node-sound s m m' B in (
       B.same,
       λ c next next' r r' P P' n. (next-alike s m m' B c next next' r r' P P' n).answers,
-      λ t a a' P P'. P ∙ ap (map_answer chosen) (asked-alike s m m' B (λ p y. head_query s p y t) (λ p y. head_query (as_loom s) p y t) (head-same B.roomier (node_of m) S t)) ∙ sym P',
-      λ t a a' P P'. P ∙ ap (map_answer chosen) (asked-alike s m m' B (λ p y. deep_query s p y t) (λ p y. deep_query (as_loom s) p y t) (deep-same B.roomier (node_of m) S t)) ∙ sym P',
+      λ t a a' P P'. P ∙ asked-alike s m m' B (λ p y. head_query s p y t) (λ p y. head_query (as_loom s) p y t) (head-same B.roomier (node_of m) S t) ∙ sym P',
+      λ t a a' P P'. P ∙ asked-alike s m m' B (λ p y. deep_query s p y t) (λ p y. deep_query (as_loom s) p y t) (deep-same B.roomier (node_of m) S t) ∙ sym P',
       λ t a a' P P'. P ∙ asked-alike s m m' B (λ p y. fast_query s p y t) (λ p y. fast_query (as_loom s) p y t) (fast-same B.roomier (node_of m) S t) ∙ sym P',
-      λ t silent a a' P P'. P ∙ ap (map_answer chosen) (asked-alike s m m' B (λ p y. settled_query s p y t silent) (λ p y. settled_query (as_loom s) p y t silent)
-          (settled_same B.roomier (node_of m) S t silent)) ∙ sym P',
+      λ t silent a a' P P'. P ∙ asked-alike s m m' B (λ p y. settled_query s p y t silent) (λ p y. settled_query (as_loom s) p y t silent)
+          (settled_same B.roomier (node_of m) S t silent) ∙ sym P',
       written-alike s m m' B,
     )
 

@@ -3,9 +3,10 @@
 use Prim.Native.Nat.{ℕ}
 use mathlib.Core.Path.{◌≡◌, refl, sym, ap, ◌∙◌}
 use mathlib.Core.Bool.{true, false}
+use Rattle.std.specs.Prelude.{Result}
 use Rattle.protocol.specs.declared.Settings.{Settings}
 use Rattle.protocol.specs.Lists.{passing}
-use Rattle.protocol.specs.Filters.{Choice, chosen}
+use Rattle.protocol.specs.Filters.{Choice}
 use Rattle.protocol.specs.Store.{rows_since, Places, Node}
 use Rattle.protocol.specs.Sound.{sound}
 use Rattle.protocol.specs.Refusal.{Answer, done, Outcome}
@@ -24,12 +25,10 @@ use Rattle.protocol.proofs.Lent.Calls.{Lawful, receive-lawful, propose-lawful, v
 use Rattle.protocol.proofs.Removal.Calls.{made-pruned}
 use Rattle.protocol.proofs.Removal.Pruned.{pruned, head-pruned, deep-pruned, fast-pruned, settled-pruned}
 use Rattle.protocol.proofs.Removal.Unseen.{answered, answered-settled}
-use Rattle.answers.specs.declared.Answer as answers
-use Rattle.answers.specs.Answers.{Value, nothing_more, received, block, answer_of}
+use Rattle.verdicts.specs.declared.Refusal.{Refusal}
 use Rattle.answers.specs.Promises.{Leaves}
-use Rattle.conformance.specs.CodeCallList.{Promised}
+use Rattle.conformance.specs.CodeCallList.{Found, Meant, meant_by, answer_of, Promised}
 use Rattle.conformance.specs.CodeRemoval.{CallsKeeping, opened, then_call, CodeRemovalUnseen}
-use Rattle.conformance.proofs.Answers.{done-mapped, refused-mapped}
 use Rattle.conformance.proofs.Memory.{opened-done, opened-node, opened-healthy, Called, called}
 
 module _ (s : Settings) where
@@ -47,28 +46,30 @@ module _ (s : Settings) where
     node-sound : sound s pl (pruned s y) ≡ true
     node-sound = ap (sound s pl) B.holds ∙ (lent-true s m B.sound).node
 
-    -- the call on the node that the memory holds
-    told : {A : Type 0} (value : A → Value) (call : Places → Node → Outcome A) → Lawful s call → (next : Lent) (r : answers.Answer)
-        → Leaves value (call_lent s call m) next r → Called s pl value (call pl (pruned s y)) next r
-    told value call L next r P = called s pl (pruned s y) m (record { places = refl; sound = B.sound }) B.holds value call L next r P
-
-    beside : {A : Type 0} (c : Call) (value : A → Value) (o : Outcome A) (next : Lent) (r : answers.Answer) → Called s pl value o next r
-        → o.node ≡ after_call s pl (pruned s y) c → refused_by by_ten o.answer ≡ meets by_ten s pl (pruned s y) c → refused_by by_ten (answer_of r) ≡ false
+    -- after the call c on the node that the memory holds
+    beside : (c : Call) (o : Outcome (Meant c)) (next : Lent) (r : Result (Found c) Refusal) → Called s pl (meant_by c) o next r
+        → o.node ≡ after_call s pl (pruned s y) c → refused_by by_ten o.answer ≡ meets by_ten s pl (pruned s y) c → refused_by by_ten (answer_of c r) ≡ false
         → Beside next (after_call_keeping s pl y c)
-    beside c value o next r C n t ten = record {
+    beside c o next r C n t ten = record {
       sound = C.healthy.sound;
-      holds = sym (C.node ∙ n ∙ made-pruned s pl y node-sound c (sym t ∙ sym (refused-mapped value by_ten o.answer) ∙ sym (ap (refused_by by_ten) C.answer) ∙ ten));
+      holds = sym (C.node ∙ n ∙ made-pruned s pl y node-sound c (sym t ∙ sym (ap (refused_by by_ten) C.answer) ∙ ten));
     }
 
-    next-beside : (c : Call) (next : Lent) (r : answers.Answer) → Promised s m c next r → refused_by by_ten (answer_of r) ≡ false → Beside next (after_call_keeping s pl y c)
+    told : (c : Call) (call : Places → Node → Outcome (Meant c)) → Lawful s call → (next : Lent) (r : Result (Found c) Refusal)
+        → Leaves (meant_by c) (call_lent s call m) next r → Called s pl (meant_by c) (call pl (pruned s y)) next r
+    told c call L next r P = called s pl (pruned s y) m (record { places = refl; sound = B.sound }) B.holds (meant_by c) call L next r P
+
+    next-beside : (c : Call) (next : Lent) (r : Result (Found c) Refusal) → Promised s m c next r → refused_by by_ten (answer_of c r) ≡ false
+        → Beside next (after_call_keeping s pl y c)
     unfolding after_call meets
     next-beside (Receive beat bytes) next r P =
-        beside (Receive beat bytes) received _ next r (told received (λ p x. receiving.receive s p x beat bytes) (receive-lawful s beat bytes) next r P) refl refl
+        let c = Receive beat bytes in beside c _ next r (told c (λ p x. receiving.receive s p x beat bytes) (receive-lawful s beat bytes) next r P) refl refl
     next-beside (Propose beat number) next r P =
-        beside (Propose beat number) block _ next r (told block (λ p x. proposing.propose s p x beat number) (propose-lawful s beat number) next r P) refl refl
-    next-beside (Vote beat) next r P = beside (Vote beat) block _ next r (told block (λ p x. voting.vote s p x beat) (vote-lawful s beat) next r P) refl refl
+        let c = Propose beat number in beside c _ next r (told c (λ p x. proposing.propose s p x beat number) (propose-lawful s beat number) next r P) refl refl
+    next-beside (Vote beat) next r P =
+        beside (Vote beat) _ next r (told (Vote beat) (λ p x. voting.vote s p x beat) (vote-lawful s beat) next r P) refl refl
     next-beside (Merge beat) next r P =
-        beside (Merge beat) (λ a. nothing_more) _ next r (told (λ a. nothing_more) (λ p x. merging.merge s p x beat) (merge-lawful s beat) next r P) refl refl
+        beside (Merge beat) _ next r (told (Merge beat) (λ p x. merging.merge s p x beat) (merge-lawful s beat) next r P) refl refl
 
   -- ---- all calls
 
@@ -113,10 +114,12 @@ module _ (s : Settings) where
 
 pub code-removal-unseen : CodeRemovalUnseen
 unfolding CodeRemovalUnseen
-code-removal-unseen s m y R t a o e =
+code-removal-unseen s m y R t =
     let B = along s m y R in (
-      λ P. let d = done-mapped chosen _ o (sym P ∙ e) in d.2 ∙ ap chosen (head-found s m y B t d.0 d.1),
-      λ P. let d = done-mapped chosen _ o (sym P ∙ e) in d.2 ∙ ap chosen (deep-found s m y B t d.0 d.1),
-      λ P. fast-found s m y B t o (sym P ∙ e),
-      λ silent P. let d = done-mapped chosen _ o (sym P ∙ e) in d.2 ∙ ap chosen (settled-found s m y B t silent d.0 d.1),
+      λ a b e. (
+        λ P. head-found s m y B t b (sym P ∙ e),
+        λ P. deep-found s m y B t b (sym P ∙ e),
+        λ silent P. settled-found s m y B t silent b (sym P ∙ e),
+      ),
+      λ a o e P. fast-found s m y B t o (sym P ∙ e),
     )

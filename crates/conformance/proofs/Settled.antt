@@ -1,32 +1,24 @@
 -- What Settled of the code answers is the settled block, with its laws: it is the head where no node is silent, a silent node more never moves it up, and it is
 -- on the head's chain. Assumes nothing.
-use Prim.Native.Nat.{ℕ, ◌%◌, ◌^◌, ◌<◌}
+use Prim.Native.Nat.{ℕ, ◌%◌, ◌^◌}
 use mathlib.Core.Path.{◌≡◌, refl, sym, ap, ◌∙◌}
 use mathlib.Core.Bool.{Bool, true, false, cond}
 use native.Mathlib.Nat.{zero-div, one-le-pow}
 use native.Mathlib.Omega.{arith}
-use lib.Dec.{eqb, leb}
+use lib.Dec.{eqb}
 use borrow.Author.Tests.{lt-leb}
 use Rattle.protocol.specs.declared.Settings.{Settings}
 use Rattle.protocol.specs.Words.{bit_of}
-use Rattle.protocol.specs.Chain.{at_or_above}
-use Rattle.protocol.specs.Filters.{Choice, chosen}
-use Rattle.protocol.specs.Store.{view_of, Places, Node}
-use Rattle.protocol.specs.Refusal.{by, first, Answer, done, refused, answer_unless}
-use Rattle.protocol.specs.Settled.{Farthest}
+use Rattle.protocol.specs.Store.{Places, Node}
+use Rattle.protocol.specs.Refusal.{by, first, Answer, done, refused}
 use Rattle.protocol.specs.Calls.Vote.{head_of}
 use Rattle.protocol.specs.Calls.Query.{query_tests, settled_tests, settled_of, head_query, settled_query}
 use Rattle.protocol.specs.Lent.{Lent, places_of, node_of, lent_sound, ask_lent}
-use Rattle.protocol.proofs.Filters.Kept.{chosen-inj}
 use Rattle.protocol.proofs.Lent.Memory.{lent-true}
 use Rattle.protocol.proofs.Removal.Unseen.{answered, answered-settled}
 use Rattle.protocol.proofs.Settled.Nodes.{node-farthest, node-none, node-more, node-head}
 use Rattle.protocol.proofs.Store.Sound.{IsSound, sound-true}
-use Rattle.answers.specs.declared.Found.{Found}
-use Rattle.answers.specs.Answers.{found_of, map_answer}
-use Rattle.answers.specs.Promises.{IsHead, IsSettled}
 use Rattle.conformance.specs.CodeSettled.{Settles, Heads, CodeSettled}
-use Rattle.conformance.proofs.Answers.{done-mapped}
 
 -- the empty set has nobody
 nobody : (v : ℕ) → bit_of 0 v ≡ false
@@ -45,16 +37,14 @@ module _ (s : Settings) (m : Lent) where
   module _ (t : ℕ) where
     settles : (silent r : ℕ) → Settles s m t silent r → IsSound s (places_of m) (node_of m) × (r ≡ settled_of s (node_of m) t silent)
     settles silent r (a, P, e) =
-        let d = done-mapped chosen _ (chosen r) (sym P ∙ e) in
-        let q = asked (λ p x. settled_query s p x t silent) d.0 d.1 in
-        (q.0, chosen-inj d.2 ∙ (answered-settled s (places_of m) (node_of m) t silent d.0 q.1).1)
+        let q = asked (λ p x. settled_query s p x t silent) r (sym P ∙ e) in
+        (q.0, (answered-settled s (places_of m) (node_of m) t silent r q.1).1)
 
     heads : (h : ℕ) → Heads s m t h → h ≡ head_of s (node_of m) t
     unfolding head_query
     heads h (a, P, e) =
-        let d = done-mapped chosen _ (chosen h) (sym P ∙ e) in
-        let q = asked (λ p x. head_query s p x t) d.0 d.1 in
-        chosen-inj d.2 ∙ (answered s (places_of m) (node_of m) t (head_of s (node_of m) t) d.0 q.1).1
+        let q = asked (λ p x. head_query s p x t) h (sym P ∙ e) in
+        (answered s (places_of m) (node_of m) t (head_of s (node_of m) t) h q.1).1
 
     -- without a silent node Settled is Head
     none_alike : ask_lent s (λ p x. settled_query s p x t 0) m ≡ ask_lent s (λ p x. head_query s p x t) m
@@ -74,7 +64,7 @@ pub code-settled : CodeSettled
 unfolding CodeSettled
 code-settled s m t = (
   λ silent r S. let q = settles s m t silent r S in rw q.1 (node-farthest q.0 t silent),
-  λ a a' P P'. P ∙ ap (map_answer chosen) (none_alike s m t) ∙ sym P',
+  λ a a' P P'. P ∙ none_alike s m t ∙ sym P',
   λ few many r q inside S T.
       let x = settles s m t few r S in
       let y = settles s m t many q T in

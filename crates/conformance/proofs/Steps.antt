@@ -5,22 +5,24 @@ use mathlib.Core.Bool.{Bool, true, false, cond}
 use mathlib.Core.List.{List, [], ◌∷◌, ◌++◌}
 use lib.Dec.{eqb}
 use borrow.Author.Tests.{eqb-true, eq-eqb, ne_eqb}
+use Rattle.std.specs.Prelude.{Result}
+use Rattle.std.specs.Result.{is_ok}
 use Rattle.protocol.specs.declared.Width.TheVariants.{Wide}
+use Rattle.protocol.specs.Words.{value}
 use Rattle.protocol.specs.Store.{Places, Node}
 use Rattle.protocol.specs.Refusal.{Outcome}
 use Rattle.protocol.specs.Calls.Write.{write}
 use Rattle.protocol.specs.Lent.{Lent, node_of, call_lent}
 use Rattle.protocol.proofs.Lent.Calls.{Lawful, receive-lawful, propose-lawful, vote-lawful, merge-lawful}
-use Rattle.answers.specs.Answers.{Value, nothing_more, received, block}
-use Rattle.answers.specs.declared.Answer.{Answer}
-use Rattle.answers.specs.declared.Written.{Written}
+use Rattle.verdicts.specs.declared.Refusal.{Refusal}
+use Rattle.answers.specs.Answers.{nothing_of, received_of}
 use Rattle.answers.specs.Promises.{Leaves, Writes}
 use Rattle.resilience.specs.Run as model
 use Rattle.resilience.specs.Run.{Network, World, Step, Due, Gossip, Proposal, Receive, Event, woke, voted, built, given, lacked, turned_away, carried, logged, sends, Turn, owes, after_gossip, after_proposal, settings, is_honest, update, allowed, due_at, step}
 use Rattle.resilience.proofs.Steps.Allowed.{due-honest, send-honest, receive-honest}
 use Rattle.conformance.specs.State.{Deployment, State, network, decoded}
-use Rattle.conformance.specs.CodeRun.{code_logged, carried_out, packet_sent, state_after, CodeStep, begins, proposes, waits, votes, merges, gossips, sends_proposal, receives}
-use Rattle.conformance.proofs.Answers.{of_block, same-events, same-carried, same-packet}
+use Rattle.conformance.specs.CodeRun.{code_logged, packet_sent, state_after, CodeStep, begins, proposes, waits, votes, merges, gossips, sends_proposal, receives}
+use Rattle.conformance.proofs.Answers.{same-events, same-carried, same-packet}
 use Rattle.conformance.proofs.Memory.{Healthy, called, wrote}
 
 -- the memory of every honest node is sound and has the places that it was lent
@@ -65,20 +67,20 @@ module _ (D : Deployment) (w : State) (H : AllHealthy D w) where
         go true e = rw (eqb-true i j e) at G
         go false e = H j g
 
-    -- a call that changes the memory: its answer puts f in the log for a block and `want` if it is refused for want, then come the events es, and u is the turn
-    by_call : {A : Type 0} (value : A → Value) (call : Places → Node → Outcome A) → Lawful (settings N i) call
-        → (m : Lent) (r : Answer) → Leaves value (call_lent (settings N i) call (w.memory i)) m r
-        → (s : Step) (want : Event) (f : ℕ → List Event) (u : Bool → Turn) (es : Bool → List Event)
+    -- a call that changes the memory: its value puts f in the log, or a refusal for want `want`, then come the events es, and u is the turn
+    by_call : {A B : Type 0} (of : A → B) (call : Places → Node → Outcome B) → Lawful (settings N i) call
+        → (m : Lent) (r : Result A Refusal) → Leaves of (call_lent (settings N i) call (w.memory i)) m r
+        → (s : Step) (want : Event) (f : B → List Event) (u : Bool → Turn) (es : Bool → List Event)
         → (let o = call (N.places i) (W.node i) in step N W s
-        ≡ model.world_after W i o.node (u (carried o.answer)) (logged want (λ a. of_block f (value a)) o.answer ++ es (carried o.answer)))
-        → Follows D w s (state_after w i m (u (carried_out r)) (code_logged want f r ++ es (carried_out r)))
-    by_call value call L m r P s want f u es e =
+        ≡ model.world_after W i o.node (u (carried o.answer)) (logged want f o.answer ++ es (carried o.answer)))
+        → Follows D w s (state_after w i m (u (is_ok r)) (code_logged want (λ a. f (of a)) r ++ es (is_ok r)))
+    by_call of call L m r P s want f u es e =
         let o = call (N.places i) (W.node i) in
-        let C = called (settings N i) (N.places i) (W.node i) (w.memory i) (H i h) holds value call L m r P in
-        let c : carried_out r ≡ carried o.answer = same-carried value r o.answer C.answer in
+        let C = called (settings N i) (N.places i) (W.node i) (w.memory i) (H i h) holds of call L m r P in
+        let c : is_ok r ≡ carried o.answer = same-carried of r o.answer C.answer in
         record {
-          world = e ∙ moved m o.node (u (carried_out r)) (u (carried o.answer)) _ _ C.node (ap u c)
-              (λ k. same-events value r o.answer C.answer want f k ++ es (c k));
+          world = e ∙ moved m o.node (u (is_ok r)) (u (carried o.answer)) _ _ C.node (ap u c)
+              (λ k. same-events of r o.answer C.answer want f k ++ es (c k));
           healthy = healthy-after m C.healthy;
         }
 
@@ -90,7 +92,7 @@ module _ (D : Deployment) (w : State) (H : AllHealthy D w) where
       healthy = healthy-after (w.memory i) (H i h);
     }
 
-    written : (proposal : Bool) (old new : List ℕ) (r : Written) → Writes (settings N i) (w.memory i) proposal Wide old new r
+    written : (proposal : Bool) (old new : List ℕ) (r : Result ℕ Refusal) → Writes (settings N i) (w.memory i) proposal Wide old new r
         → packet_sent w.beat i new r
         ≡ sends w.beat i (write (settings N i) (N.places i) (W.node i) proposal Wide old)
     written proposal old new r P =
@@ -108,17 +110,17 @@ module _ (D : Deployment) (w : State) (H : AllHealthy D w) where
   unfolding step due_at
   follows s v a begins = record { world = refl; healthy = H }
   follows s v a (proposes i number m r e own P) =
-      by_call i (due-honest N W i number a).0 block _ (propose-lawful (settings N i) w.beat number) m r P
+      by_call i (due-honest N W i number a).0 value _ (propose-lawful (settings N i) w.beat number) m r P
       (Due i number) (lacked w.beat i) (λ p. built w.beat i number p ∷ []) (λ b. owes true b) (λ b. woke w.beat i ∷ [])
       (in-phase 0 e i number ∙ rw (eq-eqb (w.beat / 3 % D.nodes) i own))
   follows s v a (waits i number e other) =
       by-reading i (due-honest N W i number a).0 (Due i number) (owes true false) (woke w.beat i ∷ []) (woke w.beat i ∷ []) refl
       (in-phase 0 e i number ∙ rw (ne_eqb (w.beat / 3 % D.nodes) i other))
   follows s v a (votes i number m r e P) =
-      by_call i (due-honest N W i number a).0 block _ (vote-lawful (settings N i) w.beat) m r P
+      by_call i (due-honest N W i number a).0 value _ (vote-lawful (settings N i) w.beat) m r P
       (Due i number) (lacked w.beat i) (λ x. voted w.beat i x ∷ []) (λ b. owes true false) (λ b. woke w.beat i ∷ []) (in-phase 1 e i number)
   follows s v a (merges i number m r e P) =
-      by_call i (due-honest N W i number a).0 (λ t. nothing_more) _ (merge-lawful (settings N i) w.beat) m r P
+      by_call i (due-honest N W i number a).0 nothing_of _ (merge-lawful (settings N i) w.beat) m r P
       (Due i number) (lacked w.beat i) (λ x. []) (λ b. owes true false) (λ b. woke w.beat i ∷ []) (in-phase 2 e i number)
   follows s v a (gossips i old new r P) =
       let h = send-honest N W false i old a in
@@ -127,5 +129,5 @@ module _ (D : Deployment) (w : State) (H : AllHealthy D w) where
       let h = send-honest N W true i old a in
       by-reading i h (Proposal i old) (after_proposal (w.turn i)) _ _ (written i h true old new r P) refl
   follows s v a (receives i bytes m r P) =
-      by_call i (receive-honest N W i bytes a) received _ (receive-lawful (settings N i) w.beat bytes) m r P
+      by_call i (receive-honest N W i bytes a) received_of _ (receive-lawful (settings N i) w.beat bytes) m r P
       (Receive i bytes) (turned_away w.beat i bytes) (λ x. []) (λ b. w.turn i) (λ b. given w.beat i bytes b ∷ []) refl

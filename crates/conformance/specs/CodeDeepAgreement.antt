@@ -1,12 +1,10 @@
 -- Request 7 of the code: what Deep answers on the memory right after a Vote of the code, by the promises of the calls alone. The claim is the one of
 -- resilience/specs/DeepAgreement, on the log of what the code answered. Assumes nothing.
-use Rattle.std.specs.Prelude.{◌≡◌, ℕ, ◌+◌, ◌*◌, true, false, [], ◌∷◌, T}
+use Rattle.std.specs.Prelude.{◌≡◌, ℕ, ◌+◌, ◌*◌, true, false, [], ◌∷◌, T, Result, Ok}
 use Rattle.protocol.specs.declared.Number.{Number}
 use Rattle.protocol.specs.Words.{value}
 use Rattle.protocol.specs.Lent.{Lent}
-use Rattle.answers.specs.declared.Answer.TheVariants as answer
-use Rattle.answers.specs.declared.Found.{Found}
-use Rattle.answers.specs.declared.Found.TheVariants as found
+use Rattle.verdicts.specs.declared.Refusal.{Refusal}
 use Rattle.answers.specs.Promises.{Votes, IsDeep}
 use Rattle.resilience.specs.Run.{Due, woke, voted, owes, settings, allowed}
 use Rattle.resilience.specs.Resilience.{Enough}
@@ -23,7 +21,7 @@ pub record CodeJustVoted (D : Deployment) (i a : ℕ) (u : State) : Type 0 where
   pub beat : before.beat ≡ 3 * a + 1
   pub block : Number
   pub memory : Lent
-  pub vote : Votes (settings (network D) i) (before.memory i) before.beat memory (answer.Block block)
+  pub vote : Votes (settings (network D) i) (before.memory i) before.beat memory (Ok block)
   pub left : u ≡ state_after before i memory (owes true false) (voted before.beat i (value block) ∷ woke before.beat i ∷ [])
 
 -- what Deep for a answers there; and the run went on from there and stands in w
@@ -31,7 +29,7 @@ pub record CodeDeepAfterVote (D : Deployment) (w : State) (i a d : ℕ) : Type 0
   pub state : State
   pub just_voted : CodeJustVoted D i a state
   pub number : Number
-  pub deep : IsDeep (settings (network D) i) (state.memory i) a (found.Block number)
+  pub deep : IsDeep (settings (network D) i) (state.memory i) a (Ok number)
   pub block : d ≡ value number
   pub onward : CodeOnward D state w
 
@@ -42,4 +40,4 @@ CodeDeepAgreement = (D : Deployment) (w : State) → Agree Enough (network D) (d
 unfoldable pub CodeDeepAnswered : Type 0
 CodeDeepAnswered =
     (D : Deployment) (i a : ℕ) (u : State) → CodeJustVoted D i a u →
-    (r : Found) → IsDeep (settings (network D) i) (u.memory i) a r → (d : Number) × (r ≡ found.Block d)
+    (r : Result Number Refusal) → IsDeep (settings (network D) i) (u.memory i) a r → (d : Number) × (r ≡ Ok d)

@@ -1,9 +1,8 @@
 -- Request 11 of the code: what Fast answers on the memory of an honest node, by the promises of the calls alone. The claim is the one of
 -- resilience/specs/FastHolds, on the log of what the code answered. Assumes nothing.
-use Rattle.std.specs.Prelude.{ℕ, ◌≡◌, T}
+use Rattle.std.specs.Prelude.{ℕ, ◌≡◌, T, Some, Ok}
 use Rattle.protocol.specs.declared.Number.{Number}
 use Rattle.protocol.specs.Words.{value}
-use Rattle.answers.specs.declared.Found.TheVariants as found
 use Rattle.answers.specs.Promises.{IsFast}
 use Rattle.resilience.specs.Run.{settings, is_honest}
 use Rattle.resilience.specs.Resilience.{Enough}
@@ -18,7 +17,7 @@ pub record CodeHasFast (D : Deployment) (w : State) (i t F : ℕ) : Type 0 where
   pub run : CodeRun D state
   pub honest : T (is_honest (network D) i)
   pub number : Number
-  pub fast : IsFast (settings (network D) i) (state.memory i) t (found.Block number)
+  pub fast : IsFast (settings (network D) i) (state.memory i) t (Ok (Some number))
   pub block : F ≡ value number
   pub onward : CodeOnward D state w
 

@@ -1,15 +1,14 @@
 -- Runs of the code (document 01, "The run behind the third demand"): lists of calls, each given by what the code promises of it,
 -- and the log of what the code answered. Assumes nothing.
-use Rattle.std.specs.Prelude.{◌≡◌, ℕ, ◌+◌, ◌/◌, ◌%◌, Bool, true, false, cond, List, [], ◌∷◌, ◌++◌, take, T}
+use Rattle.std.specs.Prelude.{◌≡◌, ℕ, ◌+◌, ◌/◌, ◌%◌, true, false, cond, List, [], ◌∷◌, ◌++◌, take, T, Result, Ok, Err}
+use Rattle.std.specs.Result.{is_ok}
 use Rattle.protocol.specs.declared.Width.TheVariants.{Wide}
+use Rattle.protocol.specs.declared.Number.{Number}
 use Rattle.protocol.specs.Words.{value}
 use Rattle.protocol.specs.Lent.{Lent}
 use Rattle.verdicts.specs.declared.Refusal.{Refusal}
 use Rattle.verdicts.specs.Verdict.{refusal_of}
-use Rattle.answers.specs.declared.Answer.{Answer}
-use Rattle.answers.specs.declared.Answer.TheVariants as answer
-use Rattle.answers.specs.declared.Written.{Written}
-use Rattle.answers.specs.declared.Written.TheVariants as written
+use Rattle.answers.specs.declared.Received.{Received}
 use Rattle.answers.specs.Promises.{Opens, Receives, Proposes, Votes, Merges, Writes}
 use Rattle.resilience.specs.Run.{Step, Begin, Due, Gossip, Proposal, Receive, Event, woke, voted, built, sent, given, lacked, turned_away, Turn, ahead, owes, after_gossip, after_proposal, update, for_want, settings, is_honest, allowed}
 use Rattle.conformance.specs.State.{Deployment, State, network, decoded}
@@ -20,23 +19,14 @@ use Rattle.conformance.specs.State.{Deployment, State, network, decoded}
 abbrev pub refused_for : Event → Refusal → List Event
 refused_for want e = cond (for_want (refusal_of e)) (want ∷ []) []
 
--- of a Propose, Vote, Merge or Receive; `f` says what a block that is answered stands for
-abbrev pub code_logged : Event → (ℕ → List Event) → Answer → List Event
-code_logged want f (answer.Block x) = f (value x)
-code_logged want f answer.Done = []
-code_logged want f (answer.Received t) = []
-code_logged want f (answer.Refused e) = refused_for want e
-
-abbrev pub carried_out : Answer → Bool
-carried_out (answer.Block x) = true
-carried_out answer.Done = true
-carried_out (answer.Received t) = true
-carried_out (answer.Refused e) = false
+-- `f` says what the values of a call that was carried out stand for
+abbrev pub code_logged : {A : Type 0} → Event → (A → List Event) → Result A Refusal → List Event
+code_logged want f (Ok a) = f a
+code_logged want f (Err e) = refused_for want e
 
 -- of a Write that left this buffer: "a sent packet is the bytes as Write left them, of the length it answered"
-abbrev pub packet_sent : ℕ → ℕ → List ℕ → Written → List Event
-packet_sent beat i buffer (written.Bytes n) = sent beat i (take n buffer) ∷ []
-packet_sent beat i buffer (written.Refused e) = refused_for (lacked beat i) e
+abbrev pub packet_sent : ℕ → ℕ → List ℕ → Result ℕ Refusal → List Event
+packet_sent beat i buffer r = code_logged (lacked beat i) (λ n. sent beat i (take n buffer) ∷ []) r
 
 -- ---- the steps
 
@@ -50,42 +40,42 @@ state_after w i m u es = record { beat = w.beat; memory = update w.memory i m; t
 pub data CodeStep (D : Deployment) (w : State) : Step → State → Type 0 where
   begins : CodeStep D w Begin (record { beat = w.beat + 1; memory = w.memory; turn = λ i. ahead; log = w.log })
   -- "phase 0: Propose if the slot is its own, else none"
-  proposes : (i number : ℕ) (m : Lent) (r : Answer) → w.beat % 3 ≡ 0 → w.beat / 3 % D.nodes ≡ i →
+  proposes : (i number : ℕ) (m : Lent) (r : Result Number Refusal) → w.beat % 3 ≡ 0 → w.beat / 3 % D.nodes ≡ i →
       Proposes (settings (network D) i) (w.memory i) w.beat number m r →
       CodeStep D w (Due i number)
-      (state_after w i m (owes true (carried_out r)) (code_logged (lacked w.beat i) (λ p. built w.beat i number p ∷ []) r ++ (woke w.beat i ∷ [])))
+      (state_after w i m (owes true (is_ok r)) (code_logged (lacked w.beat i) (λ p. built w.beat i number (value p) ∷ []) r ++ (woke w.beat i ∷ [])))
   waits : (i number : ℕ) → w.beat % 3 ≡ 0 → (w.beat / 3 % D.nodes ≡ i → ⊥) →
       CodeStep D w (Due i number) (state_after w i (w.memory i) (owes true false) (woke w.beat i ∷ []))
   -- "phase 1: Vote"
-  votes : (i number : ℕ) (m : Lent) (r : Answer) → w.beat % 3 ≡ 1 →
+  votes : (i number : ℕ) (m : Lent) (r : Result Number Refusal) → w.beat % 3 ≡ 1 →
       Votes (settings (network D) i) (w.memory i) w.beat m r →
       CodeStep D w (Due i number)
-      (state_after w i m (owes true false) (code_logged (lacked w.beat i) (λ x. voted w.beat i x ∷ []) r ++ (woke w.beat i ∷ [])))
+      (state_after w i m (owes true false) (code_logged (lacked w.beat i) (λ x. voted w.beat i (value x) ∷ []) r ++ (woke w.beat i ∷ [])))
   -- "phase 2: Merge"
-  merges : (i number : ℕ) (m : Lent) (r : Answer) → w.beat % 3 ≡ 2 →
+  merges : (i number : ℕ) (m : Lent) (r : Result Unit Refusal) → w.beat % 3 ≡ 2 →
       Merges (settings (network D) i) (w.memory i) w.beat m r →
       CodeStep D w (Due i number)
       (state_after w i m (owes true false) (code_logged (lacked w.beat i) (λ x. []) r ++ (woke w.beat i ∷ [])))
   -- "sends its stock, and its proposal if it made one, both by Write", "in the run .. wide": the memory is only read; the buffer before and after
-  gossips : (i : ℕ) (old new : List ℕ) (r : Written) →
+  gossips : (i : ℕ) (old new : List ℕ) (r : Result ℕ Refusal) →
       Writes (settings (network D) i) (w.memory i) false Wide old new r →
       CodeStep D w (Gossip i old) (state_after w i (w.memory i) (after_gossip (w.turn i)) (packet_sent w.beat i new r))
-  sends_proposal : (i : ℕ) (old new : List ℕ) (r : Written) →
+  sends_proposal : (i : ℕ) (old new : List ℕ) (r : Result ℕ Refusal) →
       Writes (settings (network D) i) (w.memory i) true Wide old new r →
       CodeStep D w (Proposal i old) (state_after w i (w.memory i) (after_proposal (w.turn i)) (packet_sent w.beat i new r))
   -- "Receive calls between beats carry the beat last begun"
-  receives : (i : ℕ) (bytes : List ℕ) (m : Lent) (r : Answer) →
+  receives : (i : ℕ) (bytes : List ℕ) (m : Lent) (r : Result Received Refusal) →
       Receives (settings (network D) i) (w.memory i) w.beat bytes m r →
       CodeStep D w (Receive i bytes)
-      (state_after w i m (w.turn i) (code_logged (turned_away w.beat i bytes) (λ x. []) r ++ (given w.beat i bytes (carried_out r) ∷ [])))
+      (state_after w i m (w.turn i) (code_logged (turned_away w.beat i bytes) (λ x. []) r ++ (given w.beat i bytes (is_ok r) ∷ [])))
 
 -- ---- the runs
 
--- "It starts with every honest node fresh from Open": from what it was lent, an Open that answered Done left its memory.
+-- "It starts with every honest node fresh from Open": from what it was lent, an Open that was carried out left its memory.
 -- Then come steps, in the order that `allowed` of `resilience` asks; it looks at the beat and the turns alone.
 pub data CodeRun (D : Deployment) : State → Type 0 where
   opened : (memory : ℕ → Lent) →
-      ((i : ℕ) → T (is_honest (network D) i) → Opens (settings (network D) i) (D.lent i) (memory i) answer.Done) →
+      ((i : ℕ) → T (is_honest (network D) i) → Opens (settings (network D) i) (D.lent i) (memory i) (Ok tt)) →
       CodeRun D (record { beat = 2; memory = memory; turn = λ i. ahead; log = [] })
   then_step : {w v : State} → CodeRun D w → (s : Step) → T (allowed (network D) (decoded D w) s) → CodeStep D w s v → CodeRun D v
 

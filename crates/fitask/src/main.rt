@@ -3,6 +3,6 @@
 
 use asking::Program;
 
-fn main() {
-    asking::ask_as(Program::Fitask, 0, 1);
+fn main(rt: HostRuntime) {
+    asking::ask(&rt, Program::Fitask)
 }

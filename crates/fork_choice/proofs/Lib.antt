@@ -4,4 +4,4 @@ pub mod Weights
 pub mod Children
 pub mod Best
 pub mod Scan
-pub mod Tables
+pub mod SoundTables

@@ -1,6 +1,7 @@
 -- The voters of a row's word are those that support the block there, so the word's weight is the block's weight. Assumes nothing.
 use Prim.Native.Nat.{ℕ, zero, suc, ◌≤◌, ◌<◌, zero-le}
 use mathlib.Core.Bool.{Bool, true, false, not, ◌&&◌, cond, and-true}
+use Rattle.std.specs.Prelude.{Option, Some, None}
 use mathlib.Core.List.{List}
 use mathlib.Core.Logic.{◌⊎◌, inl, inr}
 use mathlib.Core.Path.{◌≡◌, refl, ap, sym, ◌∙◌}
@@ -11,19 +12,19 @@ use borrow.Author.Tests.{eqb-true, eq-eqb, leb-true, le-leb, ltb-true, ltb-false
 use Rattle.protocol.specs.Limits.{loom}
 use Rattle.protocol.specs.Entry.{Block}
 use Rattle.protocol.specs.Chain.{at_or_above}
-use Rattle.protocol.specs.Filters.{latest_is, no_latest, Choice, chosen, nothing, choice_of}
+use Rattle.protocol.specs.Filters.{Choice, chosen, nothing, choice_of}
 use Rattle.protocol.specs.Walk.{count_below, supports, weight, weight_at}
 use Rattle.protocol.proofs.Basics.Counting.{count-ext}
 use Rattle.protocol.proofs.Basics.Tests.{and_left, and_right, either, both, or_left, or_right, same_test}
 use Rattle.protocol.proofs.Chain.Above.{above-cast, above-true, above_holds}
 use Rattle.protocol.proofs.Chain.Relations.{Known, Above, here, up}
-use Rattle.numbers.specs.NumberWords.{number_in}
-use Rattle.protocol.specs.Words.{bit_of}
+use Rattle.protocol.specs.declared.Vote.{Vote}
+use Rattle.protocol.specs.Words.{bit_of, value}
 use Rattle.masks.specs.Masks.{mask_of}
 use Rattle.masks.proofs.Masks.{bit_mask, mask-ext, none_from}
-use Rattle.vote_filters.specs.Latest.{votes_of, last_at}
+use Rattle.vote_filters.specs.Latest.{votes_of, held_vote, last_at}
 use Rattle.subtree_voters.specs.BlockRows.{block_at, blocks_of, row_in, parent_row}
-use Rattle.subtree_voters.specs.Subtrees.{up_to, reaches, Subtrees}
+use Rattle.subtree_voters.specs.Subtrees.{up_to, is_vote, block_of_vote, reaches, Subtrees}
 use Rattle.fork_choice.specs.Weights.{weight_at_row}
 use Rattle.fork_choice.proofs.Held.{Held, is_in, Stands, listed, lists, row_is, parent_is, number-pos, row-pos, parent_in, by_number}
 
@@ -74,17 +75,16 @@ module _ {w : Bool} {ws : List ℕ} {n : ℕ} (H : Held w ws n) where
 
   -- ---- voters
 
-  pub reaches-supports : (slots numbers : List ℕ) (j v : ℕ) → j < n
-      → ((x : ℕ) → choice_of (last_at slots numbers v) ≡ chosen x → Known (blocks_of w ws n) x)
-      → reaches ws n slots numbers 1 j v ≡ supports (blocks_of w ws n) (choice_of (last_at slots numbers v)) (block_at ws j).number
+  pub reaches-supports : (kept : List (Option Vote)) (j v : ℕ) → j < n
+      → ((x : ℕ) → choice_of (last_at kept v) ≡ chosen x → Known (blocks_of w ws n) x)
+      → reaches ws n kept 1 j v ≡ supports (blocks_of w ws n) (choice_of (last_at kept v)) (block_at ws j).number
   unfolding last_at choice_of supports
-  reaches-supports slots numbers j v l K = go (eqb (get_or slots v 0) 0) refl
+  reaches-supports kept j v l K = go (get_or kept v None) K
     where
-      go : (b : Bool) → eqb (get_or slots v 0) 0 ≡ b
-          → (not b && up_to (λ y. parent_row ws y) n 1 j (row_in ws n (number_in numbers v)))
-          ≡ supports (blocks_of w ws n) (choice_of (cond b no_latest (latest_is (record { voter = v; slot = get_or slots v 0; number = number_in numbers v })))) (block_at ws j).number
-      go true e = refl
-      go false e = up_is (number_in numbers v) j (K (number_in numbers v) (rw e)) l
+      go : (o : Option Vote) → ((x : ℕ) → choice_of (held_vote o) ≡ chosen x → Known (blocks_of w ws n) x)
+          → (is_vote o && up_to (λ y. parent_row ws y) n 1 j (row_in ws n (block_of_vote o))) ≡ supports (blocks_of w ws n) (choice_of (held_vote o)) (block_at ws j).number
+      go None K = refl
+      go (Some a) K = up_is (value a.number) j (K (value a.number) refl) l
 
 -- ---- weights
 
@@ -99,17 +99,17 @@ count-wide p n (suc m) h f = go (ltb m n) refl (λ q. count-wide p n m q (λ v a
     go false e rec = let l = ltb-false m n e in rw (f m l (omega arith)) (rec l)
 
 -- k says each voter's choice, for a selected block
-module _ {w : Bool} {ws : List ℕ} {n : ℕ} (H : Held w ws n) (k : ℕ → Choice) {slots numbers masks : List ℕ} where
+module _ {w : Bool} {ws : List ℕ} {n : ℕ} (H : Held w ws n) (k : ℕ → Choice) {kept : List (Option Vote)} {masks : List ℕ} where
   -- the word at a row is the set of those that support the block there
-  pub row-voters : Subtrees ws n slots numbers 1 masks → ((v : ℕ) → v < loom.nodes → choice_of (last_at slots numbers v) ≡ k v)
+  pub row-voters : Subtrees ws n kept 1 masks → ((v : ℕ) → v < loom.nodes → choice_of (last_at kept v) ≡ k v)
       → ((v x : ℕ) → k v ≡ chosen x → Known (blocks_of w ws n) x)
       → (j : ℕ) → j < n → get_or masks j 0 ≡ mask_of 64 (λ v. supports (blocks_of w ws n) (k v) (block_at ws j).number)
   row-voters S K kn j l =
-      S.each j l ∙ mask-ext 64 (λ v. reaches ws n slots numbers 1 j v) (λ v. supports (blocks_of w ws n) (k v) (block_at ws j).number) (λ v h. one v h)
+      S.each j l ∙ mask-ext 64 (λ v. reaches ws n kept 1 j v) (λ v. supports (blocks_of w ws n) (k v) (block_at ws j).number) (λ v h. one v h)
     where
-      one : (v : ℕ) → v < loom.nodes → reaches ws n slots numbers 1 j v ≡ supports (blocks_of w ws n) (k v) (block_at ws j).number
+      one : (v : ℕ) → v < loom.nodes → reaches ws n kept 1 j v ≡ supports (blocks_of w ws n) (k v) (block_at ws j).number
       one v h =
-          reaches-supports H slots numbers j v l (λ x e. kn v x (sym (K v h) ∙ e))
+          reaches-supports H kept j v l (λ x e. kn v x (sym (K v h) ∙ e))
           ∙ ap (λ (o : Choice). supports (blocks_of w ws n) o (block_at ws j).number) (K v h)
 
 -- the bits of a mask, counted

@@ -1,5 +1,5 @@
 -- Weights and best children by rows in the table. Assumes nothing.
-use Rattle.std.specs.Prelude.{ℕ, Bool, ◌||◌, ◌&&◌, not, cond, List, eqb, ltb, get_or}
+use Rattle.std.specs.Prelude.{ℕ, ◌<◌, Bool, false, ◌||◌, ◌&&◌, cond, Option, Some, None, List, eqb, ltb, get_or}
 use Rattle.protocol.specs.Chain.{Lookup, found, missing}
 use Rattle.protocol.specs.Walk.{is_child}
 use Rattle.protocol.specs.Lent.{make_block}
@@ -16,11 +16,22 @@ beats_at ws weights d c =
     ltb (get_or weights c 0) (get_or weights d 0)
     || (eqb (get_or weights c 0) (get_or weights d 0) && ltb (block_at ws d).number (block_at ws c).number)
 
--- row 0 is block 0's, which is nobody's child: there it says that there is none
-unfoldable pub found_row : List ℕ → ℕ → Lookup
-found_row ws b = cond (eqb b 0) missing (found (block_at ws b))
+-- the row is among the first n, if there is one
+abbrev pub Within : ℕ → Option ℕ → Type 0
+Within n None = Unit {0}
+Within n (Some b) = b < n
+
+-- the block at the row, if there is one
+abbrev pub found_row : List ℕ → Option ℕ → Lookup
+found_row ws None = missing
+found_row ws (Some b) = found (block_at ws b)
+
+-- whether the row goes before row i, if there is one
+abbrev pub beats_row : List ℕ → List ℕ → Option ℕ → ℕ → Bool
+beats_row ws weights None i = false
+beats_row ws weights (Some b) i = beats_at ws weights b i
 
 -- the better of the child at row `best` and row i, if that is a child of a
-unfoldable pub better_row : List ℕ → List ℕ → Bool → ℕ → ℕ → ℕ → ℕ → ℕ
+unfoldable pub better_row : List ℕ → List ℕ → Bool → ℕ → ℕ → ℕ → Option ℕ → Option ℕ
 better_row ws weights whole lim a i best =
-    cond ((whole || (row_at make_block ws i).viewed) && is_child lim a (block_at ws i)) (cond (not (eqb best 0) && beats_at ws weights best i) best i) best
+    cond ((whole || (row_at make_block ws i).viewed) && is_child lim a (block_at ws i)) (cond (beats_row ws weights best i) best (Some i)) best

@@ -3,7 +3,7 @@ use Prim.Native.Nat.{ℕ, zero, suc, ◌+◌, ◌-◌, ◌≤◌}
 use mathlib.Core.List.{List, ◌∷◌, ◌++◌}
 use mathlib.Core.Path.{◌≡◌, refl, ap, ◌∙◌}
 use native.Mathlib.Omega.{arith}
-use lib.ListN.{length, take, drop, replicate, length-append, length-drop, length-replicate, replicate-append-replicate}
+use lib.ListN.{length, take, drop, replicate, length-replicate, replicate-append-replicate}
 use lib.Seq.{take_at, drop_at}
 use Rattle.search_tree.specs.Tree.{Blank, links_of}
 use Rattle.search_tree.proofs.Tree.{blank-new}
@@ -32,9 +32,6 @@ module _ (n m : ℕ) (h : m ≤ n) where
     pub part_length : length (take m links) ≡ m
     part_length = rw (e, take-zeros n m h) (length-replicate {A = ℕ} m 0)
 
-    pub part-fits : m ≤ length links
-    part-fits = rw (e, length-replicate {A = ℕ} n 0) h
-
     -- others were written there, and are free again: then all links are
     pub freed : (ys zs : List ℕ) → length ys ≡ m → length zs ≡ m → Blank zs → zs ++ drop m (ys ++ drop m links) ≡ replicate n 0
     freed ys zs f g b =
@@ -51,10 +48,3 @@ module _ (m : ℕ) (ys xs : List ℕ) (e : length ys ≡ m) where
 
   pub back-length : length (take m (ys ++ xs)) ≡ m
   back-length = ap length part-back ∙ e
-
-  pub back_fits : m ≤ length (ys ++ xs)
-  back_fits = omega (arith, length-append ys xs)
-
--- there are as many as before
-pub back_whole : (m : ℕ) (ys links : List ℕ) → length ys ≡ m → m ≤ length links → length (ys ++ drop m links) ≡ length links
-back_whole m ys links e h = omega (arith, length-append ys (drop m links), length-drop m links)

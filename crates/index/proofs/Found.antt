@@ -8,13 +8,13 @@ use native.Mathlib.Omega.{arith}
 use borrow.Author.Tests.{eqb-true, eqb-false, ne_eqb, not-true}
 use lib.Dec.{eqb}
 use lib.ListN.{get_or}
+use Rattle.std.specs.Prelude.{Some, None}
 use Rattle.protocol.specs.Entry.{Block}
 use Rattle.protocol.specs.Lists.{any_pass}
 use Rattle.protocol.specs.Chain.{genesis, known}
 use Rattle.protocol.specs.Store.{Marked, view_of, in_view}
 use Rattle.protocol.specs.Lent.{rows_of, make_block}
 use Rattle.protocol.proofs.Basics.Tests.{and_left, and_right, neither}
-use Rattle.rows.specs.declared.RowFound.TheVariants.{At, Missing}
 use Rattle.rows.specs.Rows.{row_at}
 use Rattle.rows.specs.Find.{row_of, row_from}
 use Rattle.rows.proofs.Rows.{get_d-rows_of}
@@ -29,31 +29,31 @@ is x m = eqb m.entry.number x
 
 -- ---- the row as `rows::find_block` has it
 
-at_from : (i : ℕ) (ms : List (Marked Block)) (x k : ℕ) → link_from (is x) i ms ≡ suc k → row_from i ms x ≡ At k
+at_from : (i : ℕ) (ms : List (Marked Block)) (x k : ℕ) → link_from (is x) i ms ≡ suc k → row_from i ms x ≡ Some k
 unfolding link_from row_from
 at_from i [] x k e = absurd (omega arith)
 at_from i (m ∷ ms) x k e = go (is x m) (at_from (suc i) ms x k) e
   where
-    go : (t : Bool) → (link_from (is x) (suc i) ms ≡ suc k → row_from (suc i) ms x ≡ At k)
-        → cond t (suc i) (link_from (is x) (suc i) ms) ≡ suc k → cond t (At i) (row_from (suc i) ms x) ≡ At k
-    go true rec f = let z : i ≡ k = omega arith in ap At z
+    go : (t : Bool) → (link_from (is x) (suc i) ms ≡ suc k → row_from (suc i) ms x ≡ Some k)
+        → cond t (suc i) (link_from (is x) (suc i) ms) ≡ suc k → cond t (Some i) (row_from (suc i) ms x) ≡ Some k
+    go true rec f = let z : i ≡ k = omega arith in ap Some z
     go false rec f = rec f
 
-missing-from : (i : ℕ) (ms : List (Marked Block)) (x : ℕ) → link_from (is x) i ms ≡ 0 → row_from i ms x ≡ Missing
+missing-from : (i : ℕ) (ms : List (Marked Block)) (x : ℕ) → link_from (is x) i ms ≡ 0 → row_from i ms x ≡ None
 unfolding link_from row_from
 missing-from i [] x e = refl
 missing-from i (m ∷ ms) x e = go (is x m) (missing-from (suc i) ms x) e
   where
-    go : (t : Bool) → (link_from (is x) (suc i) ms ≡ 0 → row_from (suc i) ms x ≡ Missing)
-        → cond t (suc i) (link_from (is x) (suc i) ms) ≡ 0 → cond t (At i) (row_from (suc i) ms x) ≡ Missing
+    go : (t : Bool) → (link_from (is x) (suc i) ms ≡ 0 → row_from (suc i) ms x ≡ None)
+        → cond t (suc i) (link_from (is x) (suc i) ms) ≡ 0 → cond t (Some i) (row_from (suc i) ms x) ≡ None
     go true rec f = absurd (omega arith)
     go false rec f = rec f
 
-pub at-link : (ms : List (Marked Block)) (x k : ℕ) → link_to_number ms x ≡ suc k → row_of ms x ≡ At k
+pub at-link : (ms : List (Marked Block)) (x k : ℕ) → link_to_number ms x ≡ suc k → row_of ms x ≡ Some k
 unfolding link_to_number
 at-link ms x k e = at_from 0 ms x k e
 
-pub missing-link : (ms : List (Marked Block)) (x : ℕ) → link_to_number ms x ≡ 0 → row_of ms x ≡ Missing
+pub missing-link : (ms : List (Marked Block)) (x : ℕ) → link_to_number ms x ≡ 0 → row_of ms x ≡ None
 unfolding link_to_number
 missing-link ms x e = missing-from 0 ms x e
 

@@ -21,11 +21,9 @@ use Rattle.search_tree.specs.Tree.{Blank, Points}
 use Rattle.search_tree.proofs.Tree.{index-free}
 use Rattle.search_tree.proofs.Lists.{link-past}
 use Rattle.index.specs.declared.Key.{Key}
-use Rattle.index.specs.declared.Kind.TheVariants.{Blocks, Votes}
-use Rattle.index.specs.declared.Section.TheVariants.{PacketBlocks, PacketVotes}
 use Rattle.index.specs.Keys.{number_key, vote_key}
-use Rattle.index.specs.Index.{key_at, entry_key, PacketRoom}
-use Rattle.index.specs.Links.{BlockIndex, VoteIndex, BlocksIndexed, VotesIndexed, block_keys, vote_keys, link_behind, numbers_differ, votes_differ, known_blocks, known_votes, link_to_block, link_to_vote, lookup_at}
+use Rattle.index.specs.Index.{row_number, row_vote, packet_number, packet_vote, PacketRoom, NoneHas, Behind, PointsBehind}
+use Rattle.index.specs.Links.{BlockIndex, VoteIndex, BlocksIndexed, VotesIndexed, block_keys, vote_keys, numbers_differ, votes_differ, known_blocks, known_votes, link_to_block, link_to_vote, lookup_at}
 use Rattle.index.proofs.Known.{length-known, known-row, known_next}
 use Rattle.index.proofs.Links.{linked, Differ, keys-differ}
 use Rattle.index.proofs.Tables.{number-tells, vote-tells, has-link, numbers-differ, votes-differ}
@@ -49,82 +47,73 @@ module _ (ws : List ℕ) (used : ℕ) (bytes : List ℕ) (n : ℕ) where
 
 -- ---- the rows of the table come first
 
--- `front` are the keys of the rows of the table, `back` those of the entries behind them
-module _ {key front : ℕ → Key} {used : ℕ} (rows : (j : ℕ) → j < used → front j ≡ key j) where
-  early : (i : ℕ) {k : Key} {link : ℕ} → Points front used k link → (link ≡ 0 → ⊥) → Points key (used + i) k link
-  early i {k} s f =
+-- what was found among the rows, or else among the first i entries behind them
+module _ {rows entries : ℕ → Key} {used : ℕ} (i : ℕ) {k : Key} where
+  pub early : {p : ℕ} → Points rows used k (suc p) → PointsBehind rows used entries i k (suc p)
+  early {p} s key b =
       record {
-        hit = λ p e.
-            let g = s.hit p e in
-            let l : p < used = g.is_row in
-            record { is_row = omega arith; has = sym (rows p l) ∙ g.has; fresh = λ m h q. g.fresh m h (rows m (omega arith) ∙ q) };
-        none = λ e. absurd (f e);
+        hit = λ q e.
+            let g = s.hit q e in
+            let l : q < used = g.is_row in
+            record { is_row = omega arith; has = sym (b.row q l) ∙ g.has; fresh = λ m h u. g.fresh m h (b.row m (omega arith) ∙ u) };
+        none = λ e. absurd (omega arith);
       }
 
-  module _ {back : ℕ → Key} (entries : (m : ℕ) → back m ≡ key (used + m)) where
-    -- no row before entry m has the key
-    before : {k : Key} {m : ℕ} → ((j : ℕ) → j < used → front j ≡ k → ⊥) → ((j : ℕ) → j < m → back j ≡ k → ⊥) → (j : ℕ) → j < used + m → key j ≡ k → ⊥
-    before f g j h e = go (dec_lt j used)
-      where
-        go : Dec (j < used) → ⊥
-        go (yes l) = f j l (rows j l ∙ e)
-        go (no l) = let z : used + (j - used) ≡ j = omega arith in g (j - used) (omega arith) (entries (j - used) ∙ ap key z ∙ e)
+  -- no row before entry m has the key
+  before : {key : ℕ → Key} {m : ℕ} → Behind rows used entries key → NoneHas rows used k → NoneHas entries m k → NoneHas key (used + m) k
+  before {key} b f g j h e = go (dec_lt j used)
+    where
+      go : Dec (j < used) → ⊥
+      go (yes l) = f j l (b.row j l ∙ e)
+      go (no l) = let z : used + (j - used) ≡ j = omega arith in g (j - used) (omega arith) (b.entry (j - used) ∙ ap key z ∙ e)
 
-    late : (i : ℕ) {k : Key} {link later : ℕ} → Points front used k link → link ≡ 0 → Points back i k later → Points key (used + i) k (link_behind used later)
-    late i {later = zero} s e t = record { hit = λ p q. absurd (omega arith); none = λ q. before (s.none e) (t.none refl) }
-    late i {later = suc m} s e t =
-        let g = t.hit m refl in
-        record {
-          hit = λ p q.
-              let z : used + m ≡ p = omega arith in
-              let l : m < i = g.is_row in
-              record { is_row = omega arith; has = ap key (sym z) ∙ sym (entries m) ∙ g.has; fresh = λ r h. before (s.none e) g.fresh r (omega arith) };
-          none = λ q. absurd (omega arith);
-        }
+  pub late_none : Points rows used k 0 → Points entries i k 0 → PointsBehind rows used entries i k 0
+  late_none s t key b = record { hit = λ p q. absurd (omega arith); none = λ q. before b (s.none refl) (t.none refl) }
+
+  pub late-some : {m : ℕ} → Points rows used k 0 → Points entries i k (suc m) → PointsBehind rows used entries i k (suc (used + m))
+  late-some {m} s t key b =
+      let g = t.hit m refl in
+      record {
+        hit = λ p q.
+            let z : used + m ≡ p = omega arith in
+            let l : m < i = g.is_row in
+            record { is_row = omega arith; has = ap key (sym z) ∙ sym (b.entry m) ∙ g.has; fresh = λ r h. before b (s.none refl) g.fresh r (omega arith) };
+        none = λ q. absurd (omega arith);
+      }
 
 module _ (ws : List ℕ) (used : ℕ) (bytes : List ℕ) where
-  pub block_row : (j : ℕ) → j < used → key_at Blocks ws j ≡ block_keys ws used bytes j
+  pub block_row : (j : ℕ) → j < used → row_number ws j ≡ block_keys ws used bytes j
   block_row j h = ap (λ (b : Block). number_key b.number) (known-row make_block ws used (packet_of bytes).blocks j (in_view genesis) h refl)
 
-  pub vote-row : (j : ℕ) → j < used → key_at Votes ws j ≡ vote_keys ws used bytes j
+  pub vote-row : (j : ℕ) → j < used → row_vote ws j ≡ vote_keys ws used bytes j
   vote-row j h = ap vote_key (known-row make_vote ws used (packet_of bytes).votes j (in_view no_vote) h refl)
 
-  pub block-past : (m : ℕ) → entry_key PacketBlocks bytes m ≡ block_keys ws used bytes (used + m)
+  pub block-past : (m : ℕ) → packet_number bytes m ≡ block_keys ws used bytes (used + m)
   block-past m = ap (λ (b : Block). number_key b.number) (sym (known_next make_block ws used (packet_of bytes).blocks m genesis))
 
-  pub vote-past : (m : ℕ) → entry_key PacketVotes bytes m ≡ vote_keys ws used bytes (used + m)
+  pub vote-past : (m : ℕ) → packet_vote bytes m ≡ vote_keys ws used bytes (used + m)
   vote-past m = ap vote_key (sym (known_next make_vote ws used (packet_of bytes).votes m no_vote))
 
   -- of no entry of the packet there is an index where the links are free
-  pub blocks-begin : {salt : ℕ} {ls ps : List ℕ} → BlockIndex ws used ls → Blank ps → PacketRoom salt 0 ps → BlocksIndexed salt ws used bytes 0 ls ps
-  blocks-begin x e h = record { table = x; packet = index-free _ e h.1 }
+  pub blocks-begin : (salt : ℕ) {ls ps : List ℕ} → BlockIndex ws used ls → Blank ps → PacketRoom salt 0 ps → BlocksIndexed salt ws used bytes 0 ls ps
+  blocks-begin salt x e h = record { table = x; packet = index-free _ e h.1 }
 
-  pub votes-begin : {salt : ℕ} {ls ps : List ℕ} → VoteIndex ws used ls → Blank ps → PacketRoom salt 0 ps → VotesIndexed salt ws used bytes 0 ls ps
-  votes-begin x e h = record { table = x; packet = index-free _ e h.1 }
+  pub votes-begin : (salt : ℕ) {ls ps : List ℕ} → VoteIndex ws used ls → Blank ps → PacketRoom salt 0 ps → VotesIndexed salt ws used bytes 0 ls ps
+  votes-begin salt x e h = record { table = x; packet = index-free _ e h.1 }
 
-  -- what was found in the table, or else among the packet's first i entries
-  module _ (i : ℕ) where
-    pub block-early : {k x : Key} {link : ℕ} → k ≡ x → Points (key_at Blocks ws) used k link → (link ≡ 0 → ⊥) → Points (block_keys ws used bytes) (used + i) x link
-    block-early a s f = rw a at (early block_row i s f)
+  pub blocks_behind : Behind (row_number ws) used (packet_number bytes) (block_keys ws used bytes)
+  blocks_behind = record { row = block_row; entry = block-past }
 
-    pub block-late : {k x y : Key} {link later r : ℕ} → k ≡ x → k ≡ y → Points (key_at Blocks ws) used k link → link ≡ 0 → Points (entry_key PacketBlocks bytes) i y later
-        → r ≡ link_behind used later → Points (block_keys ws used bytes) (used + i) x r
-    block-late {later = later} a b s e t z = rw z (rw a at (late block_row block-past i {later = later} s e (rw (← b) at t)))
-
-    pub vote-early : {k x : Key} {link : ℕ} → k ≡ x → Points (key_at Votes ws) used k link → (link ≡ 0 → ⊥) → Points (vote_keys ws used bytes) (used + i) x link
-    vote-early a s f = rw a at (early vote-row i s f)
-
-    pub vote-late : {k x y : Key} {link later r : ℕ} → k ≡ x → k ≡ y → Points (key_at Votes ws) used k link → link ≡ 0 → Points (entry_key PacketVotes bytes) i y later
-        → r ≡ link_behind used later → Points (vote_keys ws used bytes) (used + i) x r
-    vote-late {later = later} a b s e t z = rw z (rw a at (late vote-row vote-past i {later = later} s e (rw (← b) at t)))
+  pub votes_behind : Behind (row_vote ws) used (packet_vote bytes) (vote_keys ws used bytes)
+  votes_behind = record { row = vote-row; entry = vote-past }
 
   pub blocks-apart : numbers_differ (rows_of make_block ws used) ≡ true → Differ (block_keys ws used bytes) used
   blocks-apart e i j h l q =
-      keys-differ (key_at Blocks ws) used (numbers-differ ws used ∙ e) i j h l (block_row i (omega arith) ∙ q ∙ sym (block_row j l))
+      keys-differ (row_number ws) used (numbers-differ ws used ∙ e) i j h l (block_row i (omega arith) ∙ q ∙ sym (block_row j l))
 
   pub votes-apart : votes_differ (rows_of make_vote ws used) ≡ true → Differ (vote_keys ws used bytes) used
   votes-apart e i j h l q =
-      keys-differ (key_at Votes ws) used (votes-differ ws used ∙ e) i j h l (vote-row i (omega arith) ∙ q ∙ sym (vote-row j l))
+      keys-differ (row_vote ws) used (votes-differ ws used ∙ e) i j h l (vote-row i (omega arith) ∙ q ∙ sym (vote-row j l))
 
 -- a vote is there if it has a row
 pub vote-among : (vs : List Vote) (a : Vote) {link : ℕ} → link ≡ link_to_vote vs a → not (eqb link 0) ≡ any_pass (same_vote a) vs

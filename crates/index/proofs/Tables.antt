@@ -24,9 +24,8 @@ use Rattle.search_tree.specs.Lists.{link_to, distinct}
 use Rattle.search_tree.specs.Tree.{Points}
 use Rattle.search_tree.proofs.Lists.{link-front, any-linked, distinct-front}
 use Rattle.index.specs.declared.Key.{Key}
-use Rattle.index.specs.declared.Kind.TheVariants.{Blocks, Votes}
 use Rattle.index.specs.Keys.{number_key, vote_key, same_key}
-use Rattle.index.specs.Index.{key_at, keys_differ}
+use Rattle.index.specs.Index.{row_number, row_vote, keys_differ}
 use Rattle.index.specs.Links.{link_to_number, numbers_differ, votes_differ}
 use Rattle.index.proofs.Keys.{key-same, same_key_lem}
 use Rattle.index.proofs.Links.{Table, Tells, linked, rows-differ}
@@ -54,13 +53,13 @@ abbrev same_number : Marked Block → Marked Block → Bool
 same_number a b = eqb a.entry.number b.entry.number
 
 module _ (ws : List ℕ) where
-  pub number-linked : (n x : ℕ) {k : Key} {link : ℕ} → k ≡ number_key x → Points (key_at Blocks ws) n k link → link ≡ link_to_number (rows_of make_block ws n) x
+  pub number-linked : (n x : ℕ) {k : Key} {link : ℕ} → k ≡ number_key x → Points (row_number ws) n k link → link ≡ link_to_number (rows_of make_block ws n) x
   unfolding link_to_number
   number-linked n x e s =
       let T = table make_block (in_view genesis) ws in
       linked (in_view genesis) (number-tells (λ m. m.entry.number) x) (rw e at s) (rows_of make_block ws n) (T.size n) (λ j l. ap (λ m. number_key m.entry.number) (T.read n j l))
 
-  pub numbers-differ : (n : ℕ) → keys_differ (key_at Blocks ws) n ≡ numbers_differ (rows_of make_block ws n)
+  pub numbers-differ : (n : ℕ) → keys_differ (row_number ws) n ≡ numbers_differ (rows_of make_block ws n)
   unfolding numbers_differ
   numbers-differ n = rows-differ (λ m. number_key m.entry.number) same_number (λ a b. number-keys a.entry.number b.entry.number) (table make_block (in_view genesis) ws) (none make_block ws) n
 
@@ -96,7 +95,7 @@ abbrev same_entry : Marked Vote → Marked Vote → Bool
 same_entry a b = same_vote a.entry b.entry
 
 module _ (ws : List ℕ) where
-  pub votes-differ : (n : ℕ) → keys_differ (key_at Votes ws) n ≡ votes_differ (rows_of make_vote ws n)
+  pub votes-differ : (n : ℕ) → keys_differ (row_vote ws) n ≡ votes_differ (rows_of make_vote ws n)
   unfolding votes_differ
   votes-differ n = rows-differ (λ m. vote_key m.entry) same_entry (λ a b. vote-keys a.entry b.entry) (table make_vote (in_view no_vote) ws) (none make_vote ws) n
 

@@ -40,6 +40,7 @@ pub struct Limits {
     pub votes: u64,
 }
 
+#[tactic(auto, unfolding(protocol::specs::Limits::limits_of))]
 pub fn limits_of(profile: Profile) -> Limits
     ensures { (result.nodes ≡ (limits_of profile).nodes) × (result.blocks ≡ (limits_of profile).blocks) × (result.votes ≡ (limits_of profile).votes) }
 {
@@ -58,6 +59,7 @@ pub fn limits_of(profile: Profile) -> Limits
 }
 
 // Whether a packet of so many bytes is too long to be read.
+#[tactic(auto, unfolding(protocol::specs::Limits::limits_of))]
 pub fn too_long(profile: Profile, length: usize) -> bool
     ensures { result ≡ (limits_of profile).too_long length }
 {

@@ -33,10 +33,7 @@ pub fn has(mask: u64, v: u64) -> bool
 pub fn has_from(mask: u64, n: u64) -> bool
     ensures { result ≡ leb (2 ^ n) mask }
 {
-    if n < 64 {
-        return mask >> n != 0;
-    }
-    false
+    n < 64 && mask >> n != 0
 }
 
 // The weight of a set: how many voters are in it.

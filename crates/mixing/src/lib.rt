@@ -3,7 +3,7 @@
 #![tactic(auto)]
 
 ghost use Rattle.std.specs.Prelude.{◌≡◌, ◌<◌};
-ghost use Rattle.mixing.specs.Mixing.{rotated, stir, mix};
+ghost use Rattle.mixing.specs.Mixing.{stir, mix};
 
 // What a round works on.
 #[derive(Clone, Copy)]
@@ -14,56 +14,20 @@ struct Words {
     d: u64,
 }
 
-// A word turned to the left by as many bits as the name says.
-fn turned_13(x: u64) -> u64
-    ensures { result ≡ rotated 13 x }
-{
-    (x << 13) | (x >> 51)
-}
-
-fn turned_16(x: u64) -> u64
-    ensures { result ≡ rotated 16 x }
-{
-    (x << 16) | (x >> 48)
-}
-
-fn turned_17(x: u64) -> u64
-    ensures { result ≡ rotated 17 x }
-{
-    (x << 17) | (x >> 47)
-}
-
-fn turned_21(x: u64) -> u64
-    ensures { result ≡ rotated 21 x }
-{
-    (x << 21) | (x >> 43)
-}
-
-fn turned_32(x: u64) -> u64
-    ensures { result ≡ rotated 32 x }
-{
-    (x << 32) | (x >> 32)
-}
-
 // One round.
 fn stirred(w: Words) -> Words
     ensures { result ≡ stir w }
 {
-    let e = std::num::wrapping_add_u64(w.a, w.b);
-    let f = turned_13(w.b) ^ e;
-    let g = std::num::wrapping_add_u64(w.c, w.d);
-    let h = turned_16(w.d) ^ g;
-    let a = std::num::wrapping_add_u64(turned_32(e), h);
-    let d = turned_21(h) ^ a;
-    let t = std::num::wrapping_add_u64(g, f);
-    let b = turned_17(f) ^ t;
-    let c = turned_32(t);
-    Words {
-        a: a,
-        b: b,
-        c: c,
-        d: d,
-    }
+    let e = w.a.wrapping_add(w.b);
+    let f = w.b.rotate_left(13) ^ e;
+    let g = w.c.wrapping_add(w.d);
+    let h = w.d.rotate_left(16) ^ g;
+    let a = e.rotate_left(32).wrapping_add(h);
+    let d = h.rotate_left(21) ^ a;
+    let t = g.wrapping_add(f);
+    let b = f.rotate_left(17) ^ t;
+    let c = t.rotate_left(32);
+    Words { a, b, c, d }
 }
 
 // A key's four words, mixed with a salt.
@@ -82,18 +46,8 @@ pub fn mixed(salt: u64, a: u64, b: u64, c: u64, d: u64) -> u64
 
 // One more word taken in, as SipHash does.
 fn absorbed(w: Words, word: u64) -> Words {
-    let v = stirred(Words {
-        a: w.a,
-        b: w.b,
-        c: w.c,
-        d: w.d ^ word,
-    });
-    Words {
-        a: v.a ^ word,
-        b: v.b,
-        c: v.c,
-        d: v.d,
-    }
+    let v = stirred(Words { d: w.d ^ word, ..w });
+    Words { a: v.a ^ word, ..v }
 }
 
 // A salt for the keys of a packet, made from all of its bytes. The cost is one round for every eight bytes. It is not 0; no
@@ -108,11 +62,8 @@ pub fn salt_of(bytes: &[u8]) -> u64
         d: 8387220255154660723,
     };
     let count = bytes.len() / 8;
-    let mut i: usize = 0;
-    while i < count {
-        let word = packets::number_at(bytes, 8 * i, 8);
-        w = absorbed(w, word);
-        i += 1;
+    for i in 0..count {
+        w = absorbed(w, packets::number_at(bytes, 8 * i, 8));
     }
     let rest = packets::number_at(bytes, 8 * count, 8);
     let v = stirred(stirred(stirred(stirred(absorbed(w, rest)))));

@@ -1,393 +1,174 @@
 // The calls that change a node's memory: Open, Receive, Propose, Vote and Merge.
-// Each takes any memory that a caller may lend: the verdict comes first, and a refused call writes nothing.
+// Each takes any memory that a caller may lend: the verdict comes first, and a refused call writes nothing. A call that is carried out moves the clock and the
+// counts on in place.
 #![tactic(auto)]
 
-ghost use Rattle.std.specs.Prelude.{cond, ◌≡◌, ◌/◌};
 ghost use Rattle.protocol.specs.Words.{value};
-ghost use Rattle.verdicts.specs.Lent.{lent_at_entry, lent_at_exit};
-ghost use Rattle.answers.specs.declared.Answer.TheVariants.{Refused};
+ghost use Rattle.lent.specs.Memory.{memory_mut, IsSameLoan};
 ghost use Rattle.answers.specs.Promises.{Opens, Receives, Proposes, Votes, Merges, Carries};
 
-use answers::{Answer, Call, Moved, Received};
-use protocol::{Block, Clock, Number, Settings, Vote};
-use verdicts::{Refusal, Verdict};
-
-// A refused call leaves the clock as it was.
-fn refused(refusal: Refusal, clock: Clock) -> Moved
-    ensures { result ≡ record { answer = Refused refusal; clock = clock } }
-{
-    Moved {
-        answer: Answer::Refused(refusal),
-        clock: clock,
-    }
-}
+use answers::{Answer, Call, Received};
+use fork_choice::Tables;
+use lent::LentMut;
+use protocol::{Block, Clock, Number, Vote};
+use verdicts::Refusal;
 
 // A fresh node: block 0 alone, every other place zero.
-pub fn open(
-    settings: Settings,
-    clock: Clock,
-    blocks: &mut [u64],
-    blocks_used: &mut usize,
-    votes: &mut [u64],
-    votes_used: &mut usize,
-) -> Moved
-    ensures { Opens settings (lent_at_entry blocks blocks_used votes votes_used clock)
-        (lent_at_exit blocks blocks_used votes votes_used result.clock) result.answer }
+pub fn open(lent: &mut LentMut<'_>) -> Result<(), Refusal>
+    ensures promise { Opens lent.old.settings (memory_mut lent.old) (memory_mut lent.new) result }
+    ensures same { IsSameLoan lent.old lent.new }
 {
-    let verdict = verdicts::open_verdict(settings, blocks, votes);
-    match verdict {
-        Verdict::Refuse(refusal) => refused(refusal, clock),
-        Verdict::Pass => {
-            changes::clear(blocks, votes);
-            *blocks_used = 1;
-            *votes_used = 0;
-            Moved {
-                answer: Answer::Done,
-                clock: Clock {
-                    seen: 2,
-                    done: 2,
-                    merged: 0,
-                    proposed: 0,
-                },
-            }
-        }
-    }
-}
-
-// The clock after a packet, which came into view or not. One that did is of the beat's slot.
-fn received_clock(clock: Clock, beat: u64, viewed: bool) -> Clock
-    ensures { result ≡ record { seen = beat; done = clock.done; merged = clock.merged; proposed = cond viewed (beat / 3) clock.proposed } }
-{
-    if viewed {
-        return Clock {
-            seen: beat,
-            done: clock.done,
-            merged: clock.merged,
-            proposed: beat / 3,
-        };
-    }
-    Clock {
-        seen: beat,
-        done: clock.done,
-        merged: clock.merged,
-        proposed: clock.proposed,
-    }
+    verdicts::open_verdict(lent.read())?;
+    changes::clear(&mut *lent.blocks, &mut *lent.votes);
+    lent.blocks_used = 1;
+    lent.votes_used = 0;
+    lent.clock = Clock {
+        seen: 2,
+        done: 2,
+        merged: 0,
+        proposed: 0,
+    };
+    Ok(())
 }
 
 // New entries wait at the tables' ends, but for votes of slots below the last merged slot less E, which are not stored; the slot's first
 // proposal comes into view with all that it stands on. The answer says how many entries were new, and whether the packet came into view.
-pub fn receive(
-    settings: Settings,
-    clock: Clock,
-    blocks: &mut [u64],
-    blocks_used: &mut usize,
-    votes: &mut [u64],
-    votes_used: &mut usize,
-    beat: u64,
-    bytes: &[u8],
-) -> Moved
-    ensures { Receives settings (lent_at_entry blocks blocks_used votes votes_used clock) beat bytes.now
-        (lent_at_exit blocks blocks_used votes votes_used result.clock) result.answer }
+pub fn receive(lent: &mut LentMut<'_>, beat: u64, bytes: &[u8]) -> Result<Received, Refusal>
+    ensures promise { Receives lent.old.settings (memory_mut lent.old) beat bytes.now (memory_mut lent.new) result }
+    ensures same { IsSameLoan lent.old lent.new }
 {
-    let block_rows = *blocks_used;
-    let vote_rows = *votes_used;
+    let block_rows = lent.blocks_used;
+    let vote_rows = lent.votes_used;
     let mut block_firsts = [0u64; verdicts::BLOCK_FIRSTS];
     let mut vote_firsts = [0u64; verdicts::VOTE_FIRSTS];
-    let verdict = verdicts::receive_verdict(
-        settings,
-        clock,
-        blocks,
-        block_rows,
-        votes,
-        vote_rows,
+    verdicts::receive_verdict(
+        lent.read(),
         beat,
         bytes,
         &mut block_firsts,
         &mut vote_firsts,
+    )?;
+    let viewed = receiving::viewed_at_once(lent.clock, beat, bytes);
+    receiving::receive_blocks(
+        &mut *lent.blocks,
+        &mut lent.blocks_used,
+        bytes,
+        &block_firsts,
+        viewed,
     );
-    match verdict {
-        Verdict::Refuse(refusal) => refused(refusal, clock),
-        Verdict::Pass => {
-            let viewed = receiving::viewed_at_once(clock, beat, bytes);
-            receiving::receive_blocks(blocks, blocks_used, bytes, &block_firsts, viewed);
-            let from = own_entries::kept_from(settings, clock.merged);
-            receiving::receive_votes(votes, votes_used, bytes, &vote_firsts, from, viewed);
-            let new_blocks = *blocks_used - block_rows;
-            let new_votes = *votes_used - vote_rows;
-            Moved {
-                answer: Answer::Received(Received {
-                    new_blocks: new_blocks as u64,
-                    new_votes: new_votes as u64,
-                    viewed,
-                }),
-                clock: received_clock(clock, beat, viewed),
-            }
-        }
-    }
+    let from = own_entries::kept_from(lent.settings, lent.clock.merged);
+    receiving::receive_votes(
+        &mut *lent.votes,
+        &mut lent.votes_used,
+        bytes,
+        &vote_firsts,
+        from,
+        viewed,
+    );
+    let new_blocks = lent.blocks_used - block_rows;
+    let new_votes = lent.votes_used - vote_rows;
+    // a packet that came into view is of the beat's slot
+    let proposed = if viewed {
+        beat / 3
+    } else {
+        lent.clock.proposed
+    };
+    lent.clock = Clock {
+        seen: beat,
+        proposed,
+        ..lent.clock
+    };
+    Ok(Received {
+        new_blocks: new_blocks as u64,
+        new_votes: new_votes as u64,
+        viewed,
+    })
 }
 
 // A new block on the base; the whole store comes into view. The answer is the base.
-pub fn propose(
-    settings: Settings,
-    clock: Clock,
-    blocks: &mut [u64],
-    blocks_used: &mut usize,
-    votes: &mut [u64],
-    votes_used: &mut usize,
-    beat: u64,
-    number: Number,
-) -> Moved
-    ensures { Proposes settings (lent_at_entry blocks blocks_used votes votes_used clock) beat (value number)
-        (lent_at_exit blocks blocks_used votes votes_used result.clock) result.answer }
+pub fn propose(lent: &mut LentMut<'_>, beat: u64, number: Number) -> Result<Number, Refusal>
+    ensures promise { Proposes lent.old.settings (memory_mut lent.old) beat (value number) (memory_mut lent.new) result }
+    ensures same { IsSameLoan lent.old lent.new }
 {
-    let blocks_before = *blocks_used;
-    let votes_before = *votes_used;
-    let verdict = verdicts::propose_verdict(
-        settings,
-        clock,
-        blocks,
-        blocks_before,
-        votes,
-        votes_before,
-        beat,
-        number,
+    verdicts::propose_verdict(lent.read(), beat, number)?;
+    let slot = beat / 3;
+    let base = fork_choice::base(Tables::of(lent.read()), slot);
+    changes::view_all::<Block>(&mut *lent.blocks, lent.blocks_used);
+    changes::append(
+        &mut *lent.blocks,
+        &mut lent.blocks_used,
+        Block {
+            number,
+            parent: base,
+            slot,
+        },
+        true,
     );
-    match verdict {
-        Verdict::Refuse(refusal) => refused(refusal, clock),
-        Verdict::Pass => {
-            let slot = beat / 3;
-            let base = fork_choice::base(
-                settings,
-                blocks,
-                blocks_before,
-                votes,
-                votes_before,
-                slot,
-            );
-            changes::view_all_blocks(blocks, blocks_before);
-            changes::append_block(
-                blocks,
-                blocks_used,
-                Block {
-                    number,
-                    parent: base,
-                    slot,
-                },
-                true,
-            );
-            changes::view_all_votes(votes, votes_before);
-            Moved {
-                answer: Answer::Block(base),
-                clock: Clock {
-                    seen: beat,
-                    done: beat,
-                    merged: clock.merged,
-                    proposed: slot,
-                },
-            }
-        }
-    }
+    changes::view_all::<Vote>(&mut *lent.votes, lent.votes_used);
+    lent.clock = Clock {
+        seen: beat,
+        done: beat,
+        proposed: slot,
+        ..lent.clock
+    };
+    Ok(base)
 }
 
 // The own vote for the head, which waits. The answer is the head.
-pub fn vote(
-    settings: Settings,
-    clock: Clock,
-    blocks: &mut [u64],
-    blocks_used: &mut usize,
-    votes: &mut [u64],
-    votes_used: &mut usize,
-    beat: u64,
-) -> Moved
-    ensures { Votes settings (lent_at_entry blocks blocks_used votes votes_used clock) beat
-        (lent_at_exit blocks blocks_used votes votes_used result.clock) result.answer }
+pub fn vote(lent: &mut LentMut<'_>, beat: u64) -> Result<Number, Refusal>
+    ensures promise { Votes lent.old.settings (memory_mut lent.old) beat (memory_mut lent.new) result }
+    ensures same { IsSameLoan lent.old lent.new }
 {
-    let block_rows = *blocks_used;
-    let vote_rows = *votes_used;
-    let verdict = verdicts::vote_verdict(
-        settings, clock, blocks, block_rows, votes, vote_rows, beat,
+    verdicts::vote_verdict(lent.read(), beat)?;
+    let slot = beat / 3;
+    let head = fork_choice::head(Tables::of(lent.read()), slot);
+    changes::append(
+        &mut *lent.votes,
+        &mut lent.votes_used,
+        Vote {
+            voter: lent.settings.own,
+            slot,
+            number: head,
+        },
+        false,
     );
-    match verdict {
-        Verdict::Refuse(refusal) => refused(refusal, clock),
-        Verdict::Pass => {
-            let slot = beat / 3;
-            let head = fork_choice::head(settings, blocks, block_rows, votes, vote_rows, slot);
-            changes::append_vote(
-                votes,
-                votes_used,
-                Vote {
-                    voter: settings.own,
-                    slot,
-                    number: head,
-                },
-                false,
-            );
-            Moved {
-                answer: Answer::Block(head),
-                clock: Clock {
-                    seen: beat,
-                    done: beat,
-                    merged: clock.merged,
-                    proposed: clock.proposed,
-                },
-            }
-        }
-    }
+    lent.clock = Clock {
+        seen: beat,
+        done: beat,
+        ..lent.clock
+    };
+    Ok(head)
 }
 
 // All waiting entries come into view, and votes of slots below t - E are removed: the others move up, and the places freed are zero.
-pub fn merge(
-    settings: Settings,
-    clock: Clock,
-    blocks: &mut [u64],
-    blocks_used: &mut usize,
-    votes: &mut [u64],
-    votes_used: &mut usize,
-    beat: u64,
-) -> Moved
-    ensures { Merges settings (lent_at_entry blocks blocks_used votes votes_used clock) beat
-        (lent_at_exit blocks blocks_used votes votes_used result.clock) result.answer }
+pub fn merge(lent: &mut LentMut<'_>, beat: u64) -> Result<(), Refusal>
+    ensures promise { Merges lent.old.settings (memory_mut lent.old) beat (memory_mut lent.new) result }
+    ensures same { IsSameLoan lent.old lent.new }
 {
-    let block_rows = *blocks_used;
-    let vote_rows = *votes_used;
-    let verdict = verdicts::merge_verdict(
-        settings, clock, blocks, block_rows, votes, vote_rows, beat,
-    );
-    match verdict {
-        Verdict::Refuse(refusal) => refused(refusal, clock),
-        Verdict::Pass => {
-            let slot = beat / 3;
-            let from = own_entries::kept_from(settings, slot);
-            changes::view_all_blocks(blocks, block_rows);
-            changes::merge_votes(votes, votes_used, from);
-            Moved {
-                answer: Answer::Done,
-                clock: Clock {
-                    seen: beat,
-                    done: beat,
-                    merged: slot,
-                    proposed: clock.proposed,
-                },
-            }
-        }
-    }
+    verdicts::merge_verdict(lent.read(), beat)?;
+    let slot = beat / 3;
+    let from = own_entries::kept_from(lent.settings, slot);
+    changes::view_all::<Block>(&mut *lent.blocks, lent.blocks_used);
+    changes::merge_votes(&mut *lent.votes, &mut lent.votes_used, from);
+    lent.clock = Clock {
+        seen: beat,
+        done: beat,
+        merged: slot,
+        ..lent.clock
+    };
+    Ok(())
 }
-
-// ---- the clock moved on in place
 
 // The call that is asked for. The bytes are Receive's; the other calls do not look at them.
-fn carried(
-    settings: Settings,
-    clock: Clock,
-    blocks: &mut [u64],
-    blocks_used: &mut usize,
-    votes: &mut [u64],
-    votes_used: &mut usize,
-    call: Call,
-    beat: u64,
-    bytes: &[u8],
-) -> Moved
-    ensures { Carries settings (lent_at_entry blocks blocks_used votes votes_used clock) call beat bytes.now
-        (lent_at_exit blocks blocks_used votes votes_used result.clock) result.answer }
+// A match on the call: which it is comes from outside.
+pub fn carry(lent: &mut LentMut<'_>, call: Call, beat: u64, bytes: &[u8]) -> Result<Answer, Refusal>
+    ensures promise { Carries lent.old.settings (memory_mut lent.old) call beat bytes.now (memory_mut lent.new) result }
+    ensures same { IsSameLoan lent.old lent.new }
 {
     match call {
-        Call::Receive => receive(
-            settings,
-            clock,
-            blocks,
-            blocks_used,
-            votes,
-            votes_used,
-            beat,
-            bytes,
-        ),
-        Call::Propose(number) => propose(
-            settings,
-            clock,
-            blocks,
-            blocks_used,
-            votes,
-            votes_used,
-            beat,
-            number,
-        ),
-        Call::Vote => vote(
-            settings,
-            clock,
-            blocks,
-            blocks_used,
-            votes,
-            votes_used,
-            beat,
-        ),
-        Call::Merge => merge(
-            settings,
-            clock,
-            blocks,
-            blocks_used,
-            votes,
-            votes_used,
-            beat,
-        ),
+        Call::Receive => receive(lent, beat, bytes).map(Answer::Received),
+        Call::Propose(number) => propose(lent, beat, number).map(Answer::Block),
+        Call::Vote => vote(lent, beat).map(Answer::Block),
+        Call::Merge => merge(lent, beat).and(Ok(Answer::Done)),
     }
-}
-
-// The same, with the clock lent: every call that carries a beat moves it on in place.
-pub fn carry(
-    settings: Settings,
-    clock: &mut Clock,
-    blocks: &mut [u64],
-    blocks_used: &mut usize,
-    votes: &mut [u64],
-    votes_used: &mut usize,
-    call: Call,
-    beat: u64,
-    bytes: &[u8],
-) -> Answer
-    ensures { Carries settings (lent_at_entry blocks blocks_used votes votes_used clock.old) call beat bytes.now
-        (lent_at_exit blocks blocks_used votes votes_used clock.new) result }
-{
-    let m = carried(
-        settings,
-        *clock,
-        blocks,
-        blocks_used,
-        votes,
-        votes_used,
-        call,
-        beat,
-        bytes,
-    );
-    *clock = m.clock;
-    m.answer
-}
-
-// The same with the clock by value, for programs in Rattle: a copy of it is lent to `carry`, and returned as it was left.
-pub fn step(
-    settings: Settings,
-    clock: Clock,
-    blocks: &mut [u64],
-    blocks_used: &mut usize,
-    votes: &mut [u64],
-    votes_used: &mut usize,
-    call: Call,
-    beat: u64,
-    bytes: &[u8],
-) -> Moved
-    ensures { Carries settings (lent_at_entry blocks blocks_used votes votes_used clock) call beat bytes.now
-        (lent_at_exit blocks blocks_used votes votes_used result.clock) result.answer }
-{
-    let mut k = clock;
-    let answer = carry(
-        settings,
-        &mut k,
-        blocks,
-        blocks_used,
-        votes,
-        votes_used,
-        call,
-        beat,
-        bytes,
-    );
-    Moved { answer, clock: k }
 }

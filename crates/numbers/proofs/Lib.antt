@@ -1,3 +1,2 @@
--- Numbers in lent words, and the proofs of the functions. Assumes nothing.
-pub mod NumberWords
-pub mod Tenths
+-- The order of numbers, by their halves. Assumes nothing.
+pub mod Orders

@@ -1,5 +1,5 @@
 -- Entry i of a packet is what stands at its position, a number's lower half and then its upper half. Assumes nothing.
-use Prim.Native.Nat.{ℕ, ◌+◌, ◌*◌, ◌<◌}
+use Prim.Native.Nat.{ℕ, ◌+◌, ◌*◌, ◌<◌, ◌≤◌}
 use mathlib.Core.Path.{◌≡◌, refl, sym, ap, ◌∙◌}
 use mathlib.Core.List.{List}
 use native.Mathlib.Omega.{arith}
@@ -7,10 +7,10 @@ use lib.ListN.{length, drop, get_or}
 use lib.Seq.{drop-drop}
 use Rattle.protocol.specs.declared.Block as code
 use Rattle.protocol.specs.declared.Vote as code_vote
-use Rattle.protocol.specs.Entry.{Block, Vote}
 use Rattle.protocol.specs.Words.{from_halves, block_of, vote_of}
-use Rattle.protocol.specs.Packet.{number_at, block_width, vote_width, after_blocks, count_of_blocks, count_of_votes, read_block, read_vote, packet_at, width_in, packet_of}
-use Rattle.protocol.proofs.Packet.Numbers.{field-drop}
+use Rattle.protocol.specs.Packet.{number_at, entries_at, read_block, read_vote, width_of, width_in}
+use Rattle.protocol.proofs.Packet.Numbers.{field-drop, field_below}
+use Rattle.protocol.proofs.Packet.Ranges.{Each, Byte}
 use Rattle.protocol.proofs.Packet.Sections.{entries-count, entries-at}
 use Rattle.packets.proofs.Fields.{field-halves}
 
@@ -44,23 +44,33 @@ module _ (bs : List ℕ) (h at : ℕ) where
 
 -- ---- entry i
 
-module _ (bs : List ℕ) where
-  pub block-there : (i at : ℕ) (d : Block) → at ≡ after_blocks (width_in bs) i → i < length (packet_of bs).blocks → read_block (width_in bs) (drop at bs) ≡ get_or (packet_of bs).blocks i d
-  unfolding packet_of packet_at
-  block-there i at d e l =
-      let w = width_in bs in
-      let n = count_of_blocks w bs in
-      let front = drop (7 + w) bs in
-      let below : i < n = rw (entries-count (read_block w) (block_width w) n front) at l in
-      ap (λ (k : ℕ). read_block w (drop k bs)) e ∙ ap (read_block w) (sym (drop-drop (block_width w * i) (7 + w) bs)) ∙ sym (entries-at (read_block w) (block_width w) n front i d below)
+-- the entries of a section, where it stands at a position by the width of numbers
+module _ {A : Type 0} (read : ℕ → List ℕ → A) (width : ℕ → ℕ) (front : ℕ → List ℕ → ℕ) (bs : List ℕ) (xs : List A)
+    (law : xs ≡ entries_at (read (width_in bs)) (width (width_in bs)) (number_at bs (front (width_in bs) bs) 2) (drop (front (width_in bs) bs + 2) bs)) where
+  abbrev w : ℕ
+  w = width_in bs
 
-  pub vote-there : (i at : ℕ) (d : Vote) → at ≡ after_blocks (width_in bs) (count_of_blocks (width_in bs) bs) + 2 + vote_width (width_in bs) * i → i < length (packet_of bs).votes
-      → read_vote (width_in bs) (drop at bs) ≡ get_or (packet_of bs).votes i d
-  unfolding packet_of packet_at
-  vote-there i at d e l =
-      let w = width_in bs in
-      let n = count_of_votes w bs in
-      let position = after_blocks w (count_of_blocks w bs) + 2 in
-      let front = drop position bs in
-      let below : i < n = rw (entries-count (read_vote w) (vote_width w) n front) at l in
-      ap (λ (k : ℕ). read_vote w (drop k bs)) e ∙ ap (read_vote w) (sym (drop-drop (vote_width w * i) position bs)) ∙ sym (entries-at (read_vote w) (vote_width w) n front i d below)
+  listed-count : length xs ≡ number_at bs (front w bs) 2
+  listed-count = ap length law ∙ entries-count (read w) (width w) (number_at bs (front w bs) 2) (drop (front w bs + 2) bs)
+
+  -- of a count of two bytes
+  pub entry-few : (i : ℕ) → Each Byte bs → i < length xs → i ≤ 65535
+  entry-few i h l = omega (arith, l, listed-count, field_below 2 (front w bs) bs h)
+
+  -- as code finds the section
+  module _ (kind upper at : ℕ) (k : kind ≡ number_at bs 0 1) (u : 8 + upper ≡ width_of kind) (f : at ≡ front (8 + upper) bs) where
+    stands-at : at ≡ front w bs
+    stands-at = f ∙ ap (λ (v : ℕ). front v bs) (u ∙ ap width_of k)
+
+    pub count-there : (n : ℕ) → n ≡ number_at bs at 2 → n ≡ length xs
+    count-there n e = e ∙ ap (λ (j : ℕ). number_at bs j 2) stands-at ∙ sym listed-count
+
+    pub entry-there : (size i : ℕ) (d : A) → size ≡ width (8 + upper) → i < length xs → read (width_of kind) (drop (at + 2 + size * i) bs) ≡ get_or xs i d
+    entry-there size i d e l =
+        let n = number_at bs (front w bs) 2 in
+        let wide : 8 + upper ≡ w = u ∙ ap width_of k in
+        let below : i < n = omega (arith, l, listed-count) in
+        (λ t. read (width_of (k t)) (drop (stands-at t + 2 + (e ∙ ap width wide) t * i) bs))
+        ∙ ap (read w) (sym (drop-drop (width w * i) (front w bs + 2) bs))
+        ∙ sym (entries-at (read w) (width w) n (drop (front w bs + 2) bs) i d below)
+        ∙ ap (λ (ys : List A). get_or ys i d) (sym law)

@@ -1,14 +1,12 @@
 -- The test of a packet's form, from its header as read. Assumes nothing.
 use Prim.Native.Nat.{ℕ, ◌+◌, ◌<◌}
 use mathlib.Core.Path.{◌≡◌, ap, ◌∙◌}
-use mathlib.Core.Bool.{true, false, ◌||◌}
+use mathlib.Core.Bool.{false}
 use mathlib.Core.List.{List}
 use native.Mathlib.Omega.{arith}
-use borrow.Author.Tests.{eq-eqb, ne_eqb}
-use lib.Dec.{eqb}
 use lib.ListN.{length}
 use Rattle.protocol.specs.Words.{value}
-use Rattle.protocol.specs.Packet.{number_at, count_of_blocks, count_of_votes, size_of, width_of, width_in, is_proposal, header_formed, well_formed}
+use Rattle.protocol.specs.Packet.{number_at, count_of_blocks, count_of_votes, size_of, width_of, width_in, header_formed, well_formed}
 use Rattle.protocol.proofs.Words.{join-halves}
 use Rattle.protocol.proofs.Packet.Ranges.{Each, Byte}
 use Rattle.protocol.proofs.Packet.Bytes.{ill-length, well-by-head, read_fits}
@@ -36,22 +34,3 @@ module _ (bs : List ℕ) (h : Header) (e : h ≡ header_of bs) where
 
     pub formed-header : length bs ≡ size_of (8 + upper) h.blocks h.votes → well_formed bs ≡ header_formed h.kind h.slot (value h.number)
     formed-header l = well-by-head bs (l ∙ asked) ∙ rw (e ∙ header-fields bs, join-halves (number_at bs 5 (width_in bs)))
-
-module _ (kind slot number : ℕ) where
-  pub headed-proposal : is_proposal kind ≡ true → header_formed kind slot number ≡ true
-  unfolding header_formed
-  headed-proposal p = rw p
-
-  module _ (p : is_proposal kind ≡ false) where
-    pub headed-wrong : (eqb kind 0 || eqb kind 2) ≡ false → header_formed kind slot number ≡ false
-    unfolding header_formed
-    headed-wrong g = rw (p, g)
-
-    module _ (g : (eqb kind 0 || eqb kind 2) ≡ true) where
-      pub headed-slot : (slot ≡ 0 → ⊥) → header_formed kind slot number ≡ false
-      unfolding header_formed
-      headed-slot s = rw (p, g, ne_eqb slot 0 s)
-
-      pub headed-gossip : slot ≡ 0 → header_formed kind slot number ≡ eqb number 0
-      unfolding header_formed
-      headed-gossip s = rw (p, g, eq-eqb slot 0 s)

@@ -31,10 +31,6 @@ position-drop bs at n = go (ltb (length bs) (at + n)) refl
         drop-length bs ∙ sym (drop_of_length-le bs {i = at + n} (omega (arith, l)))
     go false e = refl
 
-pub field-after : (bs : List ℕ) (at n width : ℕ) → number_at bs (position_after bs at n) width ≡ number_at bs (at + n) width
-unfolding number_at
-field-after bs at n width = rw (position-drop bs at n) refl
-
 -- a reader of these bytes has what is left from a position on
 pub record Stands (r : Reader) (bs : List ℕ) (at : ℕ) : Type 0 where
   pub bytes : r.bytes.now ≡ bs

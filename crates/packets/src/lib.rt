@@ -4,17 +4,19 @@
 // byte by byte. No function here takes longer than a few numbers.
 #![tactic(auto)]
 
-ghost use Rattle.std.specs.Prelude.{◌||◌, ◌≡◌, ◌+◌, ◌*◌, ◌^◌, ◌≤◌, ◌<◌, eqb, leb, length, get_or, drop};
+ghost use Rattle.std.specs.Prelude.{◌||◌, ◌≡◌, ◌+◌, ◌*◌, ◌^◌, ◌≤◌, ◌<◌, ℕ, List, eqb, leb, length, get_or, drop};
 ghost use Rattle.protocol.specs.Chain.{genesis};
-ghost use Rattle.protocol.specs.Words.{block_of, vote_of};
-ghost use Rattle.protocol.specs.Packet.{number_at, block_width, vote_width, read_block, read_vote, after_blocks, size_of, width_of, is_proposal, packet_of, well_formed};
+ghost use Rattle.protocol.specs.Words.{value};
+ghost use Rattle.protocol.specs.Packet.{Packet, number_at, entries_at, block_width, vote_width, read_block, read_vote, after_blocks, count_of_blocks, size_of, width_of, width_in, is_proposal, packet_of, header_formed, well_formed};
 ghost use Rattle.packets.specs.Reader.{position_after};
 ghost use Rattle.packets.specs.Header.{no_vote, header_of};
+ghost use Rattle.packets.specs.Sections.{section_blocks, section_votes, padded_block, padded_vote};
 
 use protocol::{Block, Number, Vote};
+use rows::Entry;
 
 // The bytes and the position of the next one.
-#[derive(Drop)]
+#[derive(Clone, Copy)]
 pub struct Reader<'a> {
     pub bytes: &'a [u8],
     pub at: usize,
@@ -34,10 +36,7 @@ pub struct Header {
 pub fn fits(used: usize, count: usize, most: usize) -> bool
     ensures { result ≡ leb (used + count) most }
 {
-    if most < used {
-        return false;
-    }
-    count <= most - used
+    used <= most && count <= most - used
 }
 
 // ---- numbers
@@ -46,60 +45,33 @@ pub fn fits(used: usize, count: usize, most: usize) -> bool
 fn byte_at(bytes: &[u8], at: usize, i: usize) -> u64
     ensures { (result ≡ get_or bytes.now (at + i) 0) × (result < 256) }
 {
-    if bytes.len() <= at {
-        return 0;
+    if at < bytes.len() && i < bytes.len() - at {
+        bytes[at + i] as u64
+    } else {
+        0
     }
-    if bytes.len() - at <= i {
-        return 0;
+}
+
+// The number in N bytes that are all there, the lowest first. One test for their end serves all of them, and the compiler reads them at once.
+fn whole_at<const N: usize>(bytes: &[u8], at: usize) -> u64
+    requires { (at + N ≤ length bytes.now) × (N ≤ 8) }
+    ensures { (result ≡ number_at bytes.now at N) × (result < 256 ^ N) }
+{
+    let mut sum = 0;
+    for i in 0..N {
+        sum |= (bytes[at + i] as u64) << (8 * i);
     }
-    bytes[at + i] as u64
+    sum
 }
 
-// The number in one byte, in two, in four, in eight. What is read so needs one test for all its bytes, and the compiler reads them at once.
-fn one_at(bytes: &[u8], at: usize) -> u64
-    requires { at + 1 ≤ length bytes.now }
-    ensures { (result ≡ number_at bytes.now at 1) × (result < 256) }
-{
-    bytes[at] as u64
-}
-
-fn two_at(bytes: &[u8], at: usize) -> u64
-    requires { at + 2 ≤ length bytes.now }
-    ensures { (result ≡ number_at bytes.now at 2) × (result < 65536) }
-{
-    let low = one_at(bytes, at);
-    let high = one_at(bytes, at + 1);
-    low + 256 * high
-}
-
-fn four_at(bytes: &[u8], at: usize) -> u64
-    requires { at + 4 ≤ length bytes.now }
-    ensures { (result ≡ number_at bytes.now at 4) × (result < 4294967296) }
-{
-    let low = two_at(bytes, at);
-    let high = two_at(bytes, at + 2);
-    low + 65536 * high
-}
-
-fn eight_at(bytes: &[u8], at: usize) -> u64
-    requires { at + 8 ≤ length bytes.now }
-    ensures { (result ≡ number_at bytes.now at 8) × (result < 18446744073709551616) }
-{
-    let low = four_at(bytes, at);
-    let high = four_at(bytes, at + 4);
-    low + 4294967296 * high
-}
-
-// The number in `width` bytes from a position on, the lowest first, byte by byte.
+// The number in `width` bytes from a position on, byte by byte.
 fn bytewise_at(bytes: &[u8], at: usize, width: usize) -> u64
     requires { width ≤ 8 }
     ensures { (result ≡ number_at bytes.now at width) × (result < 256 ^ width) }
 {
-    let mut sum: u64 = 0;
-    let mut i = width;
-    while 0 < i {
-        i -= 1;
-        sum = sum * 256 + byte_at(bytes, at, i);
+    let mut sum = 0;
+    for i in 0..width {
+        sum |= byte_at(bytes, at, i) << (8 * i);
     }
     sum
 }
@@ -109,40 +81,29 @@ pub fn number_at(bytes: &[u8], at: usize, width: usize) -> u64
     requires { width ≤ 8 }
     ensures { (result ≡ number_at bytes.now at width) × (result < 256 ^ width) }
 {
-    if fits(at, width, bytes.len()) {
-        if width == 8 {
-            return eight_at(bytes, at);
-        }
-        if width == 4 {
-            return four_at(bytes, at);
-        }
-        if width == 2 {
-            return two_at(bytes, at);
-        }
-        if width == 1 {
-            return one_at(bytes, at);
-        }
+    if !fits(at, width, bytes.len()) {
+        return bytewise_at(bytes, at, width);
     }
-    bytewise_at(bytes, at, width)
+    match width {
+        8 => whole_at::<8>(bytes, at),
+        4 => whole_at::<4>(bytes, at),
+        2 => whole_at::<2>(bytes, at),
+        1 => whole_at::<1>(bytes, at),
+        _ => bytewise_at(bytes, at, width),
+    }
 }
 
-// The position n bytes on, or the end.
-fn onward(bytes: &[u8], at: usize, n: usize) -> usize
-    ensures { result ≡ position_after bytes.now at n }
+// The upper half of a number, for which there are so many bytes.
+#[tactic(auto, using(crate::proofs::Fields::field_none))]
+fn half_at(bytes: &[u8], at: usize, upper: usize) -> u64
+    requires { upper ≤ 8 }
+    ensures { result ≡ number_at bytes.now at upper }
 {
-    if fits(at, n, bytes.len()) {
-        return at + n;
+    if upper == 0 {
+        0
+    } else {
+        number_at(bytes, at, upper)
     }
-    bytes.len()
-}
-
-// The number in `width` bytes, n bytes behind a position.
-fn later_at(bytes: &[u8], at: usize, n: usize, width: usize) -> u64
-    requires { width ≤ 8 }
-    ensures { result ≡ number_at bytes.now (at + n) width }
-{
-    let position = onward(bytes, at, n);
-    number_at(bytes, position, width)
 }
 
 // ---- widths
@@ -151,179 +112,194 @@ fn later_at(bytes: &[u8], at: usize, n: usize, width: usize) -> u64
 pub fn upper_bytes(kind: u64) -> usize
     ensures { (8 + result ≡ width_of kind) × (result ≤ 8) }
 {
-    if kind < 2 {
-        return 0;
-    }
-    8
+    if kind < 2 { 0 } else { 8 }
 }
 
-// The bytes of a block: a number takes 8 bytes for its lower half and so many for its upper one.
-fn block_bytes(upper: usize) -> usize
-    requires { upper ≤ 8 }
-    ensures { (result ≡ block_width (8 + upper)) × (result ≤ 36) }
-{
-    20 + 2 * upper
-}
-
-// The bytes of a vote.
-fn vote_bytes(upper: usize) -> usize
-    requires { upper ≤ 8 }
-    ensures { (result ≡ vote_width (8 + upper)) × (result ≤ 21) }
-{
-    13 + upper
-}
-
-// The position behind so many blocks.
+// The position behind so many blocks, where the upper half of a number takes so many bytes.
 fn behind_blocks(upper: usize, blocks: usize) -> usize
     requires { (upper ≤ 8) × (blocks ≤ 65535) }
     ensures { (result ≡ after_blocks (8 + upper) blocks) × (result ≤ 2359283) }
 {
-    15 + upper + block_bytes(upper) * blocks
+    15 + upper + Block::size(upper) * blocks
 }
 
-// ---- entries at a position
+// ---- entries
 
-// The upper half of a number, for which there are so many bytes.
-fn half_at(bytes: &[u8], at: usize, upper: usize) -> u64
-    requires { upper ≤ 8 }
-    ensures { result ≡ number_at bytes.now at upper }
-{
-    if upper == 0 {
-        return 0;
+// A kind of entry that a packet has a section of: a block, or a vote.
+pub trait Packed: Entry {
+    // Of a packet whose numbers take w bytes: how many bytes an entry takes, and where the section stands.
+    ghost width: { ℕ → ℕ };
+
+    ghost front: { ℕ → List ℕ → ℕ };
+
+    // How many bytes an entry takes, where the upper half of a number takes so many.
+    fn size(upper: usize) -> usize
+        requires { upper ≤ 8 }
+        ensures { (result ≡ width (8 + upper)) × (result ≤ 36) };
+
+    // The entry at a position, which does not go past the end.
+    fn whole(bytes: &[u8], at: usize, upper: usize) -> Self
+        requires { (at + width (8 + upper) ≤ length bytes.now) × (upper ≤ 8) }
+        ensures { Self.of result ≡ Self.packed (8 + upper) (drop at bytes.now) };
+
+    // Where the section stands: its count of two bytes, and then its entries.
+    fn front(bytes: &[u8], upper: usize) -> usize
+        requires { upper ≤ 8 }
+        ensures { (result ≡ front (8 + upper) bytes.now) × (result ≤ 2359283) };
+
+    // How many entries there are.
+    final fn count(bytes: &[u8]) -> usize
+        ensures { (result ≡ length (Self.listed (packet_of bytes.now))) × (result < 65536) }
+    {
+        let upper = upper_bytes(number_at(bytes, 0, 1));
+        number_at(bytes, Self::front(bytes, upper), 2) as usize
     }
-    number_at(bytes, at, upper)
+
+    // Entry i.
+    final fn at(bytes: &[u8], i: usize) -> Self
+        requires { i < length (Self.listed (packet_of bytes.now)) }
+        ensures { Self.of result ≡ get_or (Self.listed (packet_of bytes.now)) i Self.none }
+    {
+        let kind = number_at(bytes, 0, 1);
+        let upper = upper_bytes(kind);
+        let at = Self::front(bytes, upper) + 2 + Self::size(upper) * i;
+        Reader::new(bytes).skip(at).take_entry::<Self>(kind)
+    }
+
+    ghost section: { (bs : List ℕ) → Self.listed (packet_of bs)
+        ≡ entries_at (Self.packed (width_in bs)) (width (width_in bs)) (number_at bs (front (width_in bs) bs) 2) (drop (front (width_in bs) bs + 2) bs) };
+
+    // Bytes that are not there count as 0.
+    ghost padded: { (w : ℕ) (xs ys : List ℕ) → ((i : ℕ) → get_or xs i 0 ≡ get_or ys i 0) → Self.packed w xs ≡ Self.packed w ys };
 }
 
-// A block that does not go past the end.
-fn whole_block(bytes: &[u8], at: usize, upper: usize) -> Block
-    requires { (at + (20 + 2 * upper) ≤ length bytes.now) × (upper ≤ 8) }
-    ensures { block_of result ≡ read_block (8 + upper) (drop at bytes.now) }
-{
-    Block {
-        number: Number {
-            lower: eight_at(bytes, at),
-            upper: half_at(bytes, at + 8, upper),
-        },
-        parent: Number {
-            lower: eight_at(bytes, at + (8 + upper)),
-            upper: half_at(bytes, at + (16 + upper), upper),
-        },
-        slot: four_at(bytes, at + (16 + 2 * upper)),
+impl Packed for Block {
+    ghost width = { block_width };
+
+    ghost front = { λ w bs. 5 + w };
+
+    ghost section = { section_blocks };
+
+    ghost padded = { padded_block };
+
+    fn size(upper: usize) -> usize {
+        20 + 2 * upper
+    }
+
+    fn whole(bytes: &[u8], at: usize, upper: usize) -> Block {
+        Block {
+            number: Number {
+                lower: whole_at::<8>(bytes, at),
+                upper: half_at(bytes, at + 8, upper),
+            },
+            parent: Number {
+                lower: whole_at::<8>(bytes, at + (8 + upper)),
+                upper: half_at(bytes, at + (16 + upper), upper),
+            },
+            slot: whole_at::<4>(bytes, at + (16 + 2 * upper)),
+        }
+    }
+
+    fn front(_bytes: &[u8], upper: usize) -> usize {
+        13 + upper
     }
 }
 
-// A vote that does not.
-fn whole_vote(bytes: &[u8], at: usize, upper: usize) -> Vote
-    requires { (at + (13 + upper) ≤ length bytes.now) × (upper ≤ 8) }
-    ensures { vote_of result ≡ read_vote (8 + upper) (drop at bytes.now) }
-{
-    Vote {
-        voter: one_at(bytes, at),
-        slot: four_at(bytes, at + 1),
-        number: Number {
-            lower: eight_at(bytes, at + 5),
-            upper: half_at(bytes, at + 13, upper),
-        },
+impl Packed for Vote {
+    ghost width = { vote_width };
+
+    ghost front = { λ w bs. after_blocks w (count_of_blocks w bs) };
+
+    ghost section = { section_votes };
+
+    ghost padded = { padded_vote };
+
+    fn size(upper: usize) -> usize {
+        13 + upper
+    }
+
+    fn whole(bytes: &[u8], at: usize, upper: usize) -> Vote {
+        Vote {
+            voter: whole_at::<1>(bytes, at),
+            slot: whole_at::<4>(bytes, at + 1),
+            number: Number {
+                lower: whole_at::<8>(bytes, at + 5),
+                upper: half_at(bytes, at + 13, upper),
+            },
+        }
+    }
+
+    fn front(bytes: &[u8], upper: usize) -> usize {
+        behind_blocks(upper, number_at(bytes, 13 + upper, 2) as usize)
     }
 }
 
-// The block at a position in a packet of the kind.
-fn block_in(bytes: &[u8], at: usize, kind: u64) -> Block
-    ensures { block_of result ≡ read_block (width_of kind) (drop at bytes.now) }
+// The bytes from a position on, as many as the longest entry has, with 0 for those that are not there.
+fn padded(bytes: &[u8], at: usize) -> [u8; 36]
+    requires { length bytes.now < at + 36 }
+    ensures { (i : ℕ) → get_or result i 0 ≡ get_or bytes.now (at + i) 0 }
+{
+    let mut rest = [0; 36];
+    for i in 0..36 {
+        rest[i] = byte_at(bytes, at, i) as u8;
+    }
+    rest
+}
+
+// The entry at a position in a packet of the kind.
+fn entry_at<E: Packed>(bytes: &[u8], at: usize, kind: u64) -> E
+    ensures { E.of result ≡ E.packed (width_of kind) (drop at bytes.now) }
 {
     let upper = upper_bytes(kind);
-    if fits(at, block_bytes(upper), bytes.len()) {
-        return whole_block(bytes, at, upper);
-    }
-    Block {
-        number: Number {
-            lower: number_at(bytes, at, 8),
-            upper: later_at(bytes, at, 8, upper),
-        },
-        parent: Number {
-            lower: later_at(bytes, at, 8 + upper, 8),
-            upper: later_at(bytes, at, 16 + upper, upper),
-        },
-        slot: later_at(bytes, at, 16 + 2 * upper, 4),
-    }
-}
-
-// The vote at a position in a packet of the kind.
-fn vote_in(bytes: &[u8], at: usize, kind: u64) -> Vote
-    ensures { vote_of result ≡ read_vote (width_of kind) (drop at bytes.now) }
-{
-    let upper = upper_bytes(kind);
-    if fits(at, vote_bytes(upper), bytes.len()) {
-        return whole_vote(bytes, at, upper);
-    }
-    Vote {
-        voter: number_at(bytes, at, 1),
-        slot: later_at(bytes, at, 1, 4),
-        number: Number {
-            lower: later_at(bytes, at, 5, 8),
-            upper: later_at(bytes, at, 13, upper),
-        },
+    if fits(at, E::size(upper), bytes.len()) {
+        E::whole(bytes, at, upper)
+    } else {
+        E::whole(&padded(bytes, at), 0, upper)
     }
 }
 
 // ---- the reader
 
-pub fn new<'a>(bytes: &'a [u8]) -> Reader<'a>
-    ensures { (result.bytes ≡ bytes.entry) × (result.at ≡ 0) }
-{
-    Reader { bytes, at: 0 }
+impl<'a> Reader<'a> {
+    pub fn new(bytes: &'a [u8]) -> Reader<'a>
+        ensures { (result.bytes ≡ bytes.entry) × (result.at ≡ 0) }
+    {
+        Reader { bytes, at: 0 }
+    }
+
+    // The number in the next bytes.
+    pub fn take(self, width: usize) -> u64
+        requires { width ≤ 8 }
+        ensures { (result ≡ number_at self.entry.bytes.now self.entry.at width) × (result < 256 ^ width) }
+    {
+        number_at(self.bytes, self.at, width)
+    }
+
+    // The reader n bytes on, or at the end.
+    #[tactic(auto, unfolding(crate::specs::Reader::position_after))]
+    pub fn skip(self, n: usize) -> Reader<'a>
+        ensures { (result.bytes ≡ self.entry.bytes) × (result.at ≡ position_after self.entry.bytes.now self.entry.at n) }
+    {
+        Reader {
+            bytes: self.bytes,
+            at: self.at.saturating_add(n).min(self.bytes.len()),
+        }
+    }
+
+    // The entry in the next bytes of a packet of the kind.
+    pub fn take_entry<E: Packed>(self, kind: u64) -> E
+        ensures { E.of result ≡ E.packed (width_of kind) (drop self.entry.at self.entry.bytes.now) }
+    {
+        entry_at(self.bytes, self.at, kind)
+    }
 }
 
-pub fn take<'a>(r: Reader<'a>, width: usize) -> u64
-    requires { width ≤ 8 }
-    ensures { (result ≡ number_at r.entry.bytes.now r.entry.at width) × (result < 256 ^ width) }
-{
-    number_at(r.bytes, r.at, width)
-}
-
-pub fn skip<'a>(r: Reader<'a>, n: usize) -> Reader<'a>
-    ensures { (result.bytes ≡ r.entry.bytes) × (result.at ≡ position_after r.entry.bytes.now r.entry.at n) }
-{
-    let at = onward(r.bytes, r.at, n);
-    Reader { bytes: r.bytes, at }
-}
-
-pub fn take_block<'a>(r: Reader<'a>, kind: u64) -> Block
-    ensures { block_of result ≡ read_block (width_of kind) (drop r.entry.at r.entry.bytes.now) }
-{
-    block_in(r.bytes, r.at, kind)
-}
-
-pub fn take_vote<'a>(r: Reader<'a>, kind: u64) -> Vote
-    ensures { vote_of result ≡ read_vote (width_of kind) (drop r.entry.at r.entry.bytes.now) }
-{
-    vote_in(r.bytes, r.at, kind)
-}
-
-// What a reader takes that was moved to a position: a number, a block, a vote.
+// The number that a reader takes that was moved to a position.
 fn number_from(bytes: &[u8], at: usize, width: usize) -> u64
     requires { width ≤ 8 }
     ensures { (result ≡ number_at bytes.now at width) × (result < 256 ^ width) }
 {
-    let r = new(bytes);
-    let r1 = skip(r, at);
-    take(r1, width)
-}
-
-fn block_from(bytes: &[u8], at: usize, kind: u64) -> Block
-    ensures { block_of result ≡ read_block (width_of kind) (drop at bytes.now) }
-{
-    let r = new(bytes);
-    let r1 = skip(r, at);
-    take_block(r1, kind)
-}
-
-fn vote_from(bytes: &[u8], at: usize, kind: u64) -> Vote
-    ensures { vote_of result ≡ read_vote (width_of kind) (drop at bytes.now) }
-{
-    let r = new(bytes);
-    let r1 = skip(r, at);
-    take_vote(r1, kind)
+    Reader::new(bytes).skip(at).take(width)
 }
 
 // ---- packets
@@ -360,24 +336,22 @@ pub fn header_of(bytes: &[u8]) -> Header
     }
 }
 
-// The length of a packet with so many blocks and votes, where the upper half of a number takes so many bytes.
+// The length of a packet with so many blocks and votes, where the upper half of a number takes so many bytes. They may be more than the two bytes of a count
+// hold: as many as a table and a packet have together.
 pub fn packet_length(upper: usize, blocks: u64, votes: u64) -> u64
-    requires { (upper ≤ 8) × (blocks < 65536) × (votes < 65536) }
-    ensures { (result ≡ size_of (8 + upper) blocks votes) × (result ≤ 3735520) }
+    requires { (upper ≤ 8) × (blocks < 131072) × (votes < 131072) }
+    ensures size { (result ≡ size_of (8 + upper) blocks votes) × (result ≤ 7471072) }
+    ensures counted { blocks < 65536 → votes < 65536 → result ≤ 3735520 }
 {
-    let block = block_bytes(upper) as u64;
-    let vote = vote_bytes(upper) as u64;
-    17 + upper as u64 + block * blocks + vote * votes
+    17 + upper as u64 + Block::size(upper) as u64 * blocks + Vote::size(upper) as u64 * votes
 }
 
-// The same where they may be more than the two bytes of a count hold, as many as a table and a packet have together.
-pub fn summed_length(upper: usize, blocks: u64, votes: u64) -> u64
-    requires { (upper ≤ 8) × (blocks < 131072) × (votes < 131072) }
-    ensures { (result ≡ size_of (8 + upper) blocks votes) × (result ≤ 7471072) }
+// Whether kind and zero fields are right.
+#[tactic(auto, unfolding(protocol::specs::Packet::header_formed))]
+fn header_formed(h: Header) -> bool
+    ensures { result ≡ header_formed h.kind h.slot (value h.number) }
 {
-    let block = block_bytes(upper) as u64;
-    let vote = vote_bytes(upper) as u64;
-    17 + upper as u64 + block * blocks + vote * votes
+    is_proposal(h.kind) || is_gossip(h.kind) && h.slot == 0 && numbers::is_zero(h.number)
 }
 
 // Whether length, kind and zero fields are right.
@@ -385,42 +359,6 @@ pub fn well_formed(bytes: &[u8]) -> bool
     ensures { result ≡ well_formed bytes.now }
 {
     let h = header_of(bytes);
-    let upper = upper_bytes(h.kind);
-    let length = packet_length(upper, h.blocks, h.votes);
-    if bytes.len() as u64 != length {
-        return false;
-    }
-    if is_proposal(h.kind) {
-        return true;
-    }
-    if !is_gossip(h.kind) {
-        return false;
-    }
-    if h.slot != 0 {
-        return false;
-    }
-    numbers::is_zero(h.number)
-}
-
-// Block i of a packet.
-pub fn block_at(bytes: &[u8], i: usize) -> Block
-    requires { i < length (packet_of bytes.now).blocks }
-    ensures { block_of result ≡ get_or (packet_of bytes.now).blocks i genesis }
-{
-    let kind = number_at(bytes, 0, 1);
-    let upper = upper_bytes(kind);
-    let at = behind_blocks(upper, i);
-    block_from(bytes, at, kind)
-}
-
-// Vote i of a packet.
-pub fn vote_at(bytes: &[u8], i: usize) -> Vote
-    requires { i < length (packet_of bytes.now).votes }
-    ensures { vote_of result ≡ get_or (packet_of bytes.now).votes i no_vote }
-{
-    let kind = number_at(bytes, 0, 1);
-    let upper = upper_bytes(kind);
-    let blocks = number_at(bytes, 13 + upper, 2) as usize;
-    let at = behind_blocks(upper, blocks) + 2 + vote_bytes(upper) * i;
-    vote_from(bytes, at, kind)
+    let length = packet_length(upper_bytes(h.kind), h.blocks, h.votes);
+    bytes.len() as u64 == length && header_formed(h)
 }

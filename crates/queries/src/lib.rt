@@ -4,243 +4,102 @@
 #![tactic(auto)]
 
 ghost use Rattle.std.specs.Prelude.{◌≡◌};
-ghost use Rattle.verdicts.specs.Lent.{lent};
+ghost use Rattle.lent.specs.Memory.{memory};
 ghost use Rattle.answers.specs.Answers.{compared_of};
 ghost use Rattle.answers.specs.Promises.{IsHead, IsDeep, IsFast, IsSettled, IsFit, IsCompared};
 ghost use Rattle.queries.specs.Comparison.{first_row_verdict, comparison_by};
 
-use answers::{Compared, Figures, Fitted, Found};
-use equivocation::FirstEquivocation;
-use protocol::{Clock, Settings};
-use verdicts::{Counted, Verdict};
+use answers::{Figures, NotCompared};
+use equivocation::Equivocation;
+use fork_choice::Tables;
+use lent::Lent;
+use protocol::Number;
+use verdicts::Refusal;
 
 // The head of a slot.
-pub fn head(
-    settings: Settings,
-    clock: Clock,
-    blocks: &[u64],
-    blocks_used: usize,
-    votes: &[u64],
-    votes_used: usize,
-    slot: u64,
-) -> Found
-    ensures { IsHead settings (lent blocks.now votes.now blocks_used votes_used clock) slot result }
+pub fn head(lent: Lent<'_>, slot: u64) -> Result<Number, Refusal>
+    ensures { IsHead lent.entry.settings (memory lent.entry) slot result }
 {
-    let verdict = verdicts::query_verdict(
-        settings,
-        clock,
-        blocks,
-        blocks_used,
-        votes,
-        votes_used,
-        slot,
-    );
-    match verdict {
-        Verdict::Refuse(refusal) => Found::Refused(refusal),
-        Verdict::Pass => {
-            let found = fork_choice::head(settings, blocks, blocks_used, votes, votes_used, slot);
-            Found::Block(found)
-        }
-    }
+    verdicts::query_verdict(lent, slot)?;
+    Ok(fork_choice::head(Tables::of(lent), slot))
 }
 
 // The deep block of a slot.
-pub fn deep(
-    settings: Settings,
-    clock: Clock,
-    blocks: &[u64],
-    blocks_used: usize,
-    votes: &[u64],
-    votes_used: usize,
-    slot: u64,
-) -> Found
-    ensures { IsDeep settings (lent blocks.now votes.now blocks_used votes_used clock) slot result }
+pub fn deep(lent: Lent<'_>, slot: u64) -> Result<Number, Refusal>
+    ensures { IsDeep lent.entry.settings (memory lent.entry) slot result }
 {
-    let verdict = verdicts::query_verdict(
-        settings,
-        clock,
-        blocks,
-        blocks_used,
-        votes,
-        votes_used,
-        slot,
-    );
-    match verdict {
-        Verdict::Refuse(refusal) => Found::Refused(refusal),
-        Verdict::Pass => {
-            let found = confirm::deep(settings, blocks, blocks_used, votes, votes_used, slot);
-            Found::Block(found)
-        }
-    }
+    verdicts::query_verdict(lent, slot)?;
+    Ok(confirm::deep(Tables::of(lent), slot))
 }
 
-// The fast block of a slot, or Nothing.
-pub fn fast(
-    settings: Settings,
-    clock: Clock,
-    blocks: &[u64],
-    blocks_used: usize,
-    votes: &[u64],
-    votes_used: usize,
-    slot: u64,
-) -> Found
-    ensures { IsFast settings (lent blocks.now votes.now blocks_used votes_used clock) slot result }
+// The fast block of a slot, or none.
+pub fn fast(lent: Lent<'_>, slot: u64) -> Result<Option<Number>, Refusal>
+    ensures { IsFast lent.entry.settings (memory lent.entry) slot result }
 {
-    let verdict = verdicts::query_verdict(
-        settings,
-        clock,
-        blocks,
-        blocks_used,
-        votes,
-        votes_used,
-        slot,
-    );
-    match verdict {
-        Verdict::Refuse(refusal) => Found::Refused(refusal),
-        Verdict::Pass => {
-            let found = confirm::fast(settings, blocks, blocks_used, votes, votes_used, slot);
-            match found {
-                confirm::Choice::Chosen(number) => Found::Block(number),
-                confirm::Choice::Nothing => Found::Nothing,
-            }
-        }
-    }
+    verdicts::query_verdict(lent, slot)?;
+    Ok(confirm::fast(Tables::of(lent), slot))
 }
 
 // The settled block of a slot: the farthest block from block 0 that is on the chain of the head, whatever the silent nodes count for. `silent` is the set of
 // the silent nodes, bit v for node v. Without any it is the head.
-pub fn settled(
-    settings: Settings,
-    clock: Clock,
-    blocks: &[u64],
-    blocks_used: usize,
-    votes: &[u64],
-    votes_used: usize,
-    slot: u64,
-    silent: u64,
-) -> Found
-    ensures { IsSettled settings (lent blocks.now votes.now blocks_used votes_used clock) slot silent result }
+pub fn settled(lent: Lent<'_>, slot: u64, silent: u64) -> Result<Number, Refusal>
+    ensures { IsSettled lent.entry.settings (memory lent.entry) slot silent result }
 {
-    let verdict = verdicts::settled_verdict(
-        settings,
-        clock,
-        blocks,
-        blocks_used,
-        votes,
-        votes_used,
-        slot,
-        silent,
-    );
-    match verdict {
-        Verdict::Refuse(refusal) => Found::Refused(refusal),
-        Verdict::Pass => {
-            let found = settled::settled_block(
-                settings,
-                blocks,
-                blocks_used,
-                votes,
-                votes_used,
-                slot,
-                silent,
-            );
-            Found::Block(found)
-        }
-    }
+    verdicts::settled_verdict(lent, slot, silent)?;
+    Ok(settled::settled_block(Tables::of(lent), slot, silent))
 }
 
 // How many places a packet would take at a beat: how many of its blocks and votes Receive would store, and how many bytes a wide gossip
 // packet would have then. It refuses as Receive would, with the index of the entry, but never for want of places. The sums hold past the
 // largest tables too. The cost is that of Receive's tests.
-pub fn fit(
-    settings: Settings,
-    clock: Clock,
-    blocks: &[u64],
-    blocks_used: usize,
-    votes: &[u64],
-    votes_used: usize,
-    beat: u64,
-    bytes: &[u8],
-) -> Fitted
-    ensures { IsFit settings (lent blocks.now votes.now blocks_used votes_used clock) beat bytes.now result }
+pub fn fit(lent: Lent<'_>, beat: u64, bytes: &[u8]) -> Result<Figures, Refusal>
+    ensures { IsFit lent.entry.settings (memory lent.entry) beat bytes.now result }
 {
     let mut block_firsts = [0u64; verdicts::BLOCK_FIRSTS];
     let mut vote_firsts = [0u64; verdicts::VOTE_FIRSTS];
     let mut vote_links = [0u16; index::VOTE_LINKS];
     let mut packet_links = [0u16; index::PACKET_LINKS];
-    let counted = verdicts::packet_verdict(
-        settings,
-        clock,
-        blocks,
-        blocks_used,
-        votes,
-        votes_used,
+    let new = verdicts::packet_verdict(
+        lent,
         beat,
         bytes,
         &mut block_firsts,
         &mut vote_firsts,
         &mut vote_links,
         &mut packet_links,
-    );
-    match counted {
-        Counted::Refuse(refusal) => Fitted::Refused(refusal),
-        Counted::New(new) => {
-            let written = blocks_used - 1 + new.blocks;
-            let kept = votes_used + new.votes;
-            Fitted::Figures(Figures {
-                new_blocks: new.blocks as u64,
-                new_votes: new.votes as u64,
-                bytes: packets::summed_length(8, written as u64, kept as u64),
-            })
-        }
-    }
+    )?;
+    let written = lent.blocks_used - 1 + new.blocks;
+    let kept = lent.votes_used + new.votes;
+    Ok(Figures {
+        new_blocks: new.blocks as u64,
+        new_votes: new.votes as u64,
+        bytes: packets::packet_length(8, written as u64, kept as u64),
+    })
 }
 
 // Compare, on sound memory. It is apart from the test of the memory, so that the links here have the place of those there. Stack: 208 KiB of links, and 24 for
 // the tests of a packet.
 fn compared(
-    settings: Settings,
-    blocks: &[u64],
-    votes: &[u64],
+    lent: Lent<'_>,
     beat: u64,
     one: &[u8],
     two: &[u8],
-) -> Compared
-    ensures { compared_of result ≡ comparison_by (first_row_verdict settings blocks.now votes.now beat one.now) (first_row_verdict settings blocks.now votes.now beat two.now) one.now two.now }
+) -> Result<Option<Equivocation>, NotCompared>
+    ensures { compared_of result ≡ comparison_by (first_row_verdict lent.entry.settings (memory lent.entry) beat one.now)
+        (first_row_verdict lent.entry.settings (memory lent.entry) beat two.now) one.now two.now }
 {
     let mut vote_links = [0u16; index::VOTE_LINKS];
     let mut links = [0u16; index::PACKET_LINKS];
-    let first = verdicts::fresh_verdict(
-        settings,
-        blocks,
-        votes,
-        beat,
-        one,
-        &mut vote_links,
-        &mut links,
-    );
-    if let Verdict::Refuse(refusal) = first {
-        return Compared::FirstRefused(refusal);
-    }
+    verdicts::fresh_verdict(lent, beat, one, &mut vote_links, &mut links).map_err(
+        NotCompared::First,
+    )?;
     search_tree::free_all(&mut vote_links);
     search_tree::free_all(&mut links);
-    let second = verdicts::fresh_verdict(
-        settings,
-        blocks,
-        votes,
-        beat,
-        two,
-        &mut vote_links,
-        &mut links,
-    );
-    if let Verdict::Refuse(refusal) = second {
-        return Compared::SecondRefused(refusal);
-    }
+    verdicts::fresh_verdict(lent, beat, two, &mut vote_links, &mut links).map_err(
+        NotCompared::Second,
+    )?;
     search_tree::free_all(&mut links);
-    let found = equivocation::first_equivocation(one, two, &mut links);
-    match found {
-        FirstEquivocation::Found(e) => Compared::Equivocation(e),
-        FirstEquivocation::Nobody => Compared::Nobody,
-    }
+    Ok(equivocation::first_equivocation(one, two, &mut links))
 }
 
 // Two packets held against each other, as they were saved by different nodes of one network: the lowest voter with two different votes of one slot within or
@@ -249,21 +108,13 @@ fn compared(
 // nothing else counts: neither its store nor its clock. The cost is that of both Receives' tests, and then a lookup for each vote of the first packet and two
 // for each of the second.
 pub fn compare(
-    settings: Settings,
-    clock: Clock,
-    blocks: &[u64],
-    blocks_used: usize,
-    votes: &[u64],
-    votes_used: usize,
+    lent: Lent<'_>,
     beat: u64,
     one: &[u8],
     two: &[u8],
-) -> Compared
-    ensures { IsCompared settings (lent blocks.now votes.now blocks_used votes_used clock) beat one.now two.now result }
+) -> Result<Option<Equivocation>, NotCompared>
+    ensures { IsCompared lent.entry.settings (memory lent.entry) beat one.now two.now result }
 {
-    let own = verdicts::sound_verdict(settings, clock, blocks, blocks_used, votes, votes_used);
-    if let Verdict::Refuse(refusal) = own {
-        return Compared::Refused(refusal);
-    }
-    compared(settings, blocks, votes, beat, one, two)
+    verdicts::sound_verdict(lent).map_err(NotCompared::Memory)?;
+    compared(lent, beat, one, two)
 }

@@ -17,433 +17,49 @@
 // In a call 1000 stands for 2^64: a block's number n is n % 1000 + 2^64 * (n / 1000). In a packet each half of it is below 256.
 #![tactic(auto)]
 
-use answers::{Answer, Call, Found, Moved};
-use protocol::{Clock, Settings, Width};
+use case_runner::{Line, Questions};
+use lent::Lent;
 
-// What a node is lent beside the words of its tables.
-#[derive(Clone, Copy)]
-struct Held {
-    settings: Settings,
-    clock: Clock,
-    block_words: usize,
-    blocks_used: usize,
-    vote_words: usize,
-    votes_used: usize,
-}
+// Fit and Compare, beside the calls.
+struct Packets;
 
-// ---- calls that may change what is lent
-
-// What a node is lent after a call.
-fn held_after(held: Held, clock: Clock, blocks_used: usize, votes_used: usize) -> Held {
-    let mut next = held;
-    next.clock = clock;
-    next.blocks_used = blocks_used;
-    next.votes_used = votes_used;
-    next
-}
-
-// Whether the memory is as before.
-fn same(
-    held: Held,
-    next: Held,
-    old_blocks: &[u64],
-    old_votes: &[u64],
-    blocks: &[u64],
-    votes: &[u64],
-) -> bool {
-    let counts = held.blocks_used == next.blocks_used && held.votes_used == next.votes_used;
-    let tables = case_runner::same_words(old_blocks, blocks)
-        && case_runner::same_words(old_votes, votes);
-    counts && tables && case_runner::same_clock(held.clock, next.clock)
-}
-
-fn print_held(held: Held, blocks: &[u64], votes: &[u64]) {
-    case_runner::print_clock(held.clock);
-    case_runner::text(b", blocks");
-    case_runner::print_blocks(blocks, held.blocks_used);
-    case_runner::text(b", votes");
-    case_runner::print_votes(votes, held.votes_used);
-}
-
-// The call by its first letter.
-fn call(letter: u8, words: &[u64]) -> Call {
-    match letter {
-        b'p' => Call::Propose(case_runner::block_number(case_runner::at(words, 1))),
-        b'v' => Call::Vote,
-        b'm' => Call::Merge,
-        _ => Call::Receive,
+impl Questions for Packets {
+    fn ask(&self, rt: &impl Print, lent: Lent<'_>, line: Line<'_>) -> std::io::Result<bool> {
+        match line.letter(2) {
+            b'i' => fitted(rt, lent, line)?,
+            b'c' => compared(rt, lent, line)?,
+            _ => return Ok(false),
+        }
+        Ok(true)
     }
 }
 
-// Open is given its settings by the line. To the calls with a beat the clock is lent, and they move it on in place.
-fn moved(
-    held: Held,
-    letter: u8,
-    words: &[u64],
-    bytes: &[u8],
-    blocks: &mut [u64],
-    blocks_used: &mut usize,
-    votes: &mut [u64],
-    votes_used: &mut usize,
-) -> Moved {
-    if letter == b'o' {
-        return node::open(
-            case_runner::settings(words),
-            held.clock,
-            blocks,
-            blocks_used,
-            votes,
-            votes_used,
-        );
-    }
-    node::step(
-        held.settings,
-        held.clock,
-        blocks,
-        blocks_used,
-        votes,
-        votes_used,
-        call(letter, words),
-        case_runner::at(words, 0),
-        bytes,
-    )
-}
-
-fn print_after(answer: Answer, letter: u8, same: bool, held: Held, blocks: &[u64], votes: &[u64]) {
-    case_runner::print_answer(answer);
-    if case_runner::refused(answer) {
-        case_runner::print_same(same);
-        return;
-    }
-    print_held(held, blocks, votes);
-    if letter == b'o' {
-        case_runner::print_zeros(blocks, votes);
-    }
-}
-
-// Makes a call and prints what it left, given a copy of the tables.
-fn printed(
-    held: Held,
-    letter: u8,
-    words: &[u64],
-    bytes: &[u8],
-    old_blocks: &[u64],
-    old_votes: &[u64],
-    blocks: &mut [u64],
-    votes: &mut [u64],
-) -> Held {
-    let mut blocks_used = held.blocks_used;
-    let mut votes_used = held.votes_used;
-    let moved = moved(
-        held,
-        letter,
-        words,
-        bytes,
-        blocks,
-        &mut blocks_used,
-        votes,
-        &mut votes_used,
-    );
-    let next = held_after(held, moved.clock, blocks_used, votes_used);
-    let unchanged = same(held, next, old_blocks, old_votes, blocks, votes);
-    let answer = moved.answer;
-    print_after(answer, letter, unchanged, next, blocks, votes);
-    next
-}
-
-// A call that may change what is lent.
-fn changed(
-    held: Held,
-    letter: u8,
-    words: &[u64],
-    bytes: &[u8],
-    blocks: &mut [u64],
-    votes: &mut [u64],
-) -> Held {
-    let mut old_blocks = [0u64; 12294];
-    let mut old_votes = [0u64; 40965];
-    case_runner::copy(blocks, &mut old_blocks);
-    case_runner::copy(votes, &mut old_votes);
-    printed(
-        held,
-        letter,
-        words,
-        bytes,
-        &old_blocks,
-        &old_votes,
-        blocks,
-        votes,
-    )
-}
-
-fn carried(held: Held, letter: u8, words: &[u64], blocks: &mut [u64], votes: &mut [u64]) -> Held {
+// Fit, about the packet of another call, whose word stands behind the call's.
+fn fitted(rt: &impl Print, lent: Lent<'_>, line: Line<'_>) -> std::io::Result<()> {
     let mut bytes = [0u8; 4200];
-    let n = case_runner::length(letter, words, &mut bytes);
-    let end = case_runner::within_bytes(n, &bytes);
-    changed(held, letter, words, &bytes[..end], blocks, votes)
-}
-
-// ---- questions, and Write
-
-// The question about a slot by its first letter.
-fn answered(
-    held: Held,
-    blocks: &[u64],
-    votes: &[u64],
-    letter: u8,
-    slot: u64,
-    silent: u64,
-) -> Found {
-    match letter {
-        b'h' => queries::head(
-            held.settings,
-            held.clock,
-            blocks,
-            held.blocks_used,
-            votes,
-            held.votes_used,
-            slot,
-        ),
-        b'd' => queries::deep(
-            held.settings,
-            held.clock,
-            blocks,
-            held.blocks_used,
-            votes,
-            held.votes_used,
-            slot,
-        ),
-        b's' => queries::settled(
-            held.settings,
-            held.clock,
-            blocks,
-            held.blocks_used,
-            votes,
-            held.votes_used,
-            slot,
-            silent,
-        ),
-        _ => queries::fast(
-            held.settings,
-            held.clock,
-            blocks,
-            held.blocks_used,
-            votes,
-            held.votes_used,
-            slot,
-        ),
-    }
-}
-
-// Fit, about the packet of another call, by the first letter of its word.
-fn fitted(held: Held, blocks: &[u64], votes: &[u64], packet: u8, words: &[u64]) {
-    let mut bytes = [0u8; 4200];
-    let n = case_runner::length(packet, words, &mut bytes);
-    let end = case_runner::within_bytes(n, &bytes);
-    case_runner::print_fitted(queries::fit(
-        held.settings,
-        held.clock,
-        blocks,
-        held.blocks_used,
-        votes,
-        held.votes_used,
-        case_runner::at(words, 0),
-        &bytes[..end],
-    ));
+    let n = case_runner::packet_bytes(line.letter(5), line.numbers, &mut bytes);
+    case_runner::print_figures(rt, queries::fit(lent, line.number(0), &bytes[..n]))
 }
 
 // Compare. The word of the first packet stands behind the call's, and that of the second behind the semicolon.
-fn compared(held: Held, blocks: &[u64], votes: &[u64], beat: u64, rest: &[u8]) {
-    let semicolon = case_runner::find(rest, b';');
-    let first = &rest[..semicolon];
-    let second = &rest[semicolon..];
+fn compared(rt: &impl Print, lent: Lent<'_>, line: Line<'_>) -> std::io::Result<()> {
+    let rest = line.rest;
+    let semicolon = rest
+        .iter()
+        .position(|&byte| byte == b';')
+        .unwrap_or(rest.len());
     let mut one = [0u8; 4200];
     let mut two = [0u8; 4200];
-    let n = case_runner::packet_in(first, case_runner::byte_at(first, 10), &mut one);
-    let m = case_runner::packet_in(second, case_runner::byte_at(second, 2), &mut two);
-    let one_end = case_runner::within_bytes(n, &one);
-    let two_end = case_runner::within_bytes(m, &two);
-    case_runner::print_compared(queries::compare(
-        held.settings,
-        held.clock,
-        blocks,
-        held.blocks_used,
-        votes,
-        held.votes_used,
-        beat,
-        &one[..one_end],
-        &two[..two_end],
-    ));
-}
-
-// Each byte of the buffer is 238.
-fn written(held: Held, blocks: &[u64], votes: &[u64], proposal: bool, width: Width, length: usize) {
-    let mut space = [238u8; 200];
-    let n = case_runner::within_bytes(length, &space);
-    let answer = writing::write(
-        held.settings,
-        held.clock,
-        blocks,
-        held.blocks_used,
-        votes,
-        held.votes_used,
-        proposal,
-        width,
-        &mut space[..n],
-    );
-    case_runner::print_written(answer, case_runner::touched(&space));
-}
-
-// ---- lines
-
-// What is lent from here on, by the first letter of the line's word.
-fn prepared(held: Held, letter: u8, words: &[u64], blocks: &mut [u64], votes: &mut [u64]) -> Held {
-    let mut next = held;
-    match letter {
-        b'S' => {
-            next.settings = case_runner::settings(words);
-        }
-        b'C' => {
-            next.clock = case_runner::clock(words);
-        }
-        b'B' => {
-            case_runner::lay(blocks, words);
-            next.block_words = case_runner::size(words, 0);
-            next.blocks_used = case_runner::size(words, 2);
-        }
-        _ => {
-            case_runner::lay(votes, words);
-            next.vote_words = case_runner::size(words, 0);
-            next.votes_used = case_runner::size(words, 2);
-        }
-    }
-    next
-}
-
-// A call, by the first letter of the line's word; of Fit's line, the second word tells the packet. What the line has from its colon on is Compare's.
-fn called(
-    held: Held,
-    letter: u8,
-    rest: &[u8],
-    words: &[u64],
-    blocks: &mut [u64],
-    votes: &mut [u64],
-) -> Held {
-    match letter {
-        b'i' => {
-            fitted(held, blocks, votes, case_runner::byte_at(rest, 5), words);
-            held
-        }
-        b'c' => {
-            compared(held, blocks, votes, case_runner::at(words, 0), rest);
-            held
-        }
-        b'w' => {
-            written(
-                held,
-                blocks,
-                votes,
-                case_runner::at(words, 0) == 1,
-                case_runner::width(case_runner::at(words, 1)),
-                case_runner::size(words, 2),
-            );
-            held
-        }
-        b'h' | b'd' | b'f' | b's' => {
-            case_runner::print_found(answered(
-                held,
-                blocks,
-                votes,
-                letter,
-                case_runner::at(words, 0),
-                case_runner::at(words, 1),
-            ));
-            held
-        }
-        _ => carried(held, letter, words, blocks, votes),
-    }
-}
-
-fn called_on(
-    held: Held,
-    letter: u8,
-    rest: &[u8],
-    words: &[u64],
-    blocks: &mut [u64],
-    votes: &mut [u64],
-) -> Held {
-    let n = case_runner::within(held.block_words, blocks);
-    let m = case_runner::within(held.vote_words, votes);
-    called(held, letter, rest, words, &mut blocks[..n], &mut votes[..m])
-}
-
-// Without a colon there is no letter, and a line does nothing.
-fn acted(
-    held: Held,
-    what: &[u8],
-    letter: u8,
-    rest: &[u8],
-    words: &[u64],
-    blocks: &mut [u64],
-    votes: &mut [u64],
-) -> Held {
-    if letter == 0 {
-        return held;
-    }
-    if letter < 97 {
-        return prepared(held, letter, words, blocks, votes);
-    }
-    case_runner::text(what);
-    case_runner::text(b": ");
-    let next = called_on(held, letter, rest, words, blocks, votes);
-    case_runner::text(b"\n");
-    next
-}
-
-fn line(held: Held, bytes: &[u8], blocks: &mut [u64], votes: &mut [u64]) -> Held {
-    let colon = case_runner::find(bytes, b':');
-    let rest = &bytes[colon..];
-    let mut words = [0u64; 256];
-    let count = case_runner::read_numbers(rest, &mut words);
-    let n = case_runner::within(count, &words);
-    acted(
-        held,
-        &bytes[..colon],
-        case_runner::byte_at(rest, 2),
-        rest,
-        &words[..n],
-        blocks,
-        votes,
+    let n = case_runner::packet_in(&rest[..semicolon], 10, &mut one);
+    let m = case_runner::packet_in(&rest[semicolon..], 2, &mut two);
+    case_runner::print_compared(
+        rt,
+        queries::compare(lent, line.number(0), &one[..n], &two[..m]),
     )
 }
 
-// Before the first line.
-fn nothing() -> Held {
-    Held {
-        settings: case_runner::settings(&[0u64; 0]),
-        clock: case_runner::clock(&[0u64; 0]),
-        block_words: 0,
-        blocks_used: 0,
-        vote_words: 0,
-        votes_used: 0,
-    }
-}
-
-fn lines(bytes: &[u8], blocks: &mut [u64], votes: &mut [u64]) {
-    let mut held = nothing();
-    let mut start = 0;
-    while start < bytes.len() {
-        let rest = &bytes[start..];
-        let n = case_runner::find(rest, 10);
-        held = line(held, &rest[..n], blocks, votes);
-        start += n + 1;
-    }
-}
-
-fn main() {
+fn main(rt: HostRuntime) -> std::io::Result<()> {
     let mut bytes = [0u8; 65536];
     let n = io::read_full(0, &mut bytes);
-    let mut blocks = [0u64; 12294];
-    let mut votes = [0u64; 40965];
-    lines(&bytes[..n], &mut blocks, &mut votes);
+    case_runner::run(&rt, &Packets, &bytes[..n])
 }

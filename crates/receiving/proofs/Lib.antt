@@ -4,3 +4,4 @@ pub mod Naming
 pub mod Carrying
 pub mod Receiving
 pub mod Node
+pub mod Once

@@ -4,8 +4,8 @@ use mathlib.Core.Bool.{true, false}
 use mathlib.Core.List.{List}
 use mathlib.Core.Path.{◌≡◌, refl, sym, ap, ◌∙◌, subst}
 use native.Mathlib.Numerals.{add-one}
-use borrow.Author.Tests.{ne_eqb}
 use Rattle.protocol.specs.declared.Settings.{Settings}
+use Rattle.protocol.specs.Chain.{Lookup, found, missing}
 use Rattle.protocol.specs.Words.{bit_of}
 use Rattle.protocol.specs.Store.{view_of}
 use Rattle.protocol.specs.Lent.{rows_of, make_block, make_vote}
@@ -20,12 +20,12 @@ use Rattle.protocol.proofs.Settled.Sameness.{margin-of, settled-heard}
 use Rattle.masks.proofs.Masks.{none_from}
 use Rattle.vote_filters.specs.Latest.{selected, votes_of}
 use Rattle.subtree_voters.specs.BlockRows.{block_at, blocks_of}
-use Rattle.fork_choice.specs.Walks.{weight_in, found_row}
+use Rattle.fork_choice.specs.Walks.{weight_in}
 use Rattle.fork_choice.specs.Tables.{TablesSound}
 use Rattle.fork_choice.specs.Weights.{Supporters, Counted}
 use Rattle.fork_choice.proofs.Held.{Held}
 use Rattle.fork_choice.proofs.Best.{child-after}
-use Rattle.fork_choice.proofs.Tables.{few, blocks-held, words-heard, rows-weigh}
+use Rattle.fork_choice.proofs.SoundTables.{few, blocks-held, words-heard, rows-weigh}
 use Rattle.fork_choice.proofs.Weights.{count-wide}
 
 -- from row a the walk goes where the walk from block 0 goes
@@ -38,41 +38,43 @@ module _ {ws : List ℕ} {n : ℕ} (H : Held false ws n) (weights : List ℕ) (k
   level-start =
       record { inside = H.some; on = λ r u. subst (λ (x : ℕ). Margin (weight_in ws n weights) k (blocks_of false ws n) t r x) (ap (λ o. o.number) H.first) u }
 
-  module _ (a c : ℕ) (W : Level ws n weights k t a) (B : best_child (weight_in ws n weights) (t + 1) (block_at ws a).number (blocks_of false ws n) ≡ found_row ws c) where
-    is-best : BestIs (weight_in ws n weights) (suc t) (block_at ws a).number (blocks_of false ws n) (found_row ws c)
-    is-best =
-        let e : best_child (weight_in ws n weights) (suc t) (block_at ws a).number (blocks_of false ws n) ≡ found_row ws c = rw (add-one t) at B in
-        rw e at (best-is (weight_in ws n weights) (suc t) (block_at ws a).number (blocks_of false ws n))
-
-    best-at : (c ≡ 0 → ⊥) → IsBest (weight_in ws n weights) (blocks_of false ws n) (suc t) (block_at ws a).number (block_at ws c)
-    unfolding found_row
-    best-at ne = rw (ne_eqb c 0 ne) at is-best
-
-    pub level-deeper : c < n → (c ≡ 0 → ⊥) → a < c
-    level-deeper l ne = child-after H weights (suc t) a c W.inside l (best-at ne).child
-
-    -- the best child has no rival
-    pub level-on : c < n → (c ≡ 0 → ⊥) → rivalled (weight_in ws n weights) k (blocks_of false ws n) t (block_at ws a).number (block_at ws c) ≡ false → Level ws n weights k t c
-    level-on l ne q = record {
-      inside = l;
-      on = λ r u. W.on r (onward (block_at ws c) (best-at ne) (rivalled-false (weight_in ws n weights) k (blocks_of false ws n) t (block_at ws a).number (block_at ws c) q) u);
-    }
-
+  module _ (a : ℕ) (W : Level ws n weights k t a) where
     ends : Margin (weight_in ws n weights) k (blocks_of false ws n) t (block_at ws a).number (block_at ws a).number
         → (block_at ws a).number ≡ margin_walk (weight_in ws n weights) k (blocks_of false ws n) t
     ends u = sym (margin-of (weight_in ws n weights) k H.sound t (W.on (block_at ws a).number u))
 
-    -- there is no child
-    pub level-leaf : c ≡ 0 → (block_at ws a).number ≡ margin_walk (weight_in ws n weights) k (blocks_of false ws n) t
-    unfolding found_row
-    level-leaf e = ends (leaf refl (rw e at is-best))
+    is-best : (o : Lookup) → best_child (weight_in ws n weights) (t + 1) (block_at ws a).number (blocks_of false ws n) ≡ o
+        → BestIs (weight_in ws n weights) (suc t) (block_at ws a).number (blocks_of false ws n) o
+    is-best o B =
+        let e : best_child (weight_in ws n weights) (suc t) (block_at ws a).number (blocks_of false ws n) ≡ o = rw (add-one t) at B in
+        rw e at (best-is (weight_in ws n weights) (suc t) (block_at ws a).number (blocks_of false ws n))
 
-    -- the best child has a rival
-    pub level-halt : (c ≡ 0 → ⊥) → rivalled (weight_in ws n weights) k (blocks_of false ws n) t (block_at ws a).number (block_at ws c) ≡ true
+    -- there is no child
+    pub level-leaf : best_child (weight_in ws n weights) (t + 1) (block_at ws a).number (blocks_of false ws n) ≡ missing
         → (block_at ws a).number ≡ margin_walk (weight_in ws n weights) k (blocks_of false ws n) t
-    level-halt ne q =
-        let r = rivalled-true (weight_in ws n weights) k (blocks_of false ws n) t (block_at ws a).number (block_at ws c) q in
-        ends (halt refl (block_at ws c) r.0 (best-at ne) r.1)
+    level-leaf B = ends (leaf refl (is-best missing B))
+
+    -- the best child is at row c
+    module _ (c : ℕ) (B : best_child (weight_in ws n weights) (t + 1) (block_at ws a).number (blocks_of false ws n) ≡ found (block_at ws c)) where
+      best-at : IsBest (weight_in ws n weights) (blocks_of false ws n) (suc t) (block_at ws a).number (block_at ws c)
+      best-at = is-best (found (block_at ws c)) B
+
+      pub level-deeper : c < n → a < c
+      level-deeper l = child-after H weights (suc t) a c W.inside l best-at.child
+
+      -- it has no rival
+      pub level-on : c < n → rivalled (weight_in ws n weights) k (blocks_of false ws n) t (block_at ws a).number (block_at ws c) ≡ false → Level ws n weights k t c
+      level-on l q = record {
+        inside = l;
+        on = λ r u. W.on r (onward (block_at ws c) best-at (rivalled-false (weight_in ws n weights) k (blocks_of false ws n) t (block_at ws a).number (block_at ws c) q) u);
+      }
+
+      -- it has a rival
+      pub level-halt : rivalled (weight_in ws n weights) k (blocks_of false ws n) t (block_at ws a).number (block_at ws c) ≡ true
+          → (block_at ws a).number ≡ margin_walk (weight_in ws n weights) k (blocks_of false ws n) t
+      level-halt q =
+          let r = rivalled-true (weight_in ws n weights) k (blocks_of false ws n) t (block_at ws a).number (block_at ws c) q in
+          ends (halt refl (block_at ws c) r.0 best-at r.1)
 
 -- ---- by the weights of the words, with the number of the silent as the margin
 

@@ -19,8 +19,9 @@ use Rattle.protocol.proofs.Walk.Best.{child-true}
 use Rattle.protocol.proofs.Walk.Relations.{IsChild}
 use Rattle.rows.specs.Rows.{row_at}
 use Rattle.subtree_voters.specs.BlockRows.{block_at, blocks_of, parent_row}
+use Rattle.fork_choice.specs.declared.Kin.{Kin}
 use Rattle.fork_choice.specs.Walks.{weight_in}
-use Rattle.fork_choice.specs.Children.{NextChild, Linked}
+use Rattle.fork_choice.specs.Children.{child_at, next_at, NextChild, Linked}
 use Rattle.fork_choice.proofs.Held.{Held, Stands, listed, lists, row-pos}
 use Rattle.fork_choice.proofs.Best.{weight_is, child-of}
 use Rattle.fork_choice.proofs.Scan.{left}
@@ -124,9 +125,9 @@ pub record Search (ws : List ℕ) (n : ℕ) (weights : List ℕ) (k t a x c d : 
   pub next : NextChild (λ i. parent_row ws i) n a from d
   pub none : (j : ℕ) → j < from → rival_at ws weights k t x c j ≡ false
 
-module _ {ws : List ℕ} {n : ℕ} {children siblings : List ℕ} (L : Linked (λ i. parent_row ws i) n 1 children siblings) {weights : List ℕ} {k t a x c : ℕ} where
+module _ {ws : List ℕ} {n : ℕ} {kin : List Kin} (L : Linked (λ i. parent_row ws i) n 1 kin) {weights : List ℕ} {k t a x c : ℕ} where
   -- the next child stands after child d
-  pub search-less : {d e : ℕ} → Search ws n weights k t a x c d → (d ≡ 0 → ⊥) → e ≡ get_or siblings d 0 → left n e < left n d
+  pub search-less : {d e : ℕ} → Search ws n weights k t a x c d → (d ≡ 0 → ⊥) → e ≡ next_at kin d → left n e < left n d
   search-less {d} {e} S z g = go (ℕ_discrete e 0)
     where
       u : (S.from ≤ d) × (d < n) × (parent_row ws d ≡ a)
@@ -140,7 +141,7 @@ module _ {ws : List ℕ} {n : ℕ} {children siblings : List ℕ} (L : Linked (�
       go (no q) = rw (ne_eqb e 0 q, ne_eqb d 0 z) (omega (arith, (N.hit q).0, (N.hit q).1))
 
   module _ (H : Held false ws n) (f : x ≡ (block_at ws a).number) (h : a < n) where
-    pub search-start : {d : ℕ} → d ≡ get_or children a 0 → Search ws n weights k t a x c d
+    pub search-start : {d : ℕ} → d ≡ child_at kin a → Search ws n weights k t a x c d
     search-start e = record {
       from = 1;
       some = omega arith;
@@ -150,7 +151,7 @@ module _ {ws : List ℕ} {n : ℕ} {children siblings : List ℕ} (L : Linked (�
     }
 
     module _ {d : ℕ} (S : Search ws n weights k t a x c d) where
-      pub search-turn : {e : ℕ} → (d ≡ 0 → ⊥) → rival_at ws weights k t x c d ≡ false → e ≡ get_or siblings d 0 → Search ws n weights k t a x c e
+      pub search-turn : {e : ℕ} → (d ≡ 0 → ⊥) → rival_at ws weights k t x c d ≡ false → e ≡ next_at kin d → Search ws n weights k t a x c e
       search-turn {e} z r g =
           let u = S.next.hit z in
           record {

@@ -18,7 +18,7 @@ use Rattle.ranges.specs.Rows.{block_in_range, vote_in_range}
 use Rattle.search_tree.specs.Lists.{distinct}
 use Rattle.search_tree.proofs.Lists.{distinct-end}
 use Rattle.index.specs.Links.{numbers_differ, votes_differ}
-use Rattle.soundness.specs.Parts.{parent_sound, parents_sound, chain_sound, voted_sound, tables_sound}
+use Rattle.soundness.specs.Parts.{parent_sound, parents_sound, chain_sound, voted_sound}
 
 -- ---- blocks
 
@@ -86,22 +86,3 @@ votes-split nodes slot bs (m ∷ ms) =
     turn true true false n r v d = sym (and-false r)
     turn true true true true r v d = refl
     turn true true true false r v d = sym (rw (and-false v) (and-false r))
-
--- ---- both tables, by what each test gave
-
-module _ (bs : List (Marked Block)) (vs : List (Marked Vote)) where
-  pub no-numbers : numbers_differ bs ≡ false → false ≡ tables_sound bs vs
-  unfolding tables_sound
-  no-numbers e = rw e
-
-  pub no-chain : chain_sound bs ≡ false → false ≡ tables_sound bs vs
-  unfolding tables_sound
-  no-chain e = rw e (sym (and-false (numbers_differ bs)))
-
-  pub no-voted : all_pass (voted_sound bs) vs ≡ false → false ≡ tables_sound bs vs
-  unfolding tables_sound
-  no-voted e = sym (rw (e, and-false (chain_sound bs)) (and-false (numbers_differ bs)))
-
-  pub votes-left : numbers_differ bs ≡ true → chain_sound bs ≡ true → all_pass (voted_sound bs) vs ≡ true → votes_differ vs ≡ tables_sound bs vs
-  unfolding tables_sound
-  votes-left d c v = rw (d, c, v)

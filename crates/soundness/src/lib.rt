@@ -8,238 +8,153 @@
 
 ghost use Rattle.std.specs.Prelude.{true, ◌&&◌, ◌≡◌, ◌≤◌};
 ghost use Rattle.protocol.specs.Limits.{loom};
-ghost use Rattle.protocol.specs.Words.{value, block_of};
+ghost use Rattle.protocol.specs.Words.{block_of};
 ghost use Rattle.protocol.specs.Lists.{all_pass};
-ghost use Rattle.protocol.specs.Chain.{genesis, known};
-ghost use Rattle.protocol.specs.Store.{entries, same_block};
-ghost use Rattle.protocol.specs.Lent.{BlocksFit, VotesFit, rows_of, make_block, make_vote, lent_sound};
+ghost use Rattle.protocol.specs.Chain.{genesis};
+ghost use Rattle.protocol.specs.Store.{same_block};
+ghost use Rattle.protocol.specs.Lent.{rows_of, make_block, make_vote, lent_sound};
+ghost use Rattle.lent.specs.Memory.{memory};
 ghost use Rattle.rows.specs.Rows.{marked_block, marked_vote};
 ghost use Rattle.search_tree.specs.Tree.{Blank};
 ghost use Rattle.index.specs.Index.{TableRoom};
 ghost use Rattle.soundness.specs.Parts.{parent_sound, chain_sound, voted_sound, tables_sound, Indexed, TablesIndexed};
 
-use protocol::{Clock, Number, Settings};
-use rows::{BlockRow, RowFound, VoteRow};
+use lent::Lent;
+use protocol::{Block, Number, Vote};
+use rows::{Row, Table};
 
-// Whether the number is a block's. The cost is one step for each block before it.
-pub fn known_block(blocks: &[u64], used: usize, number: Number) -> bool
-    requires { BlocksFit used blocks.now }
-    ensures { result ≡ known (entries (rows_of make_block blocks.now used)) (value number) }
-{
-    let link = rows::find_block(blocks, used, number);
-    match link {
-        RowFound::At(_) => true,
-        RowFound::Missing => false,
-    }
-}
+// Block 0, which is its own parent.
+const GENESIS: Block = Block {
+    number: Number { upper: 0, lower: 0 },
+    parent: Number { upper: 0, lower: 0 },
+    slot: 0,
+};
 
 // Whether a row is block 0, in view.
-fn first_sound(row: BlockRow) -> bool
-    ensures { result ≡ (same_block (block_of row.block) genesis && row.viewed) }
+#[tactic(auto, unfolding(protocol::specs::Words::from_halves, protocol::specs::Store::same_block))]
+fn first_sound(row: Row<Block>) -> bool
+    ensures { result ≡ (same_block (block_of row.entry) genesis && row.viewed) }
 {
-    if numbers::is_zero(row.block.number) {
-        if numbers::is_zero(row.block.parent) {
-            if row.block.slot == 0 {
-                return row.viewed;
-            }
-        }
-    }
-    false
+    row.entry == GENESIS && row.viewed
 }
 
+// Blocks and links to them travel together, but in no struct with a ghost field that says what the links are: an index is a fact of which there can be
+// more than one proof, and such a field has to be one of which there is at most one.
+
 // Whether the parent of row i stands before it with a lower slot, in view if the row is. The cost is a lookup.
-fn parent_sound(blocks: &[u64], used: usize, links: &[u16], i: usize, row: BlockRow) -> bool
-    requires { (i ≤ used) × Indexed blocks.now used links.now }
-    ensures { result ≡ parent_sound (rows_of make_block blocks.now i) (marked_block row) }
+// Apart from `voted_sound`: that looks among all rows, and up to a slot; a generic would take both as parameters.
+fn parent_sound(blocks: Table<'_, Block>, links: &[u16], i: usize, row: Row<Block>) -> bool
+    requires indexed { Indexed blocks.words.now blocks.used links.now }
+    requires within { i ≤ blocks.used }
+    ensures { result ≡ parent_sound (rows_of make_block blocks.entry.words.now i) (marked_block row) }
 {
-    let link = index::link(blocks, used, links, row.block.parent);
-    if link == 0 {
+    let Some(j) = index::link(blocks, links, row.entry.parent) else {
+        return false;
+    };
+    if j >= i {
         return false;
     }
-    if link > i {
-        return false;
-    }
-    let parent = rows::block_at(blocks, link - 1);
-    if parent.block.slot >= row.block.slot {
-        return false;
-    }
-    if row.viewed {
-        return parent.viewed;
-    }
-    true
+    let parent = blocks.row(j);
+    parent.entry.slot < row.entry.slot && (!row.viewed || parent.viewed)
 }
 
 // Whether block 0 stands first, in view, and each other block's parent is sound. The cost is a lookup for each block.
-fn chain_sound(blocks: &[u64], used: usize, links: &[u16]) -> bool
-    requires { Indexed blocks.now used links.now }
-    ensures { result ≡ chain_sound (rows_of make_block blocks.now used) }
+fn chain_sound(blocks: Table<'_, Block>, links: &[u16]) -> bool
+    requires { Indexed blocks.words.now blocks.used links.now }
+    ensures { result ≡ chain_sound (rows_of make_block blocks.entry.words.now blocks.entry.used) }
 {
-    if used == 0 {
+    if blocks.used == 0 || !first_sound(blocks.row(0)) {
         return false;
     }
-    let first = rows::block_at(blocks, 0);
-    if !first_sound(first) {
-        return false;
-    }
-    let mut i: usize = 1;
-    while i < used {
-        let row = rows::block_at(blocks, i);
-        if !parent_sound(blocks, used, links, i, row) {
+    for i in 1..blocks.used {
+        if !parent_sound(blocks, links, i, blocks.row(i)) {
             return false;
         }
-        i += 1;
     }
     true
 }
 
 // Whether the vote's block is there with no later slot, in view if the vote is. The cost is a lookup.
-fn voted_sound(blocks: &[u64], used: usize, links: &[u16], row: VoteRow) -> bool
-    requires { Indexed blocks.now used links.now }
-    ensures { result ≡ voted_sound (rows_of make_block blocks.now used) (marked_vote row) }
+fn voted_sound(blocks: Table<'_, Block>, links: &[u16], row: Row<Vote>) -> bool
+    requires { Indexed blocks.words.now blocks.used links.now }
+    ensures { result ≡ voted_sound (rows_of make_block blocks.entry.words.now blocks.entry.used) (marked_vote row) }
 {
-    let link = index::link(blocks, used, links, row.vote.number);
-    if link == 0 {
+    let Some(j) = index::link(blocks, links, row.entry.number) else {
         return false;
-    }
-    let voted = rows::block_at(blocks, link - 1);
-    if voted.block.slot > row.vote.slot {
-        return false;
-    }
-    if row.viewed {
-        return voted.viewed;
-    }
-    true
+    };
+    let voted = blocks.row(j);
+    voted.entry.slot <= row.entry.slot && (!row.viewed || voted.viewed)
 }
 
 // Whether the block of each vote is sound. The cost is a lookup for each vote.
-fn all_voted_sound(
-    blocks: &[u64],
-    blocks_used: usize,
-    links: &[u16],
-    votes: &[u64],
-    votes_used: usize,
-) -> bool
-    requires { VotesFit votes_used votes.now × Indexed blocks.now blocks_used links.now }
-    ensures { result ≡ all_pass (voted_sound (rows_of make_block blocks.now blocks_used)) (rows_of make_vote votes.now votes_used) }
+fn all_voted_sound(blocks: Table<'_, Block>, links: &[u16], votes: Table<'_, Vote>) -> bool
+    requires { Indexed blocks.words.now blocks.used links.now }
+    ensures { result ≡ all_pass (voted_sound (rows_of make_block blocks.entry.words.now blocks.entry.used)) (rows_of make_vote votes.entry.words.now votes.entry.used) }
 {
-    let mut i: usize = 0;
-    while i < votes_used {
-        let row = rows::vote_at(votes, i);
-        if !voted_sound(blocks, blocks_used, links, row) {
+    for i in 0..votes.used {
+        if !voted_sound(blocks, links, votes.row(i)) {
             return false;
         }
-        i += 1;
     }
     true
 }
 
 // The rules that look at several rows; and the links, all free before, are indices of both tables if these keep them. The cost is two
 // lookups for each row.
+#[tactic(auto, unfolding(crate::specs::Parts::tables_sound))]
 fn tables_sound(
-    blocks: &[u64],
-    blocks_used: usize,
-    votes: &[u64],
-    votes_used: usize,
+    blocks: Table<'_, Block>,
+    votes: Table<'_, Vote>,
     block_links: &mut [u16],
     vote_links: &mut [u16],
 ) -> bool
-    requires { BlocksFit blocks_used blocks.now × VotesFit votes_used votes.now
-        × TableRoom blocks_used block_links.old × Blank block_links.old × TableRoom votes_used vote_links.old × Blank vote_links.old }
-    ensures { (result ≡ tables_sound (rows_of make_block blocks.now blocks_used) (rows_of make_vote votes.now votes_used))
-        × (result ≡ true → TablesIndexed blocks.now blocks_used block_links.new votes.now votes_used vote_links.new) }
+    requires block_room { TableRoom blocks.used block_links.old }
+    requires block_links { Blank block_links.old }
+    requires vote_room { TableRoom votes.used vote_links.old }
+    requires vote_links { Blank vote_links.old }
+    ensures sound { result ≡ tables_sound (rows_of make_block blocks.entry.words.now blocks.entry.used) (rows_of make_vote votes.entry.words.now votes.entry.used) }
+    ensures indexed { result ≡ true → TablesIndexed blocks.entry.words.now blocks.entry.used block_links.new votes.entry.words.now votes.entry.used vote_links.new }
 {
-    if !index::build_blocks(blocks, blocks_used, block_links) {
-        return false;
-    }
-    if !chain_sound(blocks, blocks_used, block_links) {
-        return false;
-    }
-    if !all_voted_sound(blocks, blocks_used, block_links, votes, votes_used) {
-        return false;
-    }
-    index::build_votes(votes, votes_used, vote_links)
+    index::build_blocks(blocks, block_links)
+        && chain_sound(blocks, block_links)
+        && all_voted_sound(blocks, block_links, votes)
+        && index::build_votes(votes, vote_links)
 }
 
 // Whether lent memory is sound. If it is, the links, all free before, are indices of both tables. Nothing is asked of what is lent.
-pub fn sound_indexed(
-    settings: Settings,
-    clock: Clock,
-    blocks: &[u64],
-    blocks_used: usize,
-    votes: &[u64],
-    votes_used: usize,
-    block_links: &mut [u16],
-    vote_links: &mut [u16],
-) -> bool
-    requires { TableRoom loom.blocks block_links.old × Blank block_links.old × TableRoom loom.votes vote_links.old × Blank vote_links.old }
-    ensures { (result ≡ lent_sound settings (record {
-      blocks = blocks.entry.now;
-      votes = votes.now;
-      blocks_used = blocks_used;
-      votes_used = votes_used;
-      clock = clock;
-    })) × (result ≡ true → TablesIndexed blocks.entry.now blocks_used block_links.new votes.now votes_used vote_links.new) }
+#[tactic(auto, using(crate::proofs::Whole::whole))]
+pub fn sound_indexed(lent: Lent<'_>, block_links: &mut [u16], vote_links: &mut [u16]) -> bool
+    requires block_room { TableRoom loom.blocks block_links.old }
+    requires block_links { Blank block_links.old }
+    requires vote_room { TableRoom loom.votes vote_links.old }
+    requires vote_links { Blank vote_links.old }
+    ensures sound { result ≡ lent_sound lent.entry.settings (memory lent.entry) }
+    ensures indexed { result ≡ true → TablesIndexed lent.entry.blocks.now lent.entry.blocks_used block_links.new lent.entry.votes.now lent.entry.votes_used vote_links.new }
 {
-    if !ranges::settings_sound(settings) {
+    let settings = lent.settings;
+    if !ranges::settings_sound(settings)
+        || !ranges::places_sound(settings.profile, lent.blocks, lent.votes)
+    {
         return false;
     }
-    let profile = settings.profile;
-    if !ranges::places_sound(profile, blocks, votes) {
+    let Some(blocks) = ranges::table::<Block>(lent.blocks, lent.blocks_used) else {
         return false;
-    }
-    if !ranges::fits(6, blocks, blocks_used) {
+    };
+    let Some(votes) = ranges::table::<Vote>(lent.votes, lent.votes_used) else {
         return false;
-    }
-    if !ranges::fits(5, votes, votes_used) {
-        return false;
-    }
-    if !ranges::clock_sound(clock) {
-        return false;
-    }
-    let slot = clock.seen / 3;
-    if !ranges::blocks_in_range(blocks, blocks_used, slot) {
-        return false;
-    }
-    if !ranges::votes_in_range(votes, votes_used, settings.nodes, slot) {
-        return false;
-    }
-    tables_sound(
-        blocks,
-        blocks_used,
-        votes,
-        votes_used,
-        block_links,
-        vote_links,
-    )
+    };
+    let slot = lent.clock.seen / 3;
+    ranges::clock_sound(lent.clock)
+        && ranges::blocks_in_range(blocks, slot)
+        && ranges::votes_in_range(votes, settings.nodes, slot)
+        && tables_sound(blocks, votes, block_links, vote_links)
 }
 
 // Whether lent memory is sound. Nothing is asked of what is lent. Stack: 72 KiB of links.
-pub fn lent_sound(
-    settings: Settings,
-    clock: Clock,
-    blocks: &[u64],
-    blocks_used: usize,
-    votes: &[u64],
-    votes_used: usize,
-) -> bool
-    ensures { result ≡ lent_sound settings (record {
-      blocks = blocks.entry.now;
-      votes = votes.now;
-      blocks_used = blocks_used;
-      votes_used = votes_used;
-      clock = clock;
-    }) }
+pub fn lent_sound(lent: Lent<'_>) -> bool
+    ensures { result ≡ lent_sound lent.entry.settings (memory lent.entry) }
 {
     let mut block_links = [0u16; index::BLOCK_LINKS];
     let mut vote_links = [0u16; index::VOTE_LINKS];
-    sound_indexed(
-        settings,
-        clock,
-        blocks,
-        blocks_used,
-        votes,
-        votes_used,
-        &mut block_links,
-        &mut vote_links,
-    )
+    sound_indexed(lent, &mut block_links, &mut vote_links)
 }

@@ -1,79 +1,52 @@
 -- Entries added to a table, once for blocks and votes: `has` says whether an entry is there already. Assumes nothing.
-use mathlib.Core.Bool.{Bool, true, false, cond}
-use mathlib.Core.List.{List, [], ◌∷◌, ◌++◌, append_assoc, append-nil}
+use Prim.Native.Nat.{ℕ, suc, ◌+◌, ◌<◌}
+use mathlib.Core.Bool.{Bool, true, false, not, cond}
+use mathlib.Core.List.{List, [], ◌∷◌, ◌++◌}
 use mathlib.Core.Path.{◌≡◌, refl, ap, sym, ◌∙◌}
-use lib.ListN.{length, drop}
+use native.Mathlib.Omega.{arith}
+use lib.ListN.{length, get_or, take, drop}
 use lib.Seq.{drop_at}
-use Rattle.protocol.specs.Store.{Marked, waiting, all_waiting, entries}
+use Rattle.protocol.specs.Store.{Marked, all_waiting, entries}
 use Rattle.protocol.proofs.Store.New.{new_of, Adding, adds-new}
-use Rattle.protocol.proofs.Store.Added.{add_one}
-use Rattle.protocol.proofs.Store.Views.{length-entries, entries-append}
-use Rattle.storing.specs.Grown.{grown}
+use Rattle.protocol.proofs.Store.Views.{length-entries, entries-append, entries-waiting}
+use Rattle.storing.specs.Grown.{grown, chosen}
 
-module _ {A : Type 0} (has : List A → A → Bool) where
-  -- ---- one entry
+module _ {A : Type 0} (has : List A → A → Bool) (add : List A → List A → List A) (is : Adding has add) where
+  -- to a table, as the contracts say it
+  pub grown-new : (ms : List (Marked A)) (xs : List A) → grown add ms xs ≡ ms ++ all_waiting (new_of has (entries ms) xs)
+  unfolding grown
+  grown-new ms xs =
+      ap (λ (l : List A). ms ++ all_waiting l)
+      (ap (drop (length ms)) (adds-new has add is (entries ms) xs) ∙ drop_at (entries ms) (new_of has (entries ms) xs) (length ms) (length-entries ms))
 
-  unfoldable pub enter : List (Marked A) → A → List (Marked A)
-  enter ms a = cond (has (entries ms) a) ms (ms ++ (waiting a ∷ []))
+  pub entries-grown : (ms : List (Marked A)) (xs : List A) → entries (grown add ms xs) ≡ add (entries ms) xs
+  entries-grown ms xs =
+      ap entries (grown-new ms xs) ∙ entries-append ms (all_waiting (new_of has (entries ms) xs))
+      ∙ ap (λ (l : List A). entries ms ++ l) (entries-waiting (new_of has (entries ms) xs)) ∙ sym (adds-new has add is (entries ms) xs)
 
-  entries-enter : (ms : List (Marked A)) (a : A) → entries (enter ms a) ≡ add_one has (entries ms) a
-  unfolding enter add_one entries
-  entries-enter ms a = go (has (entries ms) a)
+  pub length-grown : (ms : List (Marked A)) (xs : List A) → length (grown add ms xs) ≡ length (add (entries ms) xs)
+  length-grown ms xs = sym (length-entries (grown add ms xs)) ∙ ap length (entries-grown ms xs)
+
+  -- those that pass with their number are the new ones, where each passes if it is not there yet
+  pub chosen-new : (test : ℕ → A → Bool) (k : ℕ) (old xs : List A) (d : A)
+      → ((i : ℕ) → i < length xs → test (k + i) (get_or xs i d) ≡ not (has (add old (take i xs)) (get_or xs i d))) → chosen test k xs ≡ new_of has old xs
+  unfolding chosen new_of
+  chosen-new test k old [] d f = refl
+  chosen-new test k old (x ∷ xs) d f = go (has old x) refl (λ t e. chosen-new test (suc k) (cond t old (old ++ (x ∷ []))) xs d (later t e))
     where
-      go : (t : Bool) → entries (cond t ms (ms ++ (waiting a ∷ []))) ≡ cond t (entries ms) (entries ms ++ (a ∷ []))
-      go true = refl
-      go false = entries-append ms (waiting a ∷ [])
+      first : (t : Bool) → has old x ≡ t → test k x ≡ not t
+      first t e =
+          let z : k + 0 ≡ k = omega arith in
+          ap (λ (n : ℕ). test n x) (sym z) ∙ f 0 (omega arith) ∙ ap (λ (l : List A). not (has l x)) (is.none old) ∙ ap not e
 
-  -- ---- one after the other
+      later : (t : Bool) → has old x ≡ t → (i : ℕ) → i < length xs
+          → test (suc k + i) (get_or xs i d) ≡ not (has (add (cond t old (old ++ (x ∷ []))) (take i xs)) (get_or xs i d))
+      later t e i h =
+          let s : suc k + i ≡ k + suc i = omega arith in
+          ap (λ (n : ℕ). test n (get_or xs i d)) s ∙ f (suc i) (omega arith)
+          ∙ ap (λ (l : List A). not (has l (get_or xs i d))) (is.one old x (take i xs) ∙ ap (λ (b : Bool). add (cond b old (old ++ (x ∷ []))) (take i xs)) e)
 
-  unfoldable enter_all : List (Marked A) → List A → List (Marked A)
-  enter_all ms [] = ms
-  enter_all ms (a ∷ rest) = enter_all (enter ms a) rest
-
-  entered-end : (ms : List (Marked A)) (xs : List A) (a : A) → enter_all ms (xs ++ (a ∷ [])) ≡ enter (enter_all ms xs) a
-  unfolding enter_all
-  entered-end ms [] a = refl
-  entered-end ms (x ∷ xs) a = entered-end (enter ms x) xs a
-
-  entered : (ms : List (Marked A)) (xs : List A) → enter_all ms xs ≡ ms ++ all_waiting (new_of has (entries ms) xs)
-  unfolding enter_all enter new_of all_waiting entries
-  entered ms [] = sym (append-nil ms)
-  entered ms (x ∷ xs) = go (has (entries ms) x) (entered ms xs) (entered (ms ++ (waiting x ∷ [])) xs)
-    where
-      go : (t : Bool) → enter_all ms xs ≡ ms ++ all_waiting (new_of has (entries ms) xs)
-          → enter_all (ms ++ (waiting x ∷ [])) xs ≡ (ms ++ (waiting x ∷ [])) ++ all_waiting (new_of has (entries (ms ++ (waiting x ∷ []))) xs)
-          → enter_all (cond t ms (ms ++ (waiting x ∷ []))) xs ≡ ms ++ all_waiting (cond t (new_of has (entries ms) xs) (x ∷ new_of has (entries ms ++ (x ∷ [])) xs))
-      go true p q = p
-      go false p q =
-          q ∙ ap (λ (l : List A). (ms ++ (waiting x ∷ [])) ++ all_waiting (new_of has l xs)) (entries-append ms (waiting x ∷ []))
-          ∙ append_assoc ms (waiting x ∷ []) (all_waiting (new_of has (entries ms ++ (x ∷ [])) xs))
-
-  module _ (add : List A → List A → List A) (is : Adding has add) where
-    -- to a table, as the contracts say it
-    pub grown-new : (ms : List (Marked A)) (xs : List A) → grown add ms xs ≡ ms ++ all_waiting (new_of has (entries ms) xs)
-    unfolding grown
-    grown-new ms xs =
-        ap (λ (l : List A). ms ++ all_waiting l)
-        (ap (drop (length ms)) (adds-new has add is (entries ms) xs) ∙ drop_at (entries ms) (new_of has (entries ms) xs) (length ms) (length-entries ms))
-
-    grown-entered : (ms : List (Marked A)) (xs : List A) → grown add ms xs ≡ enter_all ms xs
-    grown-entered ms xs = grown-new ms xs ∙ sym (entered ms xs)
-
-    -- none, and one more at the end
-    pub grown-none : (ms : List (Marked A)) → grown add ms [] ≡ ms
-    unfolding enter_all
-    grown-none ms = grown-entered ms []
-
-    pub grown-end : (ms : List (Marked A)) (xs : List A) (a : A) → grown add ms (xs ++ (a ∷ [])) ≡ enter (grown add ms xs) a
-    grown-end ms xs a = grown-entered ms (xs ++ (a ∷ [])) ∙ entered-end ms xs a ∙ ap (λ (r : List (Marked A)). enter r a) (sym (grown-entered ms xs))
-
-    entries-entered : (ms : List (Marked A)) (xs : List A) → entries (enter_all ms xs) ≡ add (entries ms) xs
-    unfolding enter_all add_one
-    entries-entered ms [] = sym (is.none (entries ms))
-    entries-entered ms (x ∷ xs) = entries-entered (enter ms x) xs ∙ ap (λ (l : List A). add l xs) (entries-enter ms x) ∙ sym (is.one (entries ms) x xs)
-
-    pub entries-grown : (ms : List (Marked A)) (xs : List A) → entries (grown add ms xs) ≡ add (entries ms) xs
-    entries-grown ms xs = ap entries (grown-entered ms xs) ∙ entries-entered ms xs
-
-    pub length-grown : (ms : List (Marked A)) (xs : List A) → length (grown add ms xs) ≡ length (add (entries ms) xs)
-    length-grown ms xs = sym (length-entries (grown add ms xs)) ∙ ap length (entries-grown ms xs)
+      go : (t : Bool) → has old x ≡ t → ((t : Bool) → has old x ≡ t → chosen test (suc k) xs ≡ new_of has (cond t old (old ++ (x ∷ []))) xs)
+          → cond (test k x) (x ∷ chosen test (suc k) xs) (chosen test (suc k) xs) ≡ cond t (new_of has old xs) (x ∷ new_of has (old ++ (x ∷ [])) xs)
+      go true e rec = rw (first true e) (rec true e)
+      go false e rec = rw (first false e) (ap (λ (l : List A). x ∷ l) (rec false e))

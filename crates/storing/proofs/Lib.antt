@@ -1,4 +1,4 @@
 -- The laws of tables that grow, and the proofs of the functions. Assumes nothing.
 pub mod Adding
 pub mod Turns
-pub mod Since
+pub mod Chosen

@@ -17,8 +17,8 @@ unfolding link_to_number
 link-low ws n x =
     omega (arith, link-within (λ (m : Marked Block). eqb m.entry.number x) (rows_of make_block ws n) 0, length-rows_of make_block ws n)
 
-pub link-lt : (ws : List ℕ) (n x : ℕ) → 0 < n → row_in ws n x < n
-link-lt ws n x h = omega (arith, link-low ws n x)
+pub link_lt : (ws : List ℕ) (n x : ℕ) → 0 < n → row_in ws n x < n
+link_lt ws n x h = omega (arith, link-low ws n x)
 
 pub parent-lt : (ws : List ℕ) (i : ℕ) → 0 < i → parent_row ws i < i
-parent-lt ws i h = link-lt ws i (block_at ws i).parent h
+parent-lt ws i h = link_lt ws i (block_at ws i).parent h

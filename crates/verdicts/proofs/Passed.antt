@@ -1,20 +1,24 @@
 -- What holds where a verdict passes: the memory is sound, its rows are there, and each test of the call failed. Assumes nothing.
 use Prim.Native.Nat.{ℕ, zero, suc, ◌/◌, ◌≤◌}
-use mathlib.Core.Path.{◌≡◌, refl}
+use mathlib.Core.Path.{◌≡◌, refl, sym, ap, ◌∙◌}
 use mathlib.Core.Bool.{Bool, true, false, cond, false≢true}
 use mathlib.Core.List.{List}
+use Rattle.std.specs.Prelude.{Result, Ok}
 use native.Mathlib.Omega.{arith}
 use Rattle.protocol.specs.declared.Settings.{Settings}
 use Rattle.protocol.specs.Limits.{loom}
 use Rattle.protocol.specs.Chain.{genesis}
 use Rattle.protocol.specs.Store.{same_block, Places, Node}
 use Rattle.protocol.specs.Sound.{blocks_sound, sound}
-use Rattle.protocol.specs.Refusal.{Refusal, by, Test, pass, refuse, first}
+use Rattle.protocol.specs.Refusal as rules
+use Rattle.protocol.specs.Refusal.{by, Test, Verdict, pass, refuse, first}
 use Rattle.protocol.specs.Lent.{block_words, vote_words, Lent, rows_of, make_block, places_in, places_of, node_of, lent_sound}
 use Rattle.protocol.proofs.Basics.Tests.{facts, and_left, and_right}
 use Rattle.protocol.proofs.Store.Sound.{ClockSound, Ranges, ranges, places-few}
 use Rattle.protocol.proofs.Lent.Memory.{lent-true, lent-used}
 use Rattle.soundness.proofs.Facts.{SoundMemory, sound-memory}
+use Rattle.verdicts.specs.declared.Refusal.{Refusal}
+use Rattle.verdicts.specs.Verdict.{verdict_of}
 use Rattle.verdicts.specs.Lent.{lent_verdict}
 
 -- ---- sound memory, as code goes on with it
@@ -63,7 +67,7 @@ ready s m e =
 
 -- ---- a verdict that passes
 
-pub refuse-not-pass : (k : Refusal) → refuse k ≡ pass → ⊥
+pub refuse-not-pass : (k : rules.Refusal) → refuse k ≡ pass → ⊥
 refuse-not-pass k e = let z : ◌≡◌ {A = ℕ} 0 1 = cc in absurd (omega arith)
 
 module _ (s : Settings) (tests : Places → Node → List Test) (m : Lent) where
@@ -75,5 +79,18 @@ module _ (s : Settings) (tests : Places → Node → List Test) (m : Lent) where
       go true e = (refl, e)
       go false e = absurd (refuse-not-pass (by 6) e)
 
-  pub pass-ready : lent_verdict s tests m ≡ pass → Ready s m
+  pass-ready : lent_verdict s tests m ≡ pass → Ready s m
   pass-ready e = ready s m (passes e).0
+
+-- ---- what code answers
+
+-- code found v, which is u
+pub said : {A : Type 0} {v : Result A Refusal} {w : Verdict} (u : Result A Refusal) → verdict_of v ≡ w → v ≡ u → w ≡ verdict_of u
+said u h e = sym h ∙ ap verdict_of e
+
+module _ (s : Settings) (tests : Places → Node → List Test) (m : Lent) {A : Type 0} {v : Result A Refusal} {a : A} (h : verdict_of v ≡ lent_verdict s tests m) (e : v ≡ Ok a) where
+  pub passed-sound : lent_sound s m ≡ true
+  passed-sound = (passes s tests m (said (Ok a) h e)).0
+
+  pub passed-ready : Ready s m
+  passed-ready = pass-ready s tests m (said (Ok a) h e)

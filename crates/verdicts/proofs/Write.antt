@@ -6,20 +6,23 @@ use mathlib.Core.Bool.{Bool, true, false, not, ◌&&◌, cond}
 use mathlib.Core.List.{List, [], ◌∷◌}
 use native.Mathlib.Omega.{arith}
 use lib.Dec.{ltb}
-use lib.ListN.{length, drop}
+use lib.ListN.{length}
+use Rattle.std.specs.Prelude.{Result, Ok}
 use borrow.Author.Tests.{lt-ltb, le-ltb}
 use Rattle.protocol.specs.declared.Settings.{Settings}
 use Rattle.protocol.specs.declared.Width.{Width}
 use Rattle.protocol.specs.Entry.{Block}
 use Rattle.protocol.specs.Chain.{genesis}
 use Rattle.protocol.specs.Store.{view_of, Node}
-use Rattle.protocol.specs.Refusal.{by, test, pass, refuse, first}
+use Rattle.protocol.specs.Refusal.{by, test, pass, refuse, first, unsound}
 use Rattle.protocol.specs.Calls.Write.{last_block, gossip_of, proposal_of, sent_of, proposed_now, too_wide, packet_out, write_tests}
-use Rattle.protocol.specs.Lent.{Lent, rows_of, make_block, node_of, lent_sound}
+use Rattle.protocol.specs.Lent.{Lent, rows_of, make_block, node_of}
 use Rattle.writer.specs.Sent.{node_in, RowsReadable}
+use Rattle.verdicts.specs.declared.Refusal.{Refusal}
+use Rattle.verdicts.specs.Verdict.{verdict_of}
 use Rattle.verdicts.specs.Lent.{lent_verdict}
 use Rattle.verdicts.proofs.Passed.{Ready}
-use Rattle.verdicts.proofs.Sequence.{sound-pass}
+use Rattle.verdicts.proofs.Sequence.{passed-before, write-front}
 
 pub readable : (s : Settings) (m : Lent) → Ready s m → RowsReadable m.blocks m.blocks_used m.votes m.votes_used
 readable s m R = record {
@@ -37,30 +40,30 @@ unfolding sent_of proposal_of gossip_of
 header-fields true width x e = (ap (λ o. o.slot) e, ap (λ o. o.number) e)
 header-fields false width x e = (ap (λ o. o.slot) e, ap (λ o. o.number) e)
 
--- what code knows: the memory is sound, and its answers u, w and n
-module _ (s : Settings) (m : Lent) (proposal : Bool) (width : Width) (buffer : List ℕ) {t : Bool} (told : t ≡ lent_sound s m) (is : t ≡ true) where
-  -- of the clock and the blocks alone
-  abbrev Proposer : Bool
-  Proposer = proposed_now s (record { blocks = rows_of make_block m.blocks m.blocks_used; votes = []; clock = m.clock })
+-- whether the own node proposes now, of the clock and the blocks alone
+abbrev pub proposer : Settings → Lent → Bool
+proposer s m = proposed_now s (record { blocks = rows_of make_block m.blocks m.blocks_used; votes = []; clock = m.clock })
 
+-- what code knows: the memory is sound, by v; and its answers u, w and n
+module _ (s : Settings) (m : Lent) (proposal : Bool) (width : Width) (buffer : List ℕ) {A : Type 0} {v : Result A Refusal} {a : A} (told : verdict_of v ≡ lent_verdict s (λ p x. unsound s p x ∷ []) m) (is : v ≡ Ok a) where
   -- the node, without its clock
   abbrev held : Node
   held = node_in m.blocks m.blocks_used m.votes m.votes_used
 
   rest : lent_verdict s (λ p x. write_tests s p x proposal width buffer) m
-      ≡ first (test 19 (proposal && not Proposer)
+      ≡ first (test 19 (proposal && not (proposer s m))
       ∷ test 23 (too_wide width (sent_of proposal width held))
       ∷ test 18 (ltb (length buffer) (length (packet_out proposal width held)))
       ∷ [])
   unfolding write_tests proposed_now packet_out sent_of gossip_of proposal_of node_in node_of
-  rest = sound-pass s (λ p x. drop 1 (write_tests s p x proposal width buffer)) m told is
+  rest = passed-before s _ (λ p x. write_tests s p x proposal width buffer) m 1 (write-front s proposal width buffer) told is
 
-  pub no-proposal : {u : Bool} → proposal ≡ true → u ≡ Proposer → u ≡ false → refuse (by 19) ≡ lent_verdict s (λ p x. write_tests s p x proposal width buffer) m
+  pub no-proposal : {u : Bool} → proposal ≡ true → u ≡ proposer s m → u ≡ false → refuse (by 19) ≡ lent_verdict s (λ p x. write_tests s p x proposal width buffer) m
   no-proposal q r e = sym (rest ∙ unfold first in (rw (q, sym r ∙ e)))
 
   -- a proposal is wanted of the proposer, or gossip
-  module _ (may : ((proposal ≡ true) × (Proposer ≡ true)) ⊎ (proposal ≡ false)) {w : Bool} (wide : w ≡ too_wide width (sent_of proposal width held)) where
-    allowed : (proposal && not Proposer) ≡ false
+  module _ (may : ((proposal ≡ true) × (proposer s m ≡ true)) ⊎ (proposal ≡ false)) {w : Bool} (wide : w ≡ too_wide width (sent_of proposal width held)) where
+    allowed : (proposal && not (proposer s m)) ≡ false
     allowed = ⊎_elim (λ w. rw (w.0, w.1)) (λ w. rw w) may
 
     pub met-wide : w ≡ true → refuse (by 23) ≡ lent_verdict s (λ p x. write_tests s p x proposal width buffer) m

@@ -4,7 +4,7 @@ use Rattle.std.specs.Borrow.{MutBor}
 use denote.Triple.Both.{Both}
 use Rattle.protocol.specs.declared.Settings.{Settings}
 use Rattle.protocol.specs.declared.Clock.{Clock}
-use Rattle.protocol.specs.Store.{Places, Node}
+use Rattle.protocol.specs.Store.{Places, Node, fresh_clock}
 use Rattle.protocol.specs.Refusal.{by, Test, Verdict, refuse, first, unsound, wrong_beat, wrong_phase, beat_done}
 use Rattle.protocol.specs.Lent.{Lent, places_of, node_of, lent_sound}
 
@@ -25,6 +25,10 @@ module _ (blocks : Both (MutBor (List ℕ)) (MutBor (List ℕ))) (blocks_used : 
 
   abbrev pub lent_at_exit : Lent
   lent_at_exit = behind blocks.exit blocks_used.exit votes.exit votes_used.exit clock
+
+-- the first block alone, with the clock of a fresh node
+abbrev pub first_rows : Lent → Lent
+first_rows m = lent m.blocks m.votes 1 0 fresh_clock
 
 -- unsound memory is refused by 6, whatever the call; else the call's tests decide
 unfoldable pub lent_verdict : Settings → (Places → Node → List Test) → Lent → Verdict

@@ -1,5 +1,5 @@
 -- What the answers of code mean: document 01's number of every refusal, and the index of an entry. Assumes nothing.
-use Rattle.std.specs.Prelude.{ℕ}
+use Rattle.std.specs.Prelude.{ℕ, Result, Ok, Err}
 use Rattle.protocol.specs.Refusal as rules
 use Rattle.verdicts.specs.declared.Refusal.{Refusal}
 use Rattle.verdicts.specs.declared.Refusal.TheVariants.{
@@ -28,10 +28,6 @@ use Rattle.verdicts.specs.declared.Refusal.TheVariants.{
   NumberTooWide,
   SilentOutOfRange,
 }
-use Rattle.verdicts.specs.declared.Verdict.{Verdict}
-use Rattle.verdicts.specs.declared.Verdict.TheVariants.{Pass, Refuse}
-use Rattle.verdicts.specs.declared.Counted.{Counted}
-use Rattle.verdicts.specs.declared.Counted.TheVariants as counted
 
 abbrev pub refusal_of : Refusal → rules.Refusal
 refusal_of NodesOutOfRange = rules.by 1
@@ -70,11 +66,7 @@ refusal_index (rules.by_entry k i) = i
 abbrev pub refusal_index_of : Refusal → ℕ
 refusal_index_of r = refusal_index (refusal_of r)
 
-abbrev pub verdict_of : Verdict → rules.Verdict
-verdict_of Pass = rules.pass
-verdict_of (Refuse r) = rules.refuse (refusal_of r)
-
--- where entries were counted, no test applied
-abbrev pub counted_verdict : Counted → rules.Verdict
-counted_verdict (counted.New n) = rules.pass
-counted_verdict (counted.Refuse r) = rules.refuse (refusal_of r)
+-- no test applied, whatever code goes on with; or the first that applied refuses
+abbrev pub verdict_of : {A : Type 0} → Result A Refusal → rules.Verdict
+verdict_of (Ok a) = rules.pass
+verdict_of (Err r) = rules.refuse (refusal_of r)

@@ -1,5 +1,5 @@
 -- One row comes into view: where no two rows pass the test, the row that does is written. Assumes nothing.
-use Prim.Native.Nat.{ℕ, zero, suc, ◌+◌, ◌-◌, ◌*◌, ◌≤◌, ◌<◌}
+use Prim.Native.Nat.{ℕ, zero, suc, ◌+◌, ◌*◌, ◌≤◌, ◌<◌}
 use mathlib.Core.Bool.{Bool, true, false, not, ◌||◌, cond, or-true, or-false}
 use mathlib.Core.List.{List, [], ◌∷◌}
 use mathlib.Core.Logic.{⊎_elim}
@@ -59,25 +59,23 @@ module _ {A : Type 0} (p : A → Bool) where
         go true rec f = absurd (omega arith)
         go false rec f = rw (or-false a.viewed, rec (f ∙ omega arith))
 
-  -- the words of a table, whose first row that passes is told by `link`
-  module _ {make : Make (Marked A)} {row : Marked A → List ℕ} (codec : Codec (Marked A) make row) (ws : List ℕ) (n : ℕ)
-      {link : ℕ} (e : link ≡ link_to passes (rows_of make ws n)) where
-    pub one_below : (link ≡ 0 → ⊥) → link - 1 < n
-    one_below some = omega (arith, e, link-within passes (rows_of make ws n) 0, length-rows_of make ws n)
+  -- the words of a table, of which row k is the first that passes, or none does
+  module _ {make : Make (Marked A)} {row : Marked A → List ℕ} (codec : Codec (Marked A) make row) (ws : List ℕ) (n : ℕ) where
+    pub one_below : {k : ℕ} → suc k ≡ link_to passes (rows_of make ws n) → k < n
+    one_below e = omega (arith, e, link-within passes (rows_of make ws n) 0, length-rows_of make ws n)
 
     module _ (h : make.words * n ≤ length ws) (s : marks_sound make ws n ≡ true) where
-      pub one_none : link ≡ 0 → ws ≡ stored row (view p (rows_of make ws n)) ws
-      one_none z = sym (ap (λ (o : List (Marked A)). stored row o ws) (none-viewing 0 (rows_of make ws n) (sym e ∙ z)) ∙ stored_same codec ws n s h)
+      pub one_none : 0 ≡ link_to passes (rows_of make ws n) → ws ≡ stored row (view p (rows_of make ws n)) ws
+      one_none e = sym (ap (λ (o : List (Marked A)). stored row o ws) (none-viewing 0 (rows_of make ws n) (sym e)) ∙ stored_same codec ws n s h)
 
-      -- the row there was read as m
       pub one_at : (same : Marked A → Marked A → Bool) → ((a b : Marked A) → p a.entry ≡ true → p b.entry ≡ true → same a b ≡ true)
-          → {m : Marked A} {ws' : List ℕ} → distinct same (rows_of make ws n) ≡ true → (link ≡ 0 → ⊥) → m ≡ row_at make ws (link - 1)
-          → ws' ≡ put_row make.words ws (link - 1) (row (in_view m.entry)) → ws' ≡ stored row (view p (rows_of make ws n)) ws
-      one_at same alike {m} {ws'} d some r q =
+          → {k : ℕ} {ws' : List ℕ} → distinct same (rows_of make ws n) ≡ true → suc k ≡ link_to passes (rows_of make ws n)
+          → ws' ≡ put_row make.words ws k (row (in_view (row_at make ws k).entry)) → ws' ≡ stored row (view p (rows_of make ws n)) ws
+      one_at same alike {k} {ws'} d e q =
           let R = rows_of make ws n in
-          let k = link - 1 in
-          let l : link - 1 < n = one_below some in
+          let m = row_at make ws k in
+          let l : k < n = one_below e in
           let z : link_to passes R ≡ suc (0 + k) = sym e ∙ omega arith in
           q ∙ ap (λ (w : List ℕ). put_row make.words w k (row (in_view m.entry))) (sym (stored_same codec ws n s h))
           ∙ put-set codec R ws k (in_view m.entry) (omega (arith, length-rows_of make ws n))
-          ∙ ap (λ (o : List (Marked A)). stored row o ws) (set-viewing same alike 0 R k m d z (r ∙ sym (get_d-rows_of make ws n k m l)))
+          ∙ ap (λ (o : List (Marked A)). stored row o ws) (set-viewing same alike 0 R k m d z (sym (get_d-rows_of make ws n k m l)))

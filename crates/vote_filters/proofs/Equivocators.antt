@@ -1,10 +1,9 @@
 -- The equivocators, one vote at a time: a vote is held against the first one of its voter and slot. Assumes nothing.
-use Prim.Native.Nat.{ℕ, ◌+◌, ◌-◌, ◌<◌}
+use Prim.Native.Nat.{ℕ, suc, ◌+◌, ◌<◌}
 use mathlib.Core.Bool.{Bool, true, false, ◌||◌, ◌&&◌}
 use mathlib.Core.List.{List, [], ◌∷◌, ◌++◌}
 use mathlib.Core.Logic.{◌⊎◌, inl, inr}
 use mathlib.Core.Path.{◌≡◌, refl, ap, sym, ◌∙◌}
-use native.Mathlib.Omega.{arith}
 use lib.Dec.{eqb}
 use borrow.Author.Tests.{eqb-true, eq-eqb}
 use Rattle.protocol.specs.Entry.{Vote}
@@ -139,54 +138,54 @@ module _ (w : Bool) (ws : List ℕ) (i : ℕ) (m : Marked Vote) (read : m ≡ ro
   unfolding window
   out-turn e = kept-turn (λ s b o k. absurd (clashing (rw s k) e))
 
-  module _ {link : ℕ} (P : Points (slot_key w ws) i (slot_key w ws i) link) where
-    -- no row before it has its voter and slot
-    pub alone-turn : link ≡ 0 → mask ≡ equivocators_of (votes_of w ws (i + 1)) E t
-    alone-turn z = kept-turn (λ s b o k. absurd (none s b o (row_of make_vote w ws i b o.cast)))
+  -- no row before it has its voter and slot
+  pub alone-turn : Points (slot_key w ws) i (slot_key w ws i) 0 → mask ≡ equivocators_of (votes_of w ws (i + 1)) E t
+  alone-turn P = kept-turn (λ s b o k. absurd (none s b o (row_of make_vote w ws i b o.cast)))
+    where
+      none : (w || m.viewed) ≡ true → (b : Vote) → Other votes m.entry b
+          → (j : ℕ) × (j < i) × ((w || (row_at make_vote ws j).viewed) ≡ true) × (b ≡ (row_at make_vote ws j).entry) → ⊥
+      none s b o (j, l, h, e) =
+          let x = sym (ap (λ c. c.voter) e) ∙ o.voters ∙ ap (λ c. c.entry.voter) read in
+          let y = sym (ap (λ c. c.slot) e) ∙ o.slots ∙ ap (λ c. c.entry.slot) read in
+          P.none refl j l (slot_same ws j i w x y h (ap (λ c. w || c.viewed) (sym read) ∙ s))
+
+  -- row p is the first of them
+  module _ {p : ℕ} (P : Points (slot_key w ws) i (slot_key w ws i) (suc p)) (f : Marked Vote) (met : f ≡ row_at make_vote ws p) (e : ((w || m.viewed) && window E t m.entry.slot) ≡ true) where
+    first : First (slot_key w ws) i (slot_key w ws i) p
+    first = P.hit p refl
+
+    voters : f.entry.voter ≡ m.entry.voter
+    voters = ap (λ c. c.entry.voter) met ∙ slot-voters ws p i w first.has ∙ sym (ap (λ c. c.entry.voter) read)
+
+    slots : f.entry.slot ≡ m.entry.slot
+    slots = ap (λ c. c.entry.slot) met ∙ slot-slots ws p i w first.has ∙ sym (ap (λ c. c.entry.slot) read)
+
+    viewed : (w || m.viewed) ≡ true
+    viewed = and_left (w || m.viewed) (window E t m.entry.slot) e
+
+    cast : Cast f.entry votes
+    cast =
+        rw met (entry_in make_vote w ws i p first.is_row (slot-selected ws p i w first.has ∙ sym (ap (λ c. w || c.viewed) read) ∙ viewed))
+
+    counts : window E t m.entry.slot ≡ true
+    counts = unfold window in (and_right (w || m.viewed) (window E t m.entry.slot) e)
+
+    -- it is for the same block
+    pub again-turn : f.entry.number ≡ m.entry.number → mask ≡ equivocators_of (votes_of w ws (i + 1)) E t
+    again-turn n =
+        let same : f.entry ≡ m.entry = λ j. record { voter = voters j; slot = slots j; number = n j } in
+        kept-turn (λ s b o k. doubled (window E t) votes m.entry k o (rw same at cast))
+
+    -- for another
+    pub double-turn : {r : ℕ} → r ≡ mask_of 64 (added (bit_of mask) m.entry.voter) → (f.entry.number ≡ m.entry.number → ⊥)
+        → r ≡ equivocators_of (votes_of w ws (i + 1)) E t
+    double-turn {r} x n = x ∙ ap (λ (y : ℕ). mask_of 64 (added (bit_of y) m.entry.voter)) q ∙ rw (selected-in make_vote w ws i m read viewed) grown
       where
-        none : (w || m.viewed) ≡ true → (b : Vote) → Other votes m.entry b
-            → (j : ℕ) × (j < i) × ((w || (row_at make_vote ws j).viewed) ≡ true) × (b ≡ (row_at make_vote ws j).entry) → ⊥
-        none s b o (j, l, h, e) =
-            let x = sym (ap (λ c. c.voter) e) ∙ o.voters ∙ ap (λ c. c.entry.voter) read in
-            let y = sym (ap (λ c. c.slot) e) ∙ o.slots ∙ ap (λ c. c.entry.slot) read in
-            P.none z j l (slot_same ws j i w x y h (ap (λ c. w || c.viewed) (sym read) ∙ s))
-
-    module _ (f : Marked Vote) (met : f ≡ row_at make_vote ws (link - 1)) (nz : link ≡ 0 → ⊥) (e : ((w || m.viewed) && window E t m.entry.slot) ≡ true) where
-      first : First (slot_key w ws) i (slot_key w ws i) (link - 1)
-      first = P.hit (link - 1) (omega arith)
-
-      voters : f.entry.voter ≡ m.entry.voter
-      voters = ap (λ c. c.entry.voter) met ∙ slot-voters ws (link - 1) i w first.has ∙ sym (ap (λ c. c.entry.voter) read)
-
-      slots : f.entry.slot ≡ m.entry.slot
-      slots = ap (λ c. c.entry.slot) met ∙ slot-slots ws (link - 1) i w first.has ∙ sym (ap (λ c. c.entry.slot) read)
-
-      viewed : (w || m.viewed) ≡ true
-      viewed = and_left (w || m.viewed) (window E t m.entry.slot) e
-
-      cast : Cast f.entry votes
-      cast =
-          rw met (entry_in make_vote w ws i (link - 1) first.is_row (slot-selected ws (link - 1) i w first.has ∙ sym (ap (λ c. w || c.viewed) read) ∙ viewed))
-
-      counts : window E t m.entry.slot ≡ true
-      counts = unfold window in (and_right (w || m.viewed) (window E t m.entry.slot) e)
-
-      -- the first one is for the same block
-      pub again-turn : f.entry.number ≡ m.entry.number → mask ≡ equivocators_of (votes_of w ws (i + 1)) E t
-      again-turn n =
-          let same : f.entry ≡ m.entry = λ j. record { voter = voters j; slot = slots j; number = n j } in
-          kept-turn (λ s b o k. doubled (window E t) votes m.entry k o (rw same at cast))
-
-      -- for another
-      pub double-turn : {r : ℕ} → r ≡ mask_of 64 (added (bit_of mask) m.entry.voter) → (f.entry.number ≡ m.entry.number → ⊥)
-          → r ≡ equivocators_of (votes_of w ws (i + 1)) E t
-      double-turn {r} x n = x ∙ ap (λ (y : ℕ). mask_of 64 (added (bit_of y) m.entry.voter)) q ∙ rw (selected-in make_vote w ws i m read viewed) grown
-        where
-          grown : mask_of 64 (added (bit_of (equivocators_of votes E t)) m.entry.voter) ≡ equivocators_of (votes ++ (m.entry ∷ [])) E t
-          grown = unfold equivocators_of in (
-              mask-ext 64 (added (bit_of (equivocators_of votes E t)) m.entry.voter) (λ v. equivocates (window E t) (votes ++ (m.entry ∷ [])) v)
-              (λ v l. rw (bit_mask 64 (λ u. equivocates (window E t) votes u) v l)
-              (equivocates-add (window E t) votes m.entry f.entry (record { cast = cast; voters = voters; slots = slots; differ = n }) counts v)))
+        grown : mask_of 64 (added (bit_of (equivocators_of votes E t)) m.entry.voter) ≡ equivocators_of (votes ++ (m.entry ∷ [])) E t
+        grown = unfold equivocators_of in (
+            mask-ext 64 (added (bit_of (equivocators_of votes E t)) m.entry.voter) (λ v. equivocates (window E t) (votes ++ (m.entry ∷ [])) v)
+            (λ v l. rw (bit_mask 64 (λ u. equivocates (window E t) votes u) v l)
+            (equivocates-add (window E t) votes m.entry f.entry (record { cast = cast; voters = voters; slots = slots; differ = n }) counts v)))
 
 -- ---- the begin
 

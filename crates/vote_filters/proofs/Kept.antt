@@ -2,14 +2,15 @@
 use Prim.Native.Nat.{ℕ, ◌+◌, ◌≤◌, ◌<◌}
 use mathlib.Core.Bool.{Bool, true, false, ◌&&◌, cond, and-false}
 use mathlib.Core.List.Memᴰ
+use Rattle.std.specs.Prelude.{Option, None}
 use mathlib.Core.List.{List, [], ◌∷◌}
 use mathlib.Core.Path.{◌≡◌, refl, ap, sym, ◌∙◌}
 use native.Mathlib.Omega.{arith}
 use lib.Dec.{eqb, ltb}
 use lib.ListN.{length, set}
-use lib.Seq.{get_or-set_same, get_or-set_other}
 use borrow.Author.Tests.{eqb-true, eqb-false, eq-eqb, lt-ltb, le-ltb}
 use Rattle.protocol.specs.Limits.{loom}
+use Rattle.protocol.specs.declared.Vote as code
 use Rattle.protocol.specs.Entry.{Vote}
 use Rattle.protocol.specs.Filters.{equivocates, window, LatestVote, latest_is, no_latest, later, latest, chosen, nothing, choice_of, kept_choice}
 use Rattle.protocol.specs.Confirm.{vote_in, in_slot, valid_vote}
@@ -18,56 +19,49 @@ use Rattle.protocol.proofs.Filters.Kept.{LastIs, latest-is, window-true, window-
 use Rattle.protocol.proofs.Filters.Relations.{Cast}
 use Rattle.protocol.specs.Words.{bit_of}
 use Rattle.masks.proofs.Masks.{bit_mask, below_more}
+use Rattle.vote_filters.proofs.Latest.{last_same, last-other}
 use Rattle.vote_filters.specs.Latest.{equivocators_of, last_at, Latest, Kept}
 
 -- the voters below k in the set have no vote any more
-pub record Dropped (vs : List Vote) (E t mask k : ℕ) (slots numbers : List ℕ) : Type 0 where
-  pub each : (v : ℕ) → v < loom.nodes → last_at slots numbers v ≡ cond (ltb v k && bit_of mask v) no_latest (latest vs E t v)
+pub record Dropped (vs : List Vote) (E t mask k : ℕ) (kept : List (Option code.Vote)) : Type 0 where
+  pub each : (v : ℕ) → v < loom.nodes → last_at kept v ≡ cond (ltb v k && bit_of mask v) no_latest (latest vs E t v)
 
-pub dropped-none : (vs : List Vote) (E t mask : ℕ) {slots numbers : List ℕ} → Latest vs E t slots numbers → Dropped vs E t mask 0 slots numbers
+pub dropped-none : (vs : List Vote) (E t mask : ℕ) {kept : List (Option code.Vote)} → Latest vs E t kept → Dropped vs E t mask 0 kept
 dropped-none vs E t mask L = record { each = λ v l. rw (le-ltb v 0 (omega arith)) (L.each v l) }
 
-last-cleared : (slots numbers : List ℕ) (k : ℕ) → k < length slots → last_at (set slots k 0) numbers k ≡ no_latest
-unfolding last_at
-last-cleared slots numbers k h = rw (get_or-set_same {A = ℕ} slots k 0 0 h)
-
-last-other : (slots numbers : List ℕ) (k v : ℕ) → (v ≡ k → ⊥) → last_at (set slots k 0) numbers v ≡ last_at slots numbers v
-unfolding last_at
-last-other slots numbers k v h = rw (get_or-set_other {A = ℕ} slots k v 0 0 h)
-
-pub dropped-more : (vs : List Vote) (E t mask k : ℕ) {slots numbers next : List ℕ} → Dropped vs E t mask k slots numbers
-    → next ≡ cond (bit_of mask k) (set slots k 0) slots → k < length slots → Dropped vs E t mask (k + 1) next numbers
-dropped-more vs E t mask k {slots} {numbers} {next} D e h = record { each = λ v l. ap (λ (s : List ℕ). last_at s numbers v) e ∙ go v l (eqb v k) refl (bit_of mask k) refl }
+pub dropped-more : (vs : List Vote) (E t mask k : ℕ) {kept next : List (Option code.Vote)} → Dropped vs E t mask k kept
+    → next ≡ cond (bit_of mask k) (set kept k None) kept → k < length kept → Dropped vs E t mask (k + 1) next
+dropped-more vs E t mask k {kept} {next} D e h = record { each = λ v l. ap (λ (s : List (Option code.Vote)). last_at s v) e ∙ go v l (eqb v k) refl (bit_of mask k) refl }
   where
     go : (v : ℕ) → v < loom.nodes → (x : Bool) → eqb v k ≡ x → (b : Bool) → bit_of mask k ≡ b
-        → last_at (cond b (set slots k 0) slots) numbers v ≡ cond (ltb v (k + 1) && bit_of mask v) no_latest (latest vs E t v)
+        → last_at (cond b (set kept k None) kept) v ≡ cond (ltb v (k + 1) && bit_of mask v) no_latest (latest vs E t v)
     go v l true q true m =
         let p : v ≡ k = eqb-true v k q in
         let o : k < k + 1 = omega arith in
-        rw (p, lt-ltb k (k + 1) o, m) (last-cleared slots numbers k h)
+        rw (p, lt-ltb k (k + 1) o, m) (last_same kept k None h)
     go v l true q false m =
         let p : v ≡ k = eqb-true v k q in
         let o : k ≤ k = omega arith in
-        let d : last_at slots numbers k ≡ latest vs E t k = rw (p, le-ltb k k o) at (D.each v l) in
+        let d : last_at kept k ≡ latest vs E t k = rw (p, le-ltb k k o) at (D.each v l) in
         rw (p, m, and-false (ltb k (k + 1))) d
     go v l false q true m =
         let p : v ≡ k → ⊥ = eqb-false v k q in
-        last-other slots numbers k v p ∙ D.each v l ∙ rw (below_more v k p)
+        last-other kept k v None p ∙ D.each v l ∙ rw (below_more v k p)
     go v l false q false m =
         let p : v ≡ k → ⊥ = eqb-false v k q in
         D.each v l ∙ rw (below_more v k p)
 
-pub dropped-all : (vs : List Vote) (E t mask k : ℕ) {slots numbers : List ℕ} → Dropped vs E t mask k slots numbers → 64 ≤ k → mask ≡ equivocators_of vs E t → Kept vs E t slots numbers
+pub dropped-all : (vs : List Vote) (E t mask k : ℕ) {kept : List (Option code.Vote)} → Dropped vs E t mask k kept → 64 ≤ k → mask ≡ equivocators_of vs E t → Kept vs E t kept
 unfolding equivocators_of kept_choice choice_of
-dropped-all vs E t mask k {slots} {numbers} D h e = record { each = λ v l. go v l }
+dropped-all vs E t mask k {kept} D h e = record { each = λ v l. go v l }
   where
     pick : (b : Bool) (f : LatestVote) → choice_of (cond b no_latest f) ≡ cond b nothing (choice_of f)
     pick true f = refl
     pick false f = refl
 
-    go : (v : ℕ) → v < loom.nodes → choice_of (last_at slots numbers v) ≡ kept_choice vs E t v
+    go : (v : ℕ) → v < loom.nodes → choice_of (last_at kept v) ≡ kept_choice vs E t v
     go v l =
-        let d : last_at slots numbers v ≡ cond (equivocates (window E t) vs v) no_latest (latest vs E t v)
+        let d : last_at kept v ≡ cond (equivocates (window E t) vs v) no_latest (latest vs E t v)
         = D.each v l ∙ rw (lt-ltb v k (omega arith), e, bit_mask 64 (λ u. equivocates (window E t) vs u) v l) in
         ap choice_of d ∙ pick (equivocates (window E t) vs v) (latest vs E t v)
 

@@ -1,25 +1,38 @@
 -- The latest votes, one vote at a time, and one row at a time. Assumes nothing.
 use Prim.Native.Nat.{ℕ, ◌+◌, ◌-◌, ◌≤◌, ◌<◌}
 use mathlib.Core.Bool.{Bool, true, false, ◌&&◌, cond, and-false, ◌||◌}
+use Rattle.std.specs.Prelude.{Option, Some, None}
 use mathlib.Core.List.{List, [], ◌∷◌, ◌++◌}
 use mathlib.Core.Path.{◌≡◌, refl, ap, sym, ◌∙◌}
 use native.Mathlib.Omega.{arith}
 use lib.Dec.{eqb, ltb, leb}
 use lib.ListN.{length, get_or, set, replicate, get_or-replicate}
 use lib.Seq.{get_or-set_same, get_or-set_other}
-use borrow.Author.Tests.{eqb-true, eqb-false, ne_eqb, ltb-true, ltb-false, lt-ltb, le-ltb, leb-true, le-leb}
+use borrow.Author.Tests.{eqb-true, eqb-false, ltb-true, ltb-false, lt-ltb, le-ltb, leb-true, le-leb}
 use Rattle.protocol.specs.Limits.{loom}
 use Rattle.protocol.specs.Entry.{Vote}
 use Rattle.protocol.specs.Filters.{window, LatestVote, latest_is, no_latest, later, latest}
 use Rattle.protocol.proofs.Basics.Tests.{same_test, and_left, and_right}
-use Rattle.vote_filters.specs.Latest.{last_at, Latest, selected, votes_of}
+use Rattle.vote_filters.specs.Latest.{held_vote, last_at, Latest, selected, votes_of}
 use Rattle.protocol.specs.Store.{Marked, entries, view_of}
 use Rattle.protocol.specs.Lent.{make_vote, rows_of}
-use Rattle.protocol.proofs.Filters.Kept.{window-true}
-use Rattle.numbers.specs.NumberWords.{NumbersFit, number_in, kept_in}
-use Rattle.numbers.proofs.NumberWords.{kept_same, kept-other}
-use Rattle.rows.specs.Rows.{row_at}
+use Rattle.protocol.specs.declared.Vote as code
+use Rattle.protocol.specs.Words.{vote_of}
+use Rattle.rows.specs.declared.Row.{Row}
+use Rattle.rows.specs.Rows.{row_at, marked_vote}
 use Rattle.vote_filters.proofs.Selected.{selected-in, selected-out}
+
+-- ---- the array, where one voter's vote changes
+
+pub last_same : (kept : List (Option code.Vote)) (k : ℕ) (x : Option code.Vote) → k < length kept → last_at (set kept k x) k ≡ held_vote x
+unfolding last_at
+last_same kept k x h = rw (get_or-set_same {A = Option code.Vote} kept k x None h)
+
+pub last-other : (kept : List (Option code.Vote)) (k v : ℕ) (x : Option code.Vote) → (v ≡ k → ⊥) → last_at (set kept k x) v ≡ last_at kept v
+unfolding last_at
+last-other kept k v x h = rw (get_or-set_other {A = Option code.Vote} kept k v x None h)
+
+-- ---- one vote more
 
 -- a vote more at the end: it is the latest where its slot is above the one held
 abbrev after : LatestVote → Vote → LatestVote
@@ -56,102 +69,95 @@ latest-end E t v (c ∷ vs) a =
     go false y f = refl
 
 -- a vote that the window leaves out
-pub latest-out : (vs : List Vote) (a : Vote) (E t : ℕ) (slots numbers : List ℕ) → window E t a.slot ≡ false
-    → Latest vs E t slots numbers → Latest (vs ++ (a ∷ [])) E t slots numbers
-latest-out vs a E t slots numbers e L = record { each = λ v l. L.each v l ∙ sym (latest-end E t v vs a ∙ rw (e, and-false (eqb a.voter v))) }
-
--- the slot held for v is the latest vote's
-held-slot : (slots numbers : List ℕ) (v : ℕ) (a : Vote) → ltb (get_or slots v 0) a.slot ≡ false → 0 < a.slot → after (last_at slots numbers v) a ≡ last_at slots numbers v
-unfolding last_at
-held-slot slots numbers v a e z = go (eqb (get_or slots v 0) 0) refl
-  where
-    go : (b : Bool) → eqb (get_or slots v 0) 0 ≡ b
-        → after (cond b no_latest (latest_is (record { voter = v; slot = get_or slots v 0; number = number_in numbers v }))) a
-        ≡ cond b no_latest (latest_is (record { voter = v; slot = get_or slots v 0; number = number_in numbers v }))
-    go true h = absurd (omega (arith, eqb-true (get_or slots v 0) 0 h, ltb-false (get_or slots v 0) a.slot e))
-    go false h = rw e
+pub latest-out : (vs : List Vote) (a : Vote) (E t : ℕ) (kept : List (Option code.Vote)) → window E t a.slot ≡ false
+    → Latest vs E t kept → Latest (vs ++ (a ∷ [])) E t kept
+latest-out vs a E t kept e L = record { each = λ v l. L.each v l ∙ sym (latest-end E t v vs a ∙ rw (e, and-false (eqb a.voter v))) }
 
 -- one that is no later than the vote held
-pub latest-old : (vs : List Vote) (a : Vote) (E t : ℕ) (slots numbers : List ℕ) → 0 < a.slot → a.slot ≤ get_or slots a.voter 0
-    → Latest vs E t slots numbers → Latest (vs ++ (a ∷ [])) E t slots numbers
-latest-old vs a E t slots numbers z h L = record { each = λ v l. L.each v l ∙ sym (latest-end E t v vs a ∙ rw (← L.each v l) (go v (eqb a.voter v) refl (window E t a.slot))) }
+pub latest-old : (vs : List Vote) (a : Vote) (E t : ℕ) (kept : List (Option code.Vote)) (b : Vote) → last_at kept a.voter ≡ latest_is b → a.slot ≤ b.slot
+    → Latest vs E t kept → Latest (vs ++ (a ∷ [])) E t kept
+latest-old vs a E t kept b o h L = record { each = λ v l. L.each v l ∙ sym (latest-end E t v vs a ∙ rw (← L.each v l) (go v (eqb a.voter v) refl (window E t a.slot))) }
   where
-    go : (v : ℕ) (b : Bool) → eqb a.voter v ≡ b → (c : Bool) → cond (b && c) (after (last_at slots numbers v) a) (last_at slots numbers v) ≡ last_at slots numbers v
-    go v true e true = held-slot slots numbers v a (rw (← eqb-true a.voter v e) (le-ltb (get_or slots a.voter 0) a.slot h)) z
+    go : (v : ℕ) (x : Bool) → eqb a.voter v ≡ x → (c : Bool) → cond (x && c) (after (last_at kept v) a) (last_at kept v) ≡ last_at kept v
+    go v true e true = rw (← eqb-true a.voter v e, o, le-ltb b.slot a.slot h)
     go v true e false = refl
     go v false e c = refl
 
--- a later one takes its voter's place
-pub latest-new : (vs : List Vote) (a : Vote) (E t : ℕ) (slots numbers : List ℕ) → window E t a.slot ≡ true → 0 < a.slot → get_or slots a.voter 0 < a.slot
-    → a.voter < length slots → NumbersFit (a.voter + 1) numbers
-    → Latest vs E t slots numbers → Latest (vs ++ (a ∷ [])) E t (set slots a.voter a.slot) (kept_in numbers a.voter a.number)
+-- the vote held is earlier, or there is none
+abbrev pub IsLater : Vote → LatestVote → Type 0
+IsLater a no_latest = Unit {0}
+IsLater a (latest_is b) = b.slot < a.slot
+
+pub later-than : (a b : code.Vote) (kept : List (Option code.Vote)) (v : ℕ) → get_or kept v None ≡ Some b → b.slot < a.slot → IsLater (vote_of a) (last_at kept v)
 unfolding last_at
-latest-new vs a E t slots numbers w z h m n L = record { each = λ v l. go v l (eqb a.voter v) refl }
+later-than a b kept v e h = rw e h
+
+pub later-none : (a : code.Vote) (kept : List (Option code.Vote)) (v : ℕ) → get_or kept v None ≡ None → IsLater (vote_of a) (last_at kept v)
+unfolding last_at
+later-none a kept v e = rw e tt
+
+-- a later one takes its voter's place
+pub latest-new : (vs : List Vote) (a : code.Vote) (E t : ℕ) (kept : List (Option code.Vote)) → window E t a.slot ≡ true → IsLater (vote_of a) (last_at kept a.voter)
+    → a.voter < length kept → Latest vs E t kept → Latest (vs ++ (vote_of a ∷ [])) E t (set kept a.voter (Some a))
+latest-new vs a E t kept w h m L = record { each = λ v l. go v l (eqb a.voter v) refl }
   where
-    new : last_at (set slots a.voter a.slot) (kept_in numbers a.voter a.number) a.voter ≡ latest_is a
-    new = unfold last_at in (
-        rw (get_or-set_same slots a.voter a.slot 0 m, kept_same numbers a.voter a.number n, ne_eqb a.slot 0 (λ q. omega arith)))
+    over : (f : LatestVote) → IsLater (vote_of a) f → after f (vote_of a) ≡ latest_is (vote_of a)
+    over no_latest q = refl
+    over (latest_is b) q = rw (lt-ltb b.slot a.slot q)
 
-    over : after (last_at slots numbers a.voter) a ≡ latest_is a
-    over = unfold last_at in (pick (eqb (get_or slots a.voter 0) 0))
-      where
-        pick : (b : Bool) → after (cond b no_latest (latest_is (record { voter = a.voter; slot = get_or slots a.voter 0; number = number_in numbers a.voter }))) a ≡ latest_is a
-        pick true = refl
-        pick false = rw (lt-ltb (get_or slots a.voter 0) a.slot h)
-
-    go : (v : ℕ) → v < loom.nodes → (b : Bool) → eqb a.voter v ≡ b → last_at (set slots a.voter a.slot) (kept_in numbers a.voter a.number) v ≡ latest (vs ++ (a ∷ [])) E t v
+    go : (v : ℕ) → v < loom.nodes → (b : Bool) → eqb a.voter v ≡ b → last_at (set kept a.voter (Some a)) v ≡ latest (vs ++ (vote_of a ∷ [])) E t v
     go v l true e =
         let q : a.voter ≡ v = eqb-true a.voter v e in
-        ap (last_at (set slots a.voter a.slot) (kept_in numbers a.voter a.number)) (sym q) ∙ new
-        ∙ sym (latest-end E t v vs a ∙ rw (e, w, ← L.each v l, ← q) over)
+        ap (last_at (set kept a.voter (Some a))) (sym q) ∙ last_same kept a.voter (Some a) m
+        ∙ sym (latest-end E t v vs (vote_of a) ∙ rw (e, w, ← L.each v l, ← q) (over (last_at kept a.voter) h))
     go v l false e =
         let q : v ≡ a.voter → ⊥ = λ o. eqb-false a.voter v e (sym o) in
-        rw (get_or-set_other slots a.voter v a.slot 0 q, kept-other numbers a.voter a.number v q)
-        (L.each v l ∙ sym (latest-end E t v vs a ∙ rw e))
+        last-other kept a.voter v (Some a) q ∙ L.each v l ∙ sym (latest-end E t v vs (vote_of a) ∙ rw e)
 
 -- ---- one turn: row i was read as m
 
-module _ (w : Bool) (ws : List ℕ) (i : ℕ) (m : Marked Vote) (read : m ≡ row_at make_vote ws i) where
-  module _ (E t : ℕ) {slots numbers : List ℕ} (L : Latest (votes_of w ws i) E t slots numbers) where
-    pub out-turn : ((w || m.viewed) && window E t m.entry.slot) ≡ false → Latest (votes_of w ws (i + 1)) E t slots numbers
-    out-turn e = go (w || m.viewed) refl e
+module _ (w : Bool) (ws : List ℕ) (i : ℕ) (r : Row code.Vote) (read : marked_vote r ≡ row_at make_vote ws i) where
+  m : Marked Vote
+  m = marked_vote r
+
+  module _ (E t : ℕ) {kept : List (Option code.Vote)} (L : Latest (votes_of w ws i) E t kept) where
+    pub out-turn : ((w || r.viewed) && window E t r.entry.slot) ≡ false → Latest (votes_of w ws (i + 1)) E t kept
+    out-turn e = go (w || r.viewed) refl e
       where
-        go : (b : Bool) → (w || m.viewed) ≡ b → (b && window E t m.entry.slot) ≡ false → Latest (votes_of w ws (i + 1)) E t slots numbers
-        go true s q = rw (selected-in make_vote w ws i m read s) (latest-out (votes_of w ws i) m.entry E t slots numbers q L)
-        go false s q = rw (selected-out make_vote w ws i m read s) L
+        go : (b : Bool) → (w || r.viewed) ≡ b → (b && window E t r.entry.slot) ≡ false → Latest (votes_of w ws (i + 1)) E t kept
+        go true s q = rw (selected-in make_vote w ws i (marked_vote r) read s) (latest-out (votes_of w ws i) (vote_of r.entry) E t kept q L)
+        go false s q = rw (selected-out make_vote w ws i (marked_vote r) read s) L
 
-    module _ (e : ((w || m.viewed) && window E t m.entry.slot) ≡ true) where
-      viewed : (w || m.viewed) ≡ true
-      viewed = and_left (w || m.viewed) (window E t m.entry.slot) e
+    module _ (e : ((w || r.viewed) && window E t r.entry.slot) ≡ true) where
+      viewed : (w || r.viewed) ≡ true
+      viewed = and_left (w || r.viewed) (window E t r.entry.slot) e
 
-      inside : window E t m.entry.slot ≡ true
-      inside = and_right (w || m.viewed) (window E t m.entry.slot) e
+      inside : window E t r.entry.slot ≡ true
+      inside = and_right (w || r.viewed) (window E t r.entry.slot) e
 
-      pub old-turn : m.entry.slot ≤ get_or slots m.entry.voter 0 → Latest (votes_of w ws (i + 1)) E t slots numbers
-      old-turn h =
-          rw (selected-in make_vote w ws i m read viewed)
-          (latest-old (votes_of w ws i) m.entry E t slots numbers (window-true E t m.entry.slot inside).real h L)
+      pub old-turn : (b : code.Vote) → get_or kept r.entry.voter None ≡ Some b → r.entry.slot ≤ b.slot → Latest (votes_of w ws (i + 1)) E t kept
+      unfolding last_at
+      old-turn b o h =
+          rw (selected-in make_vote w ws i (marked_vote r) read viewed)
+          (latest-old (votes_of w ws i) (vote_of r.entry) E t kept (vote_of b) (ap held_vote o) h L)
 
-      pub new-turn : {next : List ℕ} → get_or slots m.entry.voter 0 < m.entry.slot → m.entry.voter < length slots → NumbersFit (m.entry.voter + 1) numbers
-          → next ≡ kept_in numbers m.entry.voter m.entry.number → Latest (votes_of w ws (i + 1)) E t (set slots m.entry.voter m.entry.slot) next
-      new-turn h a b k =
-          rw (k, selected-in make_vote w ws i m read viewed)
-          (latest-new (votes_of w ws i) m.entry E t slots numbers inside (window-true E t m.entry.slot inside).real h a b L)
+      pub new-turn : IsLater (vote_of r.entry) (last_at kept r.entry.voter) → r.entry.voter < length kept
+          → Latest (votes_of w ws (i + 1)) E t (set kept r.entry.voter (Some r.entry))
+      new-turn h a =
+          rw (selected-in make_vote w ws i (marked_vote r) read viewed)
+          (latest-new (votes_of w ws i) r.entry E t kept inside h a L)
 
 -- ---- the begin
 
--- arrays of zeros hold no vote
-latest-none : (w : Bool) (ws numbers : List ℕ) (E t : ℕ) → Latest (votes_of w ws 0) E t (replicate 64 0) numbers
+-- an array of nothing holds no vote
+pub latest-none : (w : Bool) (ws : List ℕ) (kept : List (Option code.Vote)) (E t : ℕ) → kept ≡ replicate loom.nodes None → Latest (votes_of w ws 0) E t kept
 unfolding last_at latest rows_of selected entries view_of
-latest-none true ws numbers E t = record { each = λ v l. rw (get_or-replicate {A = ℕ} 64 v 0 0 l) }
-latest-none false ws numbers E t = record { each = λ v l. rw (get_or-replicate {A = ℕ} 64 v 0 0 l) }
-
-pub latest-zero : (w : Bool) (ws slots numbers : List ℕ) (E t : ℕ) → slots ≡ replicate loom.nodes 0 → Latest (votes_of w ws 0) E t slots numbers
-latest-zero w ws slots numbers E t e = rw e (latest-none w ws numbers E t)
+latest-none true ws kept E t e = record { each = λ v l. rw e (rw (get_or-replicate {A = Option code.Vote} loom.nodes v None None l)) }
+latest-none false ws kept E t e = record { each = λ v l. rw e (rw (get_or-replicate {A = Option code.Vote} loom.nodes v None None l)) }
 
 -- ---- the window, without a sum
 
-pub window-span : (E t s : ℕ) → leb (t - s) E ≡ leb t (s + E)
-window-span E t s =
+pub window_span : (E t s : ℕ) → leb (t - s) E ≡ leb t (s + E)
+window_span E t s =
     same_test (leb (t - s) E) (leb t (s + E)) (λ h. let l = leb-true (t - s) E h in le-leb t (s + E) (omega arith))
     (λ h. let l = leb-true t (s + E) h in le-leb (t - s) E (omega arith))

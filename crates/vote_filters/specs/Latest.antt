@@ -1,11 +1,12 @@
--- What the filters leave of a table of votes: the equivocators as one word, and each voter's latest vote in two arrays. Assumes nothing.
-use Rattle.std.specs.Prelude.{ℕ, ◌<◌, Bool, cond, List, ◌≡◌, eqb, get_or}
+-- What the filters leave of a table of votes: the equivocators as one word, and each voter's latest vote in an array. Assumes nothing.
+use Rattle.std.specs.Prelude.{ℕ, ◌<◌, Bool, cond, Option, Some, None, List, ◌≡◌, get_or}
 use Rattle.protocol.specs.Limits.{loom}
 use Rattle.protocol.specs.Entry.{Vote}
+use Rattle.protocol.specs.declared.Vote as code
+use Rattle.protocol.specs.Words.{vote_of}
 use Rattle.protocol.specs.Filters.{equivocates, window, LatestVote, latest_is, no_latest, latest, choice_of, kept_choice}
 use Rattle.protocol.specs.Store.{Marked, entries, view_of}
 use Rattle.protocol.specs.Lent.{rows_of, make_vote}
-use Rattle.numbers.specs.NumberWords.{number_in}
 use Rattle.rows.specs.Rows.{row_at}
 use Rattle.masks.specs.Masks.{mask_of}
 
@@ -25,15 +26,19 @@ VotersFit ws n = (i : ℕ) → i < n → (row_at make_vote ws i).entry.voter < l
 unfoldable pub equivocators_of : List Vote → ℕ → ℕ → ℕ
 equivocators_of vs E t = mask_of 64 (λ v. equivocates (window E t) vs v)
 
--- the vote that two arrays hold for voter v: its slot and its block's number; no vote has slot 0
-unfoldable pub last_at : List ℕ → List ℕ → ℕ → LatestVote
-last_at slots numbers v =
-    cond (eqb (get_or slots v 0) 0) no_latest (latest_is (record { voter = v; slot = get_or slots v 0; number = number_in numbers v }))
+-- the vote that is held, if there is one
+abbrev pub held_vote : Option code.Vote → LatestVote
+held_vote None = no_latest
+held_vote (Some a) = latest_is (vote_of a)
 
--- the arrays hold the latest vote of each voter
-pub record Latest (vs : List Vote) (E t : ℕ) (slots numbers : List ℕ) : Type 0 where
-  pub each : (v : ℕ) → v < loom.nodes → last_at slots numbers v ≡ latest vs E t v
+-- the vote that the array holds for voter v
+unfoldable pub last_at : List (Option code.Vote) → ℕ → LatestVote
+last_at kept v = held_vote (get_or kept v None)
+
+-- the array holds the latest vote of each voter
+pub record Latest (vs : List Vote) (E t : ℕ) (kept : List (Option code.Vote)) : Type 0 where
+  pub each : (v : ℕ) → v < loom.nodes → last_at kept v ≡ latest vs E t v
 
 -- and the kept one, which an equivocator has not
-pub record Kept (vs : List Vote) (E t : ℕ) (slots numbers : List ℕ) : Type 0 where
-  pub each : (v : ℕ) → v < loom.nodes → choice_of (last_at slots numbers v) ≡ kept_choice vs E t v
+pub record Kept (vs : List Vote) (E t : ℕ) (kept : List (Option code.Vote)) : Type 0 where
+  pub each : (v : ℕ) → v < loom.nodes → choice_of (last_at kept v) ≡ kept_choice vs E t v

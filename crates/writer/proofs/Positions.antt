@@ -1,17 +1,16 @@
 -- Bytes written at a position, one behind the other, and into the lent rest of a buffer. Assumes nothing.
-use Prim.Native.Nat.{ℕ, suc, ◌+◌, ◌-◌, ◌/◌, ◌%◌, ◌<◌, ◌≤◌}
+use Prim.Native.Nat.{ℕ, suc, ◌+◌, ◌-◌, ◌/◌, ◌%◌, ◌^◌, ◌<◌, ◌≤◌}
 use mathlib.Core.Path.{◌≡◌, refl, ◌∙◌}
 use mathlib.Core.List.{List, [], ◌∷◌, ◌++◌, append_assoc, append-nil}
 use native.Mathlib.Nat.{le_of_eq}
 use native.Mathlib.Omega.{arith}
 use lib.ListN.{length, set, take, drop, length-append, length-drop, drop_of_length-le}
 use lib.Seq.{sets, sets-eq, drop-drop, take_at, drop_at, take_all}
+use Rattle.protocol.specs.Words.{from_halves}
 use Rattle.protocol.specs.Packet.{bytes_of}
 use Rattle.protocol.specs.Calls.Write.{over}
 use Rattle.protocol.proofs.Packet.Numbers.{le-length}
-use Rattle.writer.specs.declared.Row.{Row}
-use Rattle.writer.specs.declared.Widths.{Widths}
-use Rattle.writer.specs.Rows.{row_bytes}
+use Rattle.protocol.proofs.Packet.Halves.{bytes_halves}
 
 -- ---- a number byte by byte
 
@@ -35,22 +34,18 @@ sets_behind ys at n (x ∷ xs) zs e =
     let sum : at + n ≡ suc at + length xs = omega arith in
     rw sum (sets_behind (set ys at x) (suc at) (length xs) xs zs refl)
 
-pub five-behind : (w : Widths) (r : Row) (ys us vs xs ts zs : List ℕ) (at : ℕ) → us ≡ sets ys at (bytes_of w.first r.first)
-    → vs ≡ sets us (at + w.first) (bytes_of w.second r.second)
-    → xs ≡ sets vs (at + w.first + w.second) (bytes_of w.third r.third)
-    → ts ≡ sets xs (at + w.first + w.second + w.third) (bytes_of w.fourth r.fourth)
-    → zs ≡ sets ts (at + w.first + w.second + w.third + w.fourth) (bytes_of w.fifth r.fifth) → zs ≡ sets ys at (row_bytes w r)
-unfolding row_bytes
-five-behind w r ys us vs xs ts zs at e f g h k =
-    let a = bytes_of w.first r.first in
-    let b = bytes_of w.second r.second in
-    let c = bytes_of w.third r.third in
-    let d = bytes_of w.fourth r.fourth in
-    let l = bytes_of w.fifth r.fifth in
-    let four = sets_behind xs (at + w.first + w.second + w.third) w.fourth d l (le-length w.fourth r.fourth) in
-    let three = sets_behind vs (at + w.first + w.second) w.third c (d ++ l) (le-length w.third r.third) in
-    let two = sets_behind us (at + w.first) w.second b (c ++ (d ++ l)) (le-length w.second r.second) in
-    k ∙ rw (h, four, g, three, f, two, e) (sets_behind ys at w.first a (b ++ (c ++ (d ++ l))) (le-length w.first r.first))
+-- the lower half of a number, and then its upper half
+pub halves-behind : (lower half upper at : ℕ) (ys us zs : List ℕ) → lower < 2 ^ 64 → us ≡ sets ys at (bytes_of 8 lower) → zs ≡ sets us (at + 8) (bytes_of upper half)
+    → zs ≡ sets ys at (bytes_of (8 + upper) (from_halves lower half))
+halves-behind lower half upper at ys us zs h e f =
+    f ∙ rw (e, bytes_halves upper lower half h) (sets_behind ys at 8 (bytes_of 8 lower) (bytes_of upper half) (le-length 8 lower))
+
+-- three fields, of which the first two take m and n bytes
+pub three-behind : (m n at : ℕ) (a b c ys us vs zs : List ℕ) → length a ≡ m → length b ≡ n → us ≡ sets ys at a → vs ≡ sets us (at + m) b → zs ≡ sets vs (at + (m + n)) c
+    → zs ≡ sets ys at (a ++ (b ++ c))
+three-behind m n at a b c ys us vs zs k l e f g =
+    let sum : at + (m + n) ≡ at + m + n = omega arith in
+    g ∙ rw (sum, f, sets_behind us (at + m) n b c l, e) (sets_behind ys at m a (b ++ c) k)
 
 -- bytes from the start, and then the old rest
 pub sets_over : (ys bs : List ℕ) → length bs ≤ length ys → sets ys 0 bs ≡ over bs ys

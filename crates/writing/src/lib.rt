@@ -2,62 +2,34 @@
 // It takes any memory that a caller may lend: the verdict comes first, and a refused Write leaves the buffer alone.
 #![tactic(auto)]
 
-ghost use Rattle.verdicts.specs.Lent.{lent};
+ghost use Rattle.lent.specs.Memory.{memory};
 ghost use Rattle.answers.specs.Promises.{Writes};
 
-use answers::Written;
-use protocol::{Clock, Settings, Width};
-use verdicts::Verdict;
+use fork_choice::Tables;
+use lent::Lent;
+use protocol::Width;
+use verdicts::Refusal;
+use writer::Sent;
 
+// How many bytes of the buffer the packet takes.
 pub fn write(
-    settings: Settings,
-    clock: Clock,
-    blocks: &[u64],
-    blocks_used: usize,
-    votes: &[u64],
-    votes_used: usize,
+    lent: Lent<'_>,
     proposal: bool,
     width: Width,
     buffer: &mut [u8],
-) -> Written
-    ensures { Writes settings (lent blocks.now votes.now blocks_used votes_used clock)
-        proposal width buffer.old buffer.new result }
+) -> Result<u64, Refusal>
+    ensures { Writes lent.entry.settings (memory lent.entry) proposal width buffer.old buffer.new result }
 {
-    let verdict = verdicts::write_verdict(
-        settings,
-        clock,
-        blocks,
-        blocks_used,
-        votes,
-        votes_used,
+    verdicts::write_verdict(lent, proposal, width, buffer)?;
+    let tables = Tables::of(lent);
+    let sent = Sent {
+        blocks: tables.blocks,
+        votes: tables.votes,
         proposal,
         width,
-        buffer,
-    );
-    match verdict {
-        Verdict::Refuse(refusal) => Written::Refused(refusal),
-        Verdict::Pass => {
-            let length = writer::written_length(
-                blocks,
-                blocks_used,
-                votes,
-                votes_used,
-                proposal,
-                width,
-            );
-            let named = own_entries::header_block(blocks, blocks_used, proposal);
-            writer::write_packet(
-                blocks,
-                blocks_used,
-                votes,
-                votes_used,
-                proposal,
-                width,
-                named.slot,
-                named.number,
-                buffer,
-            );
-            Written::Bytes(length as u64)
-        }
-    }
+    };
+    let length = writer::written_length(sent);
+    let named = own_entries::header_block(tables.blocks, proposal);
+    writer::write_packet(sent, named.slot, named.number, buffer);
+    Ok(length as u64)
 }

@@ -1,51 +1,45 @@
 -- `admit_block` meets its contract. Assumes nothing.
 use native.Mathlib.Omega.{arith}
-use mathlib.Core.Path.{refl, ap, sym, ◌∙◌}
+use mathlib.Core.Bool.{Bool, true, false}
+use mathlib.Core.Path.{◌≡◌, refl, ap, sym, ◌∙◌}
+use Rattle.std.specs.Prelude.{Option, is_some, IfSome}
+use Rattle.std.specs.Bool.{then_some}
 use Rattle.protocol.specs.Entry.{Block}
-use Rattle.protocol.proofs.Packet.Numbers.{bytes-by-index}
-use Rattle.protocol.proofs.Packet.Bytes.{read_fits}
 use Rattle.index.specs.Keys.{number_key}
 use Rattle.index.proofs.Firsts.{linked-within, first-most}
-use Rattle.admission.proofs.Links.{block-key, link-told, block_new_lem}
+use Rattle.admission.proofs.Links.{no-row, block-key, link-told, block_new_lem}
 use Rattle.admission.proofs.FirstBad.{block-told}
 use Rattle.admission.proofs.Seen.{blocks-next}
 use Rattle.admission.proofs.admit_block.Goals as goal
 
-pub overflow_add-n : goal.overflow_add-n
-overflow_add-n c =
-    let bs = c.args.bytes.now in
-    let fit = read_fits bs (bytes-by-index bs (λ j _. omega (arith, c.type_inv.bytes j))) in
-    omega (arith, c.requires.2, fit.block_count, c.requires.0)
+allowed-is : (b new : Bool) {r : Option Bool} → r ≡ then_some b new → is_some r ≡ b
+allowed-is true new e = ap is_some e
+allowed-is false new e = ap is_some e
 
-pub known_block-parent_link-requires : goal.known_block-parent_link-requires
-known_block-parent_link-requires c =
-    let bs = c.args.bytes.now in
-    let fit = read_fits bs (bytes-by-index bs (λ j _. omega (arith, c.type_inv.bytes j))) in
-    (c.requires.0, omega (arith, c.requires.2), omega (arith, c.requires.2, fit.block_count), c.requires.4)
+new-is : (b : Bool) {new is : Bool} {r : Option Bool} → r ≡ then_some b new → new ≡ is → IfSome r (λ n. n ≡ is)
+new-is true e q = rw e q
+new-is false e q = rw e tt
 
-pub block_of-parent-requires : goal.block_of-parent-requires
-block_of-parent-requires c =
-    (c.requires.0, omega (arith, c.requires.2, linked-within _ c.known_block-parent_link.ensures))
+pub found-parent-requires : goal.found-parent-requires
+found-parent-requires c = omega (arith, linked-within _ c.known_block-parent_row.ensures)
 
-pub join_block-link-requires : goal.join_block-link-requires
-join_block-link-requires c =
-    (c.requires.0, c.requires.2, c.requires.3, c.requires.4, ap (λ (x : Block). x.number) c.block_at-b.ensures)
-
-pub block_of-earlier-requires : goal.block_of-earlier-requires
-block_of-earlier-requires c =
-    (c.requires.0, omega (arith, c.requires.2, linked-within _ c.join_block-link.ensures.0))
+pub found-earlier-requires : goal.found-earlier-requires
+found-earlier-requires c = omega (arith, linked-within _ c.join_block-row.ensures.0)
 
 pub note_first-requires : goal.note_first-requires
-note_first-requires c =
-    omega (arith, first-most _ c.join_block-link.ensures.0, c.requires.5)
+note_first-requires c = omega (arith, first-most _ c.join_block-row.ensures.0)
 
-pub returns : goal.returns
-returns c =
+pub returns-clause-allowed : goal.returns-clause-allowed
+returns-clause-allowed c =
     let i = c.args.i in
-    let h = c.requires.2 in (
-      block-told _ _ _ c.block_at-b.ensures (link-told _ _ _ i (omega arith) _ refl c.known_block-parent_link.ensures c.block_of-parent.ensures)
-          (link-told _ _ _ i (omega arith) _ (block-key _ _ _ i ∙ ap (λ (x : Block). number_key x.number) (sym c.block_at-b.ensures)) c.join_block-link.ensures.0 c.block_of-earlier.ensures) c.block_allowed-allowed.ensures,
-      block_new_lem _ _ _ i (omega arith) _ c.join_block-link.ensures.0,
-      c.join_block-link.ensures.1,
-      blocks-next _ _ _ c.requires.1 i _ _ _ h c.join_block-link.ensures.0 c.requires.5 c.note_first.ensures c.requires.6,
-    )
+    allowed-is _ _ c.then_some.ensures
+    ∙ block-told _ _ _ c.at-b.ensures (link-told _ _ _ i (omega arith) _ refl c.known_block-parent_row.ensures c.found-parent.ensures)
+    (link-told _ _ _ i (omega arith) _ (block-key _ _ _ i ∙ ap (λ (x : Block). number_key x.number) (sym c.at-b.ensures)) c.join_block-row.ensures.0 c.found-earlier.ensures) c.block_allowed.ensures
+
+pub returns-clause-new : goal.returns-clause-new
+returns-clause-new c =
+    new-is _ c.then_some.ensures (no-row _ _ c.is_none.ensures ∙ block_new_lem _ _ _ c.args.i (omega arith) _ c.join_block-row.ensures.0)
+
+pub returns-clause-seen : goal.returns-clause-seen
+returns-clause-seen c =
+    blocks-next _ _ _ c.requires.differ c.args.i _ _ _ c.requires.within c.join_block-row.ensures.0 c.requires.places c.note_first.ensures c.requires.seen

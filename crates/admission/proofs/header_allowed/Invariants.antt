@@ -1,5 +1,5 @@
--- The loop of `header_allowed`: its invariant and its measure. Assumes nothing.
-use Prim.Native.Nat.{◌-◌, ◌≤◌}
+-- The loop of `header_allowed`: its invariant. Assumes nothing.
+use Prim.Native.Nat.{◌≤◌}
 use mathlib.Core.Bool.{Bool, ◌&&◌}
 use mathlib.Core.Path.{◌≡◌}
 use lib.Dec.{eqb}
@@ -17,8 +17,5 @@ is_header h b = eqb b.number (value h.number) && eqb b.slot h.slot
 
 abbrev pub invariant-loop-i : goal.invariant-loop-i
 invariant-loop-i l =
-    (l.count ≤ length (packet_of l.bytes).blocks)
-    × (header_allowed (packet_of l.bytes) ≡ any_pass (is_header l.h) (drop l.i (take l.count (packet_of l.bytes).blocks)))
-
-abbrev pub decreases-loop-i : goal.decreases-loop-i
-decreases-loop-i l = l.count - l.i
+    (l.i-end ≤ length (packet_of l.bytes).blocks)
+    × (header_allowed (packet_of l.bytes) ≡ any_pass (is_header l.h) (drop l.i (take l.i-end (packet_of l.bytes).blocks)))

@@ -1,5 +1,4 @@
 -- `asking::asked` meets its contract. Assumes nothing.
-use borrow.Author.Rules.{rules}
 use Rattle.asking.specs.Ask.{ask_with}
 use Rattle.asking.proofs.asked.Goals as goal
 

@@ -1,5 +1,4 @@
 -- `asking::fit_asked` meets its contract. Assumes nothing.
-use borrow.Author.Rules.{rules}
 use Rattle.asking.specs.AskPackets.{fit_with}
 use Rattle.asking.proofs.fit_asked.Goals as goal
 

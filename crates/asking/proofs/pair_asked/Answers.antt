@@ -1,5 +1,4 @@
 -- `asking::pair_asked` meets its contract. Assumes nothing.
-use borrow.Author.Rules.{rules}
 use Rattle.asking.specs.AskPackets.{pair_with}
 use Rattle.asking.proofs.pair_asked.Goals as goal
 

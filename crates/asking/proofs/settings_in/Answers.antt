@@ -1,5 +1,4 @@
 -- `asking::settings_in` meets its contract. Assumes nothing.
-use borrow.Author.Rules.{rules}
 use Rattle.protocol.specs.declared.Profile.TheVariants.{Loom}
 use Rattle.asking.specs.Ask.{settings_in}
 use Rattle.asking.proofs.settings_in.Goals as goal

@@ -1,11 +1,7 @@
 -- `has` meets its contract. Assumes nothing.
-use native.Mathlib.Omega.{arith}
 use Rattle.bitset.specs.Bitset.{in_set}
 use Rattle.bitset.proofs.has.Goals as goal
 
 pub returns : goal.returns
 unfolding in_set
 returns c = c.has.ensures
-
-pub bounds-words-i : goal.bounds-words-i
-bounds-words-i c = omega (arith, c.requires)

@@ -1,31 +1,15 @@
 -- `merge_votes` meets its contract. Assumes nothing.
-use borrow.Author.Rules.{rules}
+use Prim.Native.Nat.{◌*◌}
 use native.Mathlib.Omega.{arith}
-use Prim.Native.Nat.{◌≤◌}
-use Rattle.protocol.specs.Lent.{rows_of, make_vote}
-use Rattle.protocol.proofs.Lent.Rows.{length-rows_of}
-use Rattle.protocol.proofs.Store.Since.{length-since}
 use Rattle.changes.proofs.MoveUp.{moved-freed}
+use Rattle.changes.proofs.Zeros.{part-zeros}
 use Rattle.changes.proofs.merge_votes.Goals as goal
-
-pub overflow_mul-kept : goal.overflow_mul-kept
-overflow_mul-kept c =
-    let f : c.move_up-kept.result ≤ c.args.used.now = omega (
-      arith,
-      c.move_up-kept.ensures.1,
-      length-since c.args.from (rows_of make_vote c.args.votes.now c.args.used.now),
-      length-rows_of make_vote c.args.votes.now c.args.used.now,
-    ) in search rules
-
-pub zero-requires : goal.zero-requires
-zero-requires c =
-    let f : c.move_up-kept.result ≤ c.args.used.now = omega (
-      arith,
-      c.move_up-kept.ensures.1,
-      length-since c.args.from (rows_of make_vote c.args.votes.now c.args.used.now),
-      length-rows_of make_vote c.args.votes.now c.args.used.now,
-    ) in search rules
 
 pub returns : goal.returns
 returns c =
-    (moved-freed c.args.votes.now c.args.used.now c.args.from c.move_up-kept.result c.move_up-kept.ensures.0 c.move_up-kept.ensures.1 c.zero.ensures, c.move_up-kept.ensures.1)
+    let kept = c.move_up-kept.result in
+    let used = c.args.used.now in (
+      moved-freed c.args.votes.now used c.args.from kept c.move_up-kept.ensures.0 c.move_up-kept.ensures.1
+          (rw (c.fill.ensures.after (λ y e. e)) (part-zeros (5 * kept) (5 * used) c.move_up-kept.new.votes (omega arith) (omega arith))),
+      c.move_up-kept.ensures.1,
+    )

@@ -4,7 +4,7 @@ use Rattle.confirm.proofs.Descent.{Down}
 use Rattle.confirm.proofs.climb_down.Given as goal
 
 abbrev pub invariant-loop-row : goal.invariant-loop-row
-invariant-loop-row l = Down l.blocks l.used l.m (block_at l.blocks l.from).number l.i
+invariant-loop-row l = Down l.blocks.words.now l.blocks.used l.m (block_at l.blocks.words.now l.from).number l.i
 
 abbrev pub decreases-loop-row : goal.decreases-loop-row
 decreases-loop-row l = l.i

@@ -1,11 +1,7 @@
--- The loop of `top`: its invariant and its measure. Assumes nothing.
-use Prim.Native.Nat.{◌≤◌}
+-- The loop of `top`: its invariant. Assumes nothing.
 use mathlib.Core.Path.{◌≡◌}
 use Rattle.confirm.specs.Top.{top_choice}
 use Rattle.confirm.proofs.top.Given as goal
 
 abbrev pub invariant-loop-i : goal.invariant-loop-i
-invariant-loop-i l = (l.i ≤ l.used) × (top_choice l.blocks l.masks l.n l.used ≡ top_choice l.blocks l.masks l.n l.i)
-
-abbrev pub decreases-loop-i : goal.decreases-loop-i
-decreases-loop-i l = l.i
+invariant-loop-i l = top_choice l.blocks.words.now l.masks l.n l.blocks.used ≡ top_choice l.blocks.words.now l.masks l.n l.i

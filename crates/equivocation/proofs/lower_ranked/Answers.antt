@@ -20,13 +20,11 @@ module _ {b : FirstEquivocation} (e : Equivocation) where
     unfolding lower_ranked
     replaced q = rw (p, q)
 
-pub returns-then-not-ranks_before : goal.returns-then-not-ranks_before
-returns-then-not-ranks_before c =
-    kept _ _ (ap first_of c.in-Found.is) (sym c.ranks_before.ensures ∙ c.if-not-ranks_before.true)
-
-pub returns-else-not-ranks_before : goal.returns-else-not-ranks_before
-returns-else-not-ranks_before c =
-    replaced _ _ (ap first_of c.in-Found.is) (sym c.ranks_before.ensures ∙ c.if-not-ranks_before.false)
-
 pub returns-in_default : goal.returns-in_default
 returns-in_default c = first _ (ap first_of c.in_default.is)
+
+pub returns-then-ranks_before : goal.returns-then-ranks_before
+returns-then-ranks_before c = replaced _ _ (ap first_of c.in-Some.is) (sym c.ranks_before.ensures ∙ c.if-ranks_before.true)
+
+pub returns-else-ranks_before : goal.returns-else-ranks_before
+returns-else-ranks_before c = kept _ _ (ap first_of c.in-Some.is) (sym c.ranks_before.ensures ∙ c.if-ranks_before.false)

@@ -1,5 +1,5 @@
 -- `base` meets its contract. Assumes nothing.
-use Rattle.fork_choice.proofs.Tables.{base-number}
+use Rattle.fork_choice.proofs.SoundTables.{base-number}
 use Rattle.fork_choice.proofs.base.Goals as goal
 
 pub returns : goal.returns

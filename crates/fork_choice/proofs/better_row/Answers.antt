@@ -1,28 +1,30 @@
 -- `better_row` meets its contract. Assumes nothing.
 use mathlib.Core.Path.{sym, ◌∙◌}
-use Rattle.fork_choice.proofs.Best.{better-hidden, better-other, better-first, better-stays, better-new}
+use Rattle.std.specs.Prelude.{Some}
+use Rattle.fork_choice.proofs.Best.{better-hidden, better-other, better-stays, better-new}
 use Rattle.fork_choice.proofs.better_row.Goals as goal
+use Rattle.fork_choice.proofs.better_row.Goals.{then-not-selects-via-then-not-selects, then-not-selects-via-else-not-selects+then-not-is_child}
 
-pub returns-then-beats : goal.returns-then-beats
-returns-then-beats c =
-    better-stays _ _ _ _ _ _ _ _ c.block_at-row.ensures (sym c.selects.ensures ∙ c.if-selects.true)
-    (sym c.is_child.ensures ∙ c.if-is_child.true) c.if-best-ne0.true (sym c.beats.ensures ∙ c.if-beats.true)
+pub returns-then-not-selects : goal.returns-then-not-selects
+returns-then-not-selects c =
+    elim c.then-not-selects.branch [
+      | then-not-selects-via-then-not-selects w ↦ better-hidden _ _ _ _ _ _ _ _ c.row-row.ensures (sym c.selects.ensures ∙ w.if-not-selects.true)
+      | then-not-selects-via-else-not-selects+then-not-is_child w ↦
+          better-other _ _ _ _ _ _ _ _ c.row-row.ensures (sym c.selects.ensures ∙ w.if-not-selects.false) (sym w.is_child.ensures ∙ w.if-not-is_child.true)
+    ]
 
-pub returns-else-beats : goal.returns-else-beats
-returns-else-beats c =
-    better-new _ _ _ _ _ _ _ _ c.block_at-row.ensures (sym c.selects.ensures ∙ c.if-selects.true)
-    (sym c.is_child.ensures ∙ c.if-is_child.true) c.if-best-ne0.true (sym c.beats.ensures ∙ c.if-beats.false)
+pub returns-in-Some : goal.returns-in-Some
+returns-in-Some c =
+    better-stays _ _ _ _ _ _ (Some c.in-Some.b) _ c.row-row.ensures (sym c.selects.ensures ∙ c.if-not-selects.false)
+    (sym c.is_child.ensures ∙ c.if-not-is_child.false) (sym c.beats.ensures ∙ c.if-beats.true)
+    ∙ rw c.in-Some.is
 
-pub returns-else-best-ne0 : goal.returns-else-best-ne0
-returns-else-best-ne0 c =
-    better-first _ _ _ _ _ _ _ _ c.block_at-row.ensures (sym c.selects.ensures ∙ c.if-selects.true)
-    (sym c.is_child.ensures ∙ c.if-is_child.true) c.if-best-ne0.false
+pub returns-in_default : goal.returns-in_default
+returns-in_default c =
+    better-new _ _ _ _ _ _ _ _ c.row-row.ensures (sym c.selects.ensures ∙ c.if-not-selects.false)
+    (sym c.is_child.ensures ∙ c.if-not-is_child.false) (rw c.in-Some.is (sym c.beats.ensures ∙ c.if-beats.false))
 
-pub returns-else-is_child : goal.returns-else-is_child
-returns-else-is_child c =
-    better-other _ _ _ _ _ _ _ _ c.block_at-row.ensures (sym c.selects.ensures ∙ c.if-selects.true)
-    (sym c.is_child.ensures ∙ c.if-is_child.false)
-
-pub returns-else-selects : goal.returns-else-selects
-returns-else-selects c =
-    better-hidden _ _ _ _ _ _ _ _ c.block_at-row.ensures (sym c.selects.ensures ∙ c.if-selects.false)
+pub returns-in_default-2 : goal.returns-in_default-2
+returns-in_default-2 c =
+    better-new _ _ _ _ _ _ _ _ c.row-row.ensures (sym c.selects.ensures ∙ c.if-not-selects.false)
+    (sym c.is_child.ensures ∙ c.if-not-is_child.false) (rw c.in_default.is)

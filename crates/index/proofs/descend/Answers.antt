@@ -1,40 +1,48 @@
 -- `descend` meets its contract. Assumes nothing.
 use native.Mathlib.Omega.{arith}
-use Prim.Native.Nat.{ℕ}
-use mathlib.Core.Path.{refl, ap, sym, ◌∙◌, subst⁻¹}
-use Rattle.protocol.proofs.Basics.Tests.{clashing}
-use Rattle.search_tree.specs.Tree.{Descent}
-use Rattle.search_tree.proofs.Descent.{descent-later, descent-step, descent-hit, descent-none}
-use Rattle.index.specs.Keys.{same_key, mix_of, table_shape}
-use Rattle.index.specs.Index.{key_at}
-use Rattle.index.proofs.Keys.{key-same, same_key_lem, readable-less}
+use Prim.Native.Nat.{ℕ, ◌/◌}
+use mathlib.Core.Path.{refl, ap, sym, ◌∙◌}
+use Rattle.search_tree.specs.Tree.{child}
+use Rattle.search_tree.proofs.Descent.{descent-row, descent-later, descent-step, descent-hit, descent-none}
+use Rattle.index.specs.Keys.{same_key, shape}
+use Rattle.index.proofs.Keys.{told_same, told_other}
+use Rattle.index.proofs.Shapes.{past, below}
 use Rattle.index.proofs.descend.Goals as goal
 
-pub loop-link-init : goal.loop-link-init
-unfolding mix_of
-loop-link-init c =
-    let a = c.args in
-    subst⁻¹ (λ (d : ℕ). Descent table_shape (key_at a.kind a.words.now) a.n a.links.now a.key a.from d a.first) c.mixed-digits.ensures c.requires.2
+pub loop-row-init : goal.loop-row-init
+loop-row-init g c =
+    let x = c.requires.2 in
+    let t = c.tree-tree.result in
+    let u = g.K.Keyed.tree c.args.keys in
+    let e = rw c.tree-tree.ensures at (c.child-at.ensures ∙ ap (child (shape t.roots t.salt) c.args.first) c.digits-digits.ensures) in
+    descent-step c.requires.1 x.begins x.leads _ x.differs e (ap (λ (d : ℕ). d / 2) (rw c.tree-tree.ensures at c.digits-digits.ensures))
+    (below u.roots u.salt c.args.first c.args.n _ (descent-row c.requires.1 x.begins x.leads) e)
 
-pub key_at-met-requires : goal.key_at-met-requires
-key_at-met-requires c =
-    let a = c.args in
-    readable-less a.kind a.words.now a.n _ (omega (arith, c.loop-link.invariant.few)) c.requires.0
+pub key-requires : goal.key-requires
+key-requires g c = omega (arith, descent-row c.requires.1 c.loop-row.invariant (sym c.in-Some.ensures), c.requires.0)
 
-pub returns-then-same_key : goal.returns-then-same_key
-returns-then-same_key c =
-    descent-hit c.requires.1 c.loop-link.invariant c.loop-link-test.true (key-same _ _ (sym ((c.same_key.ensures ∙ ap (λ k. same_key k c.args.key) c.key_at-met.ensures)) ∙ c.if-same_key.true))
+pub returns-then-eq : goal.returns-then-eq
+unfolding same_key
+returns-then-eq g c = descent-hit c.requires.1 c.loop-row.invariant (sym c.in-Some.ensures) (told_same c.eq.ensures c.key.ensures c.if-eq.true)
 
-pub loop-link-smaller : goal.loop-link-smaller
-loop-link-smaller c =
-    let h = descent-later c.requires.1 c.loop-link.invariant c.loop-link-test.true in
-    omega arith
+pub loop-row-smaller : goal.loop-row-smaller
+loop-row-smaller g c =
+    let u = g.K.Keyed.tree c.args.keys in
+    let e = sym c.in-Some.ensures in
+    let l = descent-later c.requires.1 c.loop-row.invariant e in
+    let m = descent-row c.requires.1 c.loop-row.invariant e in
+    let s = rw c.tree-tree.ensures at c.child-at-in-Some.ensures in
+    omega (arith, l, past u.roots u.salt c.in-Some.row c.args.n c.loop-row.digits m s, below u.roots u.salt c.in-Some.row c.args.n c.loop-row.digits m s)
 
-pub loop-link-preserved : goal.loop-link-preserved
-loop-link-preserved c =
-    descent-step c.requires.1 c.loop-link.invariant _ c.loop-link-test.true (λ e. clashing ((c.same_key.ensures ∙ ap (λ k. same_key k c.args.key) c.key_at-met.ensures) ∙ same_key_lem _ _ e) c.if-same_key.false)
-    c.link_at-link.ensures refl refl (omega (arith, c.loop-link.invariant.few))
+pub loop-row-preserved : goal.loop-row-preserved
+unfolding same_key
+loop-row-preserved g c =
+    let u = g.K.Keyed.tree c.args.keys in
+    let e = sym c.in-Some.ensures in
+    let m = descent-row c.requires.1 c.loop-row.invariant e in
+    let s = rw c.tree-tree.ensures at c.child-at-in-Some.ensures in
+    descent-step c.requires.1 c.loop-row.invariant e _ (told_other c.eq.ensures c.key.ensures c.if-eq.false) s refl
+    (below u.roots u.salt c.in-Some.row c.args.n c.loop-row.digits m s)
 
 pub returns : goal.returns
-returns c =
-    descent-none c.requires.1 c.loop-link.invariant c.loop-link-test.false
+returns g c = descent-none c.requires.1 c.loop-row.invariant (sym c.in_default.ensures)

@@ -1,12 +1,11 @@
 -- The loop of `descend`: its invariant and its measure. Assumes nothing.
-use Prim.Native.Nat.{◌+◌, ◌*◌, ◌-◌}
-use Rattle.search_tree.specs.Tree.{Descent}
-use Rattle.index.specs.Keys.{table_shape}
-use Rattle.index.specs.Index.{key_at}
+use Prim.Native.Nat.{◌-◌}
+use Rattle.search_tree.specs.Tree.{links_of, Descent}
+use Rattle.index.specs.Keys.{shape}
 use Rattle.index.proofs.descend.Given as goal
 
-abbrev pub invariant-loop-link : goal.invariant-loop-link
-invariant-loop-link l = Descent table_shape (key_at l.kind l.words) l.n l.links l.key l.at l.digits l.link
+abbrev pub invariant-loop-row : goal.invariant-loop-row
+invariant-loop-row g l = Descent (shape (g.K.Keyed.tree l.keys).roots (g.K.Keyed.tree l.keys).salt) (g.K.Keyed.keys l.keys) l.n l.links l.key l.at l.digits
 
-abbrev pub decreases-loop-link : goal.decreases-loop-link
-decreases-loop-link l = 8192 + 2 * l.n - l.at
+abbrev pub decreases-loop-row : goal.decreases-loop-row
+decreases-loop-row g l = links_of (shape (g.K.Keyed.tree l.keys).roots (g.K.Keyed.tree l.keys).salt) l.n - l.at

@@ -1,9 +1,11 @@
 -- `link` meets its contract. Assumes nothing.
+use native.Mathlib.Omega.{arith}
+use Rattle.search_tree.proofs.Tree.{index-for}
 use Rattle.index.proofs.Tables.{number-linked}
 use Rattle.index.proofs.link.Goals as goal
 
 pub find-requires : goal.find-requires
-find-requires c = (c.requires.0, c.requires.1)
+find-requires c = (omega arith, index-for c.requires _ tt)
 
 pub returns : goal.returns
-returns c = number-linked _ _ _ c.number_key-key.ensures c.find.ensures
+returns c = number-linked _ _ _ c.from.ensures c.find.ensures

@@ -19,12 +19,3 @@ returns c =
     let a = c.args in
     let z : 16384 + a.count ≡ 16384 + 1 * a.count = omega arith in
     (z ∙ ap (span a.count) (sym (ne_eqb a.salt 0 c.if-salt-eq0.false)), omega (arith, c.requires.0))
-
-pub overflow_mul-result : goal.overflow_mul-result
-overflow_mul-result c = record { fits = omega (arith, c.requires.0) }
-
-pub overflow_add-result : goal.overflow_add-result
-overflow_add-result c = record { fits = omega (arith, c.requires.0) }
-
-pub overflow_add-result-2 : goal.overflow_add-result-2
-overflow_add-result-2 c = record { fits = omega (arith, c.requires.0) }

@@ -1,5 +1,5 @@
--- The loop of `has_voted`: its invariant and its measure. Assumes nothing.
-use Prim.Native.Nat.{ℕ, ◌-◌}
+-- The loop of `has_voted`: its invariant. Assumes nothing.
+use Prim.Native.Nat.{ℕ}
 use mathlib.Core.Path.{◌≡◌}
 use mathlib.Core.Bool.{Bool, ◌&&◌}
 use lib.Dec.{eqb}
@@ -17,7 +17,4 @@ abbrev pub is_row : ℕ → ℕ → Marked Vote → Bool
 is_row voter slot m = is_of voter slot m.entry
 
 abbrev pub invariant-loop-i : goal.invariant-loop-i
-invariant-loop-i l = any_pass (is_of l.voter l.slot) (entries (rows_of make_vote l.votes l.used)) ≡ any_pass (is_row l.voter l.slot) (drop l.i (rows_of make_vote l.votes l.used))
-
-abbrev pub decreases-loop-i : goal.decreases-loop-i
-decreases-loop-i l = l.used - l.i
+invariant-loop-i l = any_pass (is_of l.voter l.slot) (entries (rows_of make_vote l.votes.words.now l.votes.used)) ≡ any_pass (is_row l.voter l.slot) (drop l.i (rows_of make_vote l.votes.words.now l.votes.used))

@@ -1,7 +1,5 @@
 -- `packet_cases::small` meets its contract. Assumes nothing.
-use mathlib.Core.Path.{refl}
-use native.Mathlib.Omega.{arith}
-use borrow.Author.Rules.{rules}
+use Rattle.std.proofs.Common.{refl}
 use Rattle.protocol.specs.Store.{view_of}
 use Rattle.protocol.specs.Calls.Write.{last_block, proposal_of, sent_of}
 use Rattle.protocol.specs.Lent.{rows_of}
@@ -10,4 +8,4 @@ use Rattle.packet_cases.proofs.small.Goals as goal
 
 pub put-requires : goal.put-requires
 unfolding node_in sent_of proposal_of view_of last_block rows_of
-put-requires c = (record { block_rows = omega arith; vote_rows = omega arith; block_count = omega arith; vote_count = omega arith; first = refl }, refl, refl)
+put-requires c = rw (c.new.ensures.words, c.new.ensures.used) (refl, refl)

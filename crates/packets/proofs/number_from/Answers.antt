@@ -6,5 +6,5 @@ use Rattle.packets.proofs.number_from.Goals as goal
 pub returns : goal.returns
 returns c =
     let bytes = c.args.bytes in
-    let s : Stands c.skip-r1.result bytes.now c.args.at = rw (zero-add c.args.at) at (stands-skip (stands-new bytes c.new-r.result c.new-r.ensures) c.skip-r1.result c.args.at c.skip-r1.ensures) in
+    let s : Stands c.skip.result bytes.now c.args.at = rw (zero-add c.args.at) at (stands-skip (stands-new bytes c.new.result c.new.ensures) c.skip.result c.args.at c.skip.ensures) in
     (stands-take s c.take.result c.args.width c.take.ensures.0, c.take.ensures.1)

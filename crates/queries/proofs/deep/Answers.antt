@@ -1,16 +1,18 @@
 -- `queries::deep` meets its contract: Deep. Assumes nothing.
-use Rattle.answers.proofs.Verdict.{passed-ready, tables-sound}
-use Rattle.queries.proofs.Asks.{slot-bound, deep-leaves, deep-answers}
+use Rattle.verdicts.proofs.Passed.{passed-sound}
+use Rattle.queries.proofs.Asks.{slot-bound, deep-told, deep-leaves, deep-answers}
 use Rattle.queries.proofs.deep.Goals as goal
 
-pub deep-found-requires : goal.deep-found-requires
-deep-found-requires c =
-    let h = c.query_verdict-verdict.ensures in
-    let e = c.in-Pass.is in
-    (tables-sound _ _ (passed-ready _ _ _ h e), slot-bound _ _ _ h e)
+pub returns-in_err-query_verdict : goal.returns-in_err-query_verdict
+returns-in_err-query_verdict c = deep-leaves _ _ _ c.query_verdict.ensures c.from_residual.result c.in_err-query_verdict.was c.from_residual.ensures.1
 
-pub returns-in-Refuse : goal.returns-in-Refuse
-returns-in-Refuse c = deep-leaves _ _ _ c.query_verdict-verdict.ensures c.in-Refuse.is
+pub of-requires : goal.of-requires
+of-requires c = passed-sound _ _ _ c.query_verdict.ensures c.in_ok-query_verdict.was
 
-pub returns-in-Pass : goal.returns-in-Pass
-returns-in-Pass c = deep-answers _ _ _ c.query_verdict-verdict.ensures c.deep-found.result c.in-Pass.is c.deep-found.ensures
+pub deep-requires : goal.deep-requires
+deep-requires c = slot-bound _ _ _ c.query_verdict.ensures c.in_ok-query_verdict.was
+
+pub returns : goal.returns
+returns c =
+    deep-answers _ _ _ c.query_verdict.ensures c.deep.result c.in_ok-query_verdict.was
+    (deep-told c.args.lent c.of.ensures.settings c.of.ensures.blocks c.of.ensures.blocks_used c.of.ensures.votes c.of.ensures.votes_used _ c.deep.ensures)

@@ -1,16 +1,18 @@
 -- `queries::head` meets its contract: Head. Assumes nothing.
-use Rattle.answers.proofs.Verdict.{passed-ready, tables-sound}
-use Rattle.queries.proofs.Asks.{slot-bound, head-leaves, head-answers}
+use Rattle.verdicts.proofs.Passed.{passed-sound}
+use Rattle.queries.proofs.Asks.{slot-bound, head-told, head-leaves, head-answers}
 use Rattle.queries.proofs.head.Goals as goal
 
-pub head-found-requires : goal.head-found-requires
-head-found-requires c =
-    let h = c.query_verdict-verdict.ensures in
-    let e = c.in-Pass.is in
-    (tables-sound _ _ (passed-ready _ _ _ h e), slot-bound _ _ _ h e)
+pub returns-in_err-query_verdict : goal.returns-in_err-query_verdict
+returns-in_err-query_verdict c = head-leaves _ _ _ c.query_verdict.ensures c.from_residual.result c.in_err-query_verdict.was c.from_residual.ensures.1
 
-pub returns-in-Refuse : goal.returns-in-Refuse
-returns-in-Refuse c = head-leaves _ _ _ c.query_verdict-verdict.ensures c.in-Refuse.is
+pub of-requires : goal.of-requires
+of-requires c = passed-sound _ _ _ c.query_verdict.ensures c.in_ok-query_verdict.was
 
-pub returns-in-Pass : goal.returns-in-Pass
-returns-in-Pass c = head-answers _ _ _ c.query_verdict-verdict.ensures c.head-found.result c.in-Pass.is c.head-found.ensures
+pub head-requires : goal.head-requires
+head-requires c = slot-bound _ _ _ c.query_verdict.ensures c.in_ok-query_verdict.was
+
+pub returns : goal.returns
+returns c =
+    head-answers _ _ _ c.query_verdict.ensures c.head.result c.in_ok-query_verdict.was
+    (head-told c.args.lent c.of.ensures.settings c.of.ensures.blocks c.of.ensures.blocks_used c.of.ensures.votes c.of.ensures.votes_used _ c.head.ensures)

@@ -1,17 +1,20 @@
 -- `queries::settled` meets its contract: Settled. Assumes nothing.
-use Rattle.answers.proofs.Verdict.{passed-ready, tables-sound}
-use Rattle.queries.proofs.Asks.{settled-bounds, settled-leaves, settled-answers}
+use Rattle.verdicts.proofs.Passed.{passed-sound}
+use Rattle.queries.proofs.Asks.{settled-bounds, settled-told, settled-leaves, settled-answers}
 use Rattle.queries.proofs.settled.Goals as goal
 
-pub settled_block-found-requires : goal.settled_block-found-requires
-settled_block-found-requires c =
-    let h = c.settled_verdict-verdict.ensures in
-    let e = c.in-Pass.is in
-    let b = settled-bounds _ _ _ _ h e in
-    (tables-sound _ _ (passed-ready _ _ _ h e), b.0, b.1)
+pub returns-in_err-settled_verdict : goal.returns-in_err-settled_verdict
+returns-in_err-settled_verdict c = settled-leaves _ _ _ _ c.settled_verdict.ensures c.from_residual.result c.in_err-settled_verdict.was c.from_residual.ensures.1
 
-pub returns-in-Refuse : goal.returns-in-Refuse
-returns-in-Refuse c = settled-leaves _ _ _ _ c.settled_verdict-verdict.ensures c.in-Refuse.is
+pub of-requires : goal.of-requires
+of-requires c = passed-sound _ _ _ c.settled_verdict.ensures c.in_ok-settled_verdict.was
 
-pub returns-in-Pass : goal.returns-in-Pass
-returns-in-Pass c = settled-answers _ _ _ _ c.settled_verdict-verdict.ensures c.settled_block-found.result c.in-Pass.is c.settled_block-found.ensures
+pub settled_block-requires : goal.settled_block-requires
+settled_block-requires c =
+    let b = settled-bounds _ _ _ _ c.settled_verdict.ensures c.in_ok-settled_verdict.was in
+    (b.0, rw c.of.ensures.settings b.1)
+
+pub returns : goal.returns
+returns c =
+    settled-answers _ _ _ _ c.settled_verdict.ensures c.settled_block.result c.in_ok-settled_verdict.was
+    (settled-told c.args.lent c.of.ensures.settings c.of.ensures.blocks c.of.ensures.blocks_used c.of.ensures.votes c.of.ensures.votes_used _ _ c.settled_block.ensures)

@@ -10,9 +10,6 @@ use Rattle.receiving.proofs.Naming.{blocks-agree}
 use Rattle.receiving.proofs.Receiving.{accepted-carried, blocks-kept, blocks-stood-on}
 use Rattle.receiving.proofs.receive_blocks.Goals as goal
 
-pub add_blocks-requires : goal.add_blocks-requires
-add_blocks-requires c = (c.requires.0, c.requires.1, c.requires.3, c.requires.4)
-
 pub view_stood_on-requires : goal.view_stood_on-requires
 view_stood_on-requires c =
     let H = c.add_blocks.ensures in

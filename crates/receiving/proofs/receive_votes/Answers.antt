@@ -11,8 +11,8 @@ use Rattle.receiving.proofs.Naming.{votes-agree}
 use Rattle.receiving.proofs.Receiving.{votes-kept, votes-viewed}
 use Rattle.receiving.proofs.receive_votes.Goals as goal
 
-pub view_named_votes-requires : goal.view_named_votes-requires
-view_named_votes-requires c =
+pub view_named-requires : goal.view_named-requires
+view_named-requires c =
     let H = c.add_votes.ensures in
     let n = used-added _ _ (adding-since c.args.from) vote-codec c.args.votes.now c.args.used.now (packet_of c.args.bytes.now).votes H in
     let g = used_grows _ _ (adding-since c.args.from) vote-codec c.args.votes.now c.args.used.now (packet_of c.args.bytes.now).votes H in (
@@ -27,7 +27,7 @@ returns-then-viewed c =
     let vs = (packet_of c.args.bytes.now).votes in
     rw (c.if-viewed.true, votes-viewed c.args.from (rows_of make_vote c.args.votes.now c.args.used.now) (packet_of c.args.bytes.now))
     (viewed-held vote-codec _ _ c.add_votes.ensures (λ v. any_pass (same_vote v) vs)
-    (c.view_named_votes.ensures (λ v. any_pass (same_vote v) vs) (votes-agree _ _ _ _ c.args.from c.add_votes.ensures c.requires.4)))
+    (c.view_named.ensures (λ v. any_pass (same_vote v) vs) (votes-agree _ _ _ _ c.args.from c.add_votes.ensures c.requires.4)))
 
 pub returns-else-viewed : goal.returns-else-viewed
 returns-else-viewed c =

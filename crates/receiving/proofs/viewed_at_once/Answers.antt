@@ -1,31 +1,30 @@
 -- `viewed_at_once` meets its contract. Assumes nothing.
-use Prim.Native.Nat.{◌*◌}
-use mathlib.Core.Path.{◌≡◌, sym, ◌∙◌}
-use native.Mathlib.Omega.{arith}
-use borrow.Author.Tests.{eq-eqb, ne_eqb}
-use Rattle.protocol.specs.Calls.Receive.{viewed_at_once}
-use Rattle.packets.proofs.Headers.{header-kind, header-slot}
+use mathlib.Core.Path.{sym, ◌∙◌}
+use Rattle.protocol.proofs.Basics.Tests.{clashing}
+use Rattle.receiving.proofs.Once.{once-all, once-kind, once-phase, once-slot}
 use Rattle.receiving.proofs.viewed_at_once.Goals as goal
-
-pub returns-then-not-is_proposal : goal.returns-then-not-is_proposal
-unfolding viewed_at_once
-returns-then-not-is_proposal c =
-    rw (← header-kind _ c.header_of-h.ensures, sym c.is_proposal.ensures ∙ c.if-not-is_proposal.true)
-
-pub returns-then-beat-ne0 : goal.returns-then-beat-ne0
-unfolding viewed_at_once
-returns-then-beat-ne0 c =
-    let e : c.header_of-h.result.slot * 3 ≡ c.args.beat → ⊥ = λ q. c.if-beat-ne0.true (omega (arith, q)) in
-    rw (← header-kind _ c.header_of-h.ensures, sym c.is_proposal.ensures ∙ c.if-not-is_proposal.false, ← header-slot _ c.header_of-h.ensures, ne_eqb _ _ e)
+use Rattle.receiving.proofs.viewed_at_once.Goals.{then-is_proposal, else-is_proposal, then-beat-eq0, else-beat-eq0}
 
 pub returns-then-beat-h : goal.returns-then-beat-h
-unfolding viewed_at_once
 returns-then-beat-h c =
-    let e : c.header_of-h.result.slot * 3 ≡ c.args.beat → ⊥ = λ q. c.if-beat-h.true (omega (arith, q)) in
-    rw (← header-kind _ c.header_of-h.ensures, sym c.is_proposal.ensures ∙ c.if-not-is_proposal.false, ← header-slot _ c.header_of-h.ensures, ne_eqb _ _ e)
+    elim c.if-beat-eq0.branch [
+      | then-beat-eq0 v ↦
+          elim c.if-is_proposal.branch [
+            | then-is_proposal w ↦
+                once-all _ c.args.beat _ c.header_of-h.ensures (sym c.is_proposal.ensures ∙ w.if-is_proposal.true) (sym w.value-is ∙ v.if-beat-eq0.true) (sym v.value-is ∙ c.if-beat-h.true)
+            | else-is_proposal w ↦ absurd (clashing v.if-beat-eq0.true (w.value-is ∙ w.if-is_proposal.false))
+          ]
+      | else-beat-eq0 v ↦ absurd (clashing c.if-beat-h.true (v.value-is ∙ v.if-beat-eq0.false))
+    ]
 
-pub returns : goal.returns
-unfolding viewed_at_once
-returns c =
-    let e : c.header_of-h.result.slot * 3 ≡ c.args.beat = omega (arith, c.if-beat-h.false, c.if-beat-ne0.false) in
-    rw (← header-kind _ c.header_of-h.ensures, sym c.is_proposal.ensures ∙ c.if-not-is_proposal.false, ← header-slot _ c.header_of-h.ensures, eq-eqb _ _ e)
+pub returns-else-beat-h : goal.returns-else-beat-h
+returns-else-beat-h c =
+    c.if-beat-h.false
+    ∙ elim c.if-beat-eq0.branch [
+      | then-beat-eq0 v ↦ once-slot _ c.args.beat _ c.header_of-h.ensures (sym v.value-is ∙ c.if-beat-h.false)
+      | else-beat-eq0 v ↦
+          elim c.if-is_proposal.branch [
+            | then-is_proposal w ↦ once-phase _ c.args.beat _ c.header_of-h.ensures (sym w.value-is ∙ v.if-beat-eq0.false)
+            | else-is_proposal w ↦ once-kind _ c.args.beat _ c.header_of-h.ensures (sym c.is_proposal.ensures ∙ w.if-is_proposal.false)
+          ]
+    ]

@@ -5,7 +5,7 @@ use Rattle.settled.proofs.Rivals.{Search}
 use Rattle.settled.proofs.has_rival.Given as goal
 
 abbrev pub invariant-loop-d : goal.invariant-loop-d
-invariant-loop-d l = Search l.blocks l.used l.weights l.k l.t l.a (value l.parent.block.number) l.c l.d
+invariant-loop-d l = Search l.blocks.words.now l.blocks.used l.weights l.k l.t l.a (value l.parent.entry.number) l.c l.d
 
 abbrev pub decreases-loop-d : goal.decreases-loop-d
-decreases-loop-d l = left l.used l.d
+decreases-loop-d l = left l.blocks.used l.d

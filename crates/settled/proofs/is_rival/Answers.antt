@@ -1,16 +1,18 @@
 -- `is_rival` meets its contract. Assumes nothing.
 use mathlib.Core.Path.{sym, ◌∙◌}
+use Rattle.std.proofs.lemmas.Bool.{not-true, not-false}
 use Rattle.settled.proofs.Rivals.{rival-hidden, rival-other, rival-child}
 use Rattle.settled.proofs.is_rival.Goals as goal
+use Rattle.settled.proofs.is_rival.Goals.{then-not-row-via-then-not-row, then-not-row-via-else-not-row+then-not-is_child}
 
-pub returns-then-is_child : goal.returns-then-is_child
-returns-then-is_child c =
-    c.overtakes.ensures
-    ∙ rival-child _ _ _ _ _ _ _ _ c.block_at-row.ensures c.if-row.true (sym c.is_child.ensures ∙ c.if-is_child.true)
+pub returns-then-not-row : goal.returns-then-not-row
+returns-then-not-row c =
+    elim c.then-not-row.branch [
+      | then-not-row-via-then-not-row w ↦ rival-hidden _ _ _ _ _ _ _ _ c.row-row.ensures (not-true _ w.if-not-row.true)
+      | then-not-row-via-else-not-row+then-not-is_child w ↦
+          rival-other _ _ _ _ _ _ _ _ c.row-row.ensures (not-false _ w.if-not-row.false) (sym w.is_child.ensures ∙ w.if-not-is_child.true)
+    ]
 
-pub returns-else-is_child : goal.returns-else-is_child
-returns-else-is_child c =
-    rival-other _ _ _ _ _ _ _ _ c.block_at-row.ensures c.if-row.true (sym c.is_child.ensures ∙ c.if-is_child.false)
-
-pub returns-else-row : goal.returns-else-row
-returns-else-row c = rival-hidden _ _ _ _ _ _ _ _ c.block_at-row.ensures c.if-row.false
+pub returns : goal.returns
+returns c =
+    c.overtakes.ensures ∙ rival-child _ _ _ _ _ _ _ _ c.row-row.ensures (not-false _ c.if-not-row.false) (sym c.is_child.ensures ∙ c.if-not-is_child.false)

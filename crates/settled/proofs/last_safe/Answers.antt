@@ -1,72 +1,62 @@
 -- `last_safe` meets its contract. Assumes nothing.
 use native.Mathlib.Omega.{arith}
-use Prim.Native.Nat.{ℕ}
 use mathlib.Core.Bool.{false}
 use mathlib.Core.Path.{refl, sym, ◌∙◌}
 use lib.ListN.{length-replicate}
 use Rattle.protocol.specs.Limits.{loom}
 use Rattle.subtree_voters.specs.BlockRows.{block_at}
 use Rattle.subtree_voters.proofs.BlockRows.{link-low}
+use Rattle.fork_choice.specs.declared.Kin.{Kin}
+use Rattle.fork_choice.specs.Children.{no_kin}
 use Rattle.fork_choice.proofs.Held.{held}
-use Rattle.fork_choice.proofs.Children.{linked-by}
+use Rattle.fork_choice.proofs.Children.{linked-by, unlinked}
 use Rattle.settled.proofs.Levels.{level-start, level-deeper, level-on, level-leaf, level-halt}
 use Rattle.settled.proofs.last_safe.Goals as goal
 
 pub link_children-requires : goal.link_children-requires
 link_children-requires c =
-    let w = c.args.blocks.now in (
-      (held false _ _ c.requires.4).some,
-      c.requires.1,
-      c.requires.3,
-      λ i l. omega (arith, c.requires.5.each i l, link-low w i (block_at w i).parent),
-      refl,
-      refl,
+    let w = c.args.blocks.words.now in (
+      (held false _ _ c.requires.3).some,
+      c.requires.0,
+      c.requires.2,
+      λ i l. omega (arith, c.requires.4.each i l, link-low w i (block_at w i).parent),
+      unlinked.0,
+      unlinked.1,
     )
 
-pub loop-children-init : goal.loop-children-init
-loop-children-init c =
-    level-start (held false _ _ c.requires.4) c.args.weights.now c.args.k c.args.t
-
-pub best_child-c-requires : goal.best_child-c-requires
-best_child-c-requires c = (
-  c.requires.0,
-  omega (arith, c.requires.1, c.link_children.auto.children, length-replicate {A = ℕ} loom.blocks 0),
-  omega (arith, c.requires.1, c.link_children.auto.siblings, length-replicate {A = ℕ} loom.blocks 0),
-  c.requires.2,
-  c.loop-children.invariant.inside,
-  c.requires.4,
-  linked-by c.requires.5.each c.link_children.ensures,
-)
+pub loop-c-init : goal.loop-c-init
+loop-c-init c =
+    level-start (held false _ _ c.requires.3) c.args.weights.now c.args.k c.args.t
 
 pub has_rival-requires : goal.has_rival-requires
-has_rival-requires c = (
-  c.requires.0,
-  omega (arith, c.requires.1, c.link_children.auto.children, length-replicate {A = ℕ} loom.blocks 0),
-  omega (arith, c.requires.1, c.link_children.auto.siblings, length-replicate {A = ℕ} loom.blocks 0),
-  c.requires.2,
-  c.loop-children.invariant.inside,
-  c.best_child-c.ensures.0,
-  c.requires.4,
-  linked-by c.requires.5.each c.link_children.ensures,
-)
+has_rival-requires c =
+    let e = rw c.in-Some.is at c.best_child.ensures in (
+      omega (arith, c.requires.0, c.link_children.auto.kin, length-replicate {A = Kin} loom.blocks no_kin),
+      c.requires.1,
+      c.loop-c.invariant.inside,
+      e.0,
+      c.requires.3,
+      linked-by c.requires.4.each c.link_children.ensures,
+    )
 
-pub loop-children-smaller : goal.loop-children-smaller
-loop-children-smaller c =
-    let e = c.best_child-c.ensures in
-    omega (arith, level-deeper (held false _ _ c.requires.4) c.args.weights.now c.args.k c.args.t _ _ c.loop-children.invariant e.1 e.0 c.if-c-eq0.false, e.0)
+pub loop-c-smaller : goal.loop-c-smaller
+loop-c-smaller c =
+    let e = rw c.in-Some.is at c.best_child.ensures in
+    omega (arith, level-deeper (held false _ _ c.requires.3) c.args.weights.now c.args.k c.args.t _ c.loop-c.invariant _ e.1 e.0, e.0)
 
-pub loop-children-preserved : goal.loop-children-preserved
-loop-children-preserved c =
-    let e = c.best_child-c.ensures in
-    level-on (held false _ _ c.requires.4) c.args.weights.now c.args.k c.args.t _ _ c.loop-children.invariant e.1 e.0 c.if-c-eq0.false (sym c.has_rival.ensures ∙ c.if-has_rival.false)
-
-pub returns-then-c-eq0 : goal.returns-then-c-eq0
-returns-then-c-eq0 c =
-    (c.loop-children.invariant.inside, level-leaf (held false _ _ c.requires.4) c.args.weights.now c.args.k c.args.t _ _ c.loop-children.invariant c.best_child-c.ensures.1 c.if-c-eq0.true)
+pub loop-c-preserved : goal.loop-c-preserved
+loop-c-preserved c =
+    let e = rw c.in-Some.is at c.best_child.ensures in
+    level-on (held false _ _ c.requires.3) c.args.weights.now c.args.k c.args.t _ c.loop-c.invariant _ e.1 e.0 (sym c.has_rival.ensures ∙ c.if-has_rival.false)
 
 pub returns-then-has_rival : goal.returns-then-has_rival
-returns-then-has_rival c = (
-  c.loop-children.invariant.inside,
-  level-halt (held false _ _ c.requires.4) c.args.weights.now c.args.k c.args.t _ _ c.loop-children.invariant c.best_child-c.ensures.1 c.if-c-eq0.false
-      (sym c.has_rival.ensures ∙ c.if-has_rival.true),
-)
+returns-then-has_rival c =
+    let e = rw c.in-Some.is at c.best_child.ensures in (
+      c.loop-c.invariant.inside,
+      level-halt (held false _ _ c.requires.3) c.args.weights.now c.args.k c.args.t _ c.loop-c.invariant _ e.1 (sym c.has_rival.ensures ∙ c.if-has_rival.true),
+    )
+
+pub returns-in_default : goal.returns-in_default
+returns-in_default c =
+    let e = rw c.in_default.is at c.best_child.ensures in
+    (c.loop-c.invariant.inside, level-leaf (held false _ _ c.requires.3) c.args.weights.now c.args.k c.args.t _ c.loop-c.invariant e.1)

@@ -7,13 +7,11 @@ use Rattle.soundness.proofs.all_voted_sound.Goals as goal
 
 pub returns-then-not-voted_sound : goal.returns-then-not-voted_sound
 returns-then-not-voted_sound c =
-    sym (c.loop-i.invariant
-    ∙ all-fail make_vote (voted_sound _) _ _ _ c.loop-i-test.true c.vote_at-row.ensures (sym c.voted_sound.ensures ∙ c.if-not-voted_sound.true))
+    sym (c.loop-i.invariant ∙ all-fail make_vote (voted_sound _) _ _ _ c.loop-i-test.true c.row.ensures (sym c.if-not-voted_sound.ensures))
 
 pub loop-i-preserved : goal.loop-i-preserved
 loop-i-preserved c =
-    c.loop-i.invariant
-    ∙ all_pass_lem make_vote (voted_sound _) _ _ _ c.loop-i-test.true c.vote_at-row.ensures (sym c.voted_sound.ensures ∙ c.if-not-voted_sound.false)
+    c.loop-i.invariant ∙ all_pass_lem make_vote (voted_sound _) _ _ _ c.loop-i-test.true c.row.ensures (sym c.if-not-voted_sound.ensures)
 
 pub returns : goal.returns
 returns c = sym (c.loop-i.invariant ∙ all_end make_vote (voted_sound _) _ _ _ c.loop-i-test.false)

@@ -1,5 +1,4 @@
--- The loop of `all_voted_sound`: its invariant and its measure. Assumes nothing.
-use Prim.Native.Nat.{◌-◌}
+-- The loop of `all_voted_sound`: its invariant. Assumes nothing.
 use mathlib.Core.Path.{◌≡◌}
 use lib.ListN.{drop}
 use Rattle.protocol.specs.Lists.{all_pass}
@@ -9,8 +8,5 @@ use Rattle.soundness.proofs.all_voted_sound.Given as goal
 
 abbrev pub invariant-loop-i : goal.invariant-loop-i
 invariant-loop-i l =
-    all_pass (voted_sound (rows_of make_block l.blocks l.blocks_used)) (rows_of make_vote l.votes l.votes_used)
-    ≡ all_pass (voted_sound (rows_of make_block l.blocks l.blocks_used)) (drop l.i (rows_of make_vote l.votes l.votes_used))
-
-abbrev pub decreases-loop-i : goal.decreases-loop-i
-decreases-loop-i l = l.votes_used - l.i
+    all_pass (voted_sound (rows_of make_block l.blocks.words.now l.blocks.used)) (rows_of make_vote l.votes.words.now l.votes.used)
+    ≡ all_pass (voted_sound (rows_of make_block l.blocks.words.now l.blocks.used)) (drop l.i (rows_of make_vote l.votes.words.now l.votes.used))

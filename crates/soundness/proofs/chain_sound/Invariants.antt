@@ -1,5 +1,4 @@
--- The loop of `chain_sound`: its invariant and its measure. Assumes nothing.
-use Prim.Native.Nat.{◌-◌}
+-- The loop of `chain_sound`: its invariant. Assumes nothing.
 use mathlib.Core.Path.{◌≡◌}
 use Rattle.protocol.specs.Lent.{rows_of, make_block}
 use Rattle.soundness.specs.Parts.{chain_sound}
@@ -7,7 +6,4 @@ use Rattle.soundness.proofs.Turns.{parents_from}
 use Rattle.soundness.proofs.chain_sound.Given as goal
 
 abbrev pub invariant-loop-i : goal.invariant-loop-i
-invariant-loop-i l = chain_sound (rows_of make_block l.blocks l.used) ≡ parents_from l.blocks l.used l.i
-
-abbrev pub decreases-loop-i : goal.decreases-loop-i
-decreases-loop-i l = l.used - l.i
+invariant-loop-i l = chain_sound (rows_of make_block l.blocks.words.now l.blocks.used) ≡ parents_from l.blocks.words.now l.blocks.used l.i

@@ -1,51 +1,24 @@
 -- `parent_sound` meets its contract. Assumes nothing.
-use borrow.Author.Tests.{lt-ltb, le-ltb}
 use native.Mathlib.Omega.{arith}
-use mathlib.Core.Path.{refl, sym, ◌∙◌}
-use lib.Dec.{ltb}
-use Rattle.protocol.specs.Words.{value}
-use Rattle.index.proofs.Tables.{differ-before}
-use Rattle.soundness.specs.Parts.{parent_sound}
-use Rattle.soundness.proofs.Lookup.{before, not-before, tested-none, tested_at, fails, viewed-passes, waiting-passes}
+use mathlib.Core.Path.{sym}
+use Rattle.rows.specs.Rows.{marked_block}
+use Rattle.soundness.proofs.Lookup.{parent-none, parent-late, parent_at}
 use Rattle.soundness.proofs.parent_sound.Goals as goal
 
-pub returns-then-link-eq0 : goal.returns-then-link-eq0
-unfolding parent_sound
-returns-then-link-eq0 c =
-    let row = c.args.row in
-    sym (tested-none (λ b. ltb b.slot row.block.slot) _ _ (value row.block.parent) row.viewed
-    (before _ _ _ _ c.requires.0 c.link-link.ensures (omega arith)) c.if-link-eq0.true)
+pub returns-in_default : goal.returns-in_default
+returns-in_default c = sym (parent-none _ _ _ _ c.requires.within c.in_default.ensures)
 
-pub returns-then-link-i : goal.returns-then-link-i
-unfolding parent_sound
-returns-then-link-i c =
-    let row = c.args.row in
-    sym (tested-none (λ b. ltb b.slot row.block.slot) _ _ (value row.block.parent) row.viewed
-    (not-before _ _ _ _ c.requires.0 c.link-link.ensures c.if-link-i.true) refl)
+pub returns-then-j-i : goal.returns-then-j-i
+returns-then-j-i c = sym (parent-late _ _ _ _ c.requires.within _ c.in-Some.ensures c.if-j-i.true)
 
-pub returns-then-parent-row : goal.returns-then-parent-row
-unfolding parent_sound
-returns-then-parent-row c =
-    let row = c.args.row in
-    let told =
-    tested_at (λ q. ltb q.slot row.block.slot) _ _ (value row.block.parent) row.viewed (before _ _ _ _ c.requires.0 c.link-link.ensures c.if-link-i.false) c.if-link-eq0.false
-    (differ-before _ _ _ c.requires.0 c.requires.1.unrepeated) c.block_at-parent.ensures in
-    sym (told ∙ fails _ (le-ltb _ _ c.if-parent-row.true))
+pub returns-then-not-row : goal.returns-then-not-row
+returns-then-not-row c =
+    rw (parent_at _ _ _ (marked_block c.args.row) c.requires.within _ c.requires.indexed.unrepeated c.in-Some.ensures c.if-j-i.false c.row-parent.ensures) (grind arith)
 
-pub returns-then-row : goal.returns-then-row
-unfolding parent_sound
-returns-then-row c =
-    let row = c.args.row in
-    let told =
-    tested_at (λ q. ltb q.slot row.block.slot) _ _ (value row.block.parent) row.viewed (before _ _ _ _ c.requires.0 c.link-link.ensures c.if-link-i.false) c.if-link-eq0.false
-    (differ-before _ _ _ c.requires.0 c.requires.1.unrepeated) c.block_at-parent.ensures in
-    sym (told ∙ viewed-passes (lt-ltb _ _ c.if-parent-row.false) c.if-row.true)
+pub returns-else-not-row : goal.returns-else-not-row
+returns-else-not-row c =
+    rw (parent_at _ _ _ (marked_block c.args.row) c.requires.within _ c.requires.indexed.unrepeated c.in-Some.ensures c.if-j-i.false c.row-parent.ensures) (grind arith)
 
-pub returns : goal.returns
-unfolding parent_sound
-returns c =
-    let row = c.args.row in
-    let told =
-    tested_at (λ q. ltb q.slot row.block.slot) _ _ (value row.block.parent) row.viewed (before _ _ _ _ c.requires.0 c.link-link.ensures c.if-link-i.false) c.if-link-eq0.false
-    (differ-before _ _ _ c.requires.0 c.requires.1.unrepeated) c.block_at-parent.ensures in
-    sym (told ∙ waiting-passes _ (lt-ltb _ _ c.if-parent-row.false) c.if-row.false)
+pub returns-else-parent-row : goal.returns-else-parent-row
+returns-else-parent-row c =
+    rw (parent_at _ _ _ (marked_block c.args.row) c.requires.within _ c.requires.indexed.unrepeated c.in-Some.ensures c.if-j-i.false c.row-parent.ensures) (grind arith)

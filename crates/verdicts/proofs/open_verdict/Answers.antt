@@ -2,6 +2,7 @@
 use borrow.Author.Tests.{lt-ltb, le-ltb}
 use mathlib.Core.Path.{sym, ◌∙◌}
 use Rattle.protocol.specs.Refusal.{first}
+use Rattle.protocol.specs.Lent.{places_of}
 use Rattle.protocol.specs.Calls.Open.{open_tests}
 use Rattle.verdicts.proofs.open_verdict.Goals as goal
 
@@ -34,7 +35,7 @@ returns-then-not-within-2 c =
     )
 
 pub returns-then-not-places_sound : goal.returns-then-not-places_sound
-unfolding open_tests first
+unfolding open_tests first places_of
 returns-then-not-places_sound c =
     simp (
       sym c.nodes_sound.ensures ∙ c.if-not-nodes_sound.false,
@@ -45,7 +46,7 @@ returns-then-not-places_sound c =
     )
 
 pub returns : goal.returns
-unfolding open_tests first
+unfolding open_tests first places_of
 returns c =
     simp (
       sym c.nodes_sound.ensures ∙ c.if-not-nodes_sound.false,

@@ -1,38 +1,39 @@
 -- `equivocators_next` meets its contract. Assumes nothing.
-use borrow.Author.Tests.{eqb-true, eqb-false}
+use borrow.Author.Tests.{eqb-true, eq-eqb}
 use native.Mathlib.Omega.{arith}
+use mathlib.Core.Bool.{not, true≢false}
 use mathlib.Core.Path.{refl, ap, sym, ◌∙◌}
-use Rattle.search_tree.proofs.Descent.{linked-below}
+use Rattle.std.proofs.lemmas.Bool.{not-false}
+use Rattle.numbers.proofs.Orders.{same_lem}
 use Rattle.vote_filters.proofs.Equivocators.{alone-turn, out-turn, again-turn, double-turn}
 use Rattle.vote_filters.proofs.equivocators_next.Goals as goal
 
+pub returns-in_default : goal.returns-in_default
+returns-in_default c =
+    (alone-turn _ _ _ _ refl _ _ c.requires.4 (rw c.in_default.is at c.slot_add.ensures.0), c.slot_add.ensures.1)
+
 -- the row of the first vote of the voter and slot is there
-pub vote_at-first-requires : goal.vote_at-first-requires
-vote_at-first-requires c =
-    omega (arith, linked-below c.slot_add-link.ensures.0 c.if-link-ne0.true, c.requires.0)
+pub row-first-requires : goal.row-first-requires
+row-first-requires c =
+    let P = rw c.in-Some.is at c.slot_add.ensures.0 in
+    omega (arith, (P.hit c.in-Some.link refl).is_row, c.requires.0)
 
-pub with-requires : goal.with-requires
-with-requires c =
-    omega (arith, c.requires.2 c.args.i (omega arith), ap (λ o. o.entry.voter) c.vote_at-new.ensures)
+pub returns-then-ne : goal.returns-then-ne
+returns-then-ne c =
+    let same = same_lem c.row-first.result.entry.number c.row-new.result.entry.number (omega arith) (omega arith) in (
+      double-turn _ _ _ _ c.row-new.ensures _ _ c.requires.4 (rw c.in-Some.is at c.slot_add.ensures.0) _ c.row-first.ensures (sym c.counts.ensures ∙ c.if-counts.true)
+          c.with.ensures (λ e. true≢false (sym c.if-ne.true ∙ c.ne.ensures ∙ ap not (same ∙ eq-eqb _ _ e))),
+      c.slot_add.ensures.1,
+    )
 
-pub returns-then-not-same : goal.returns-then-not-same
-returns-then-not-same c = (
-  double-turn _ _ _ _ c.vote_at-new.ensures _ _ c.requires.4 c.slot_add-link.ensures.0 _ c.vote_at-first.ensures c.if-link-ne0.true (sym c.counts.ensures ∙ c.if-counts.true)
-      c.with.ensures (eqb-false _ _ (sym c.same.ensures ∙ c.if-not-same.true)),
-  c.slot_add-link.ensures.1,
-)
-
-pub returns-else-not-same : goal.returns-else-not-same
-returns-else-not-same c = (
-  again-turn _ _ _ _ c.vote_at-new.ensures _ _ c.requires.4 c.slot_add-link.ensures.0 _ c.vote_at-first.ensures c.if-link-ne0.true (sym c.counts.ensures ∙ c.if-counts.true)
-      (eqb-true _ _ (sym c.same.ensures ∙ c.if-not-same.false)),
-  c.slot_add-link.ensures.1,
-)
+pub returns-else-ne : goal.returns-else-ne
+returns-else-ne c =
+    let same = same_lem c.row-first.result.entry.number c.row-new.result.entry.number (omega arith) (omega arith) in (
+      again-turn _ _ _ _ c.row-new.ensures _ _ c.requires.4 (rw c.in-Some.is at c.slot_add.ensures.0) _ c.row-first.ensures (sym c.counts.ensures ∙ c.if-counts.true)
+          (eqb-true _ _ (sym same ∙ not-false _ (sym c.ne.ensures ∙ c.if-ne.false))),
+      c.slot_add.ensures.1,
+    )
 
 pub returns-else-counts : goal.returns-else-counts
 returns-else-counts c =
-    (out-turn _ _ _ _ c.vote_at-new.ensures _ _ c.requires.4 (sym c.counts.ensures ∙ c.if-counts.false), c.slot_add-link.ensures.1)
-
-pub returns-else-link-ne0 : goal.returns-else-link-ne0
-returns-else-link-ne0 c =
-    (alone-turn _ _ _ _ refl _ _ c.requires.4 c.slot_add-link.ensures.0 c.if-link-ne0.false, c.slot_add-link.ensures.1)
+    (out-turn _ _ _ _ c.row-new.ensures _ _ c.requires.4 (sym c.counts.ensures ∙ c.if-counts.false), c.slot_add.ensures.1)

@@ -29,6 +29,7 @@ use rows::Table;
 
 // The block at a row of the table and the packet together.
 #[tactic(auto, unfolding(index::specs::Links::lookup_at))]
+#[inline(always)]
 fn found(blocks: Table<'_, Block>, bytes: &[u8], row: Option<usize>) -> Option<Block>
     requires { link_of row ≤ blocks.used + length (packet_of bytes.now).blocks }
     ensures { lookup_of result ≡ lookup_at (known_blocks blocks.entry.words.now blocks.entry.used bytes.now) (link_of row) }
@@ -226,7 +227,10 @@ fn is_new_vote(
     let vote = Vote::at(bytes, i);
     let row = index::join_vote(votes, bytes, i, links, packet_links, salt, vote);
     index::note_first(firsts, votes.used + i, row);
-    row.is_none() && vote.slot >= from
+    match row {
+        None => vote.slot >= from,
+        Some(_) => false,
+    }
 }
 
 // How many votes of the packet are new: those of slot `from` and later that are not known. The first row of each vote is noted in the set, which

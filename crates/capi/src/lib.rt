@@ -375,6 +375,15 @@ impl From<Result<u64, Refusal>> for Written {
 
 // ---- calls that change the memory
 
+// A count that a call left is written back only where it is another.
+fn put_count(count: &mut usize, left: usize)
+    ensures { count.new ≡ left }
+{
+    if *count != left {
+        *count = left;
+    }
+}
+
 // Each lends the node what it is passed and writes the counts back. The lines are the same in the five: a generic over the call is no plainer, since its contract
 // has to say what the call leaves behind every reference.
 
@@ -398,8 +407,8 @@ pub fn likvost_open(
         votes_used: *votes_used,
     };
     let answer = node::open(&mut lent);
-    *blocks_used = lent.blocks_used;
-    *votes_used = lent.votes_used;
+    put_count(blocks_used, lent.blocks_used);
+    put_count(votes_used, lent.votes_used);
     Answer::of_done(answer, lent.clock.into())
 }
 
@@ -425,8 +434,8 @@ pub fn likvost_receive(
         votes_used: *votes_used,
     };
     let answer = node::receive(&mut lent, beat, packet);
-    *blocks_used = lent.blocks_used;
-    *votes_used = lent.votes_used;
+    put_count(blocks_used, lent.blocks_used);
+    put_count(votes_used, lent.votes_used);
     Answer::of_received(answer, lent.clock.into())
 }
 
@@ -452,8 +461,8 @@ pub fn likvost_propose(
         votes_used: *votes_used,
     };
     let answer = node::propose(&mut lent, beat, number.into());
-    *blocks_used = lent.blocks_used;
-    *votes_used = lent.votes_used;
+    put_count(blocks_used, lent.blocks_used);
+    put_count(votes_used, lent.votes_used);
     Answer::of_block(answer, lent.clock.into())
 }
 
@@ -478,8 +487,8 @@ pub fn likvost_vote(
         votes_used: *votes_used,
     };
     let answer = node::vote(&mut lent, beat);
-    *blocks_used = lent.blocks_used;
-    *votes_used = lent.votes_used;
+    put_count(blocks_used, lent.blocks_used);
+    put_count(votes_used, lent.votes_used);
     Answer::of_block(answer, lent.clock.into())
 }
 
@@ -504,8 +513,8 @@ pub fn likvost_merge(
         votes_used: *votes_used,
     };
     let answer = node::merge(&mut lent, beat);
-    *blocks_used = lent.blocks_used;
-    *votes_used = lent.votes_used;
+    put_count(blocks_used, lent.blocks_used);
+    put_count(votes_used, lent.votes_used);
     Answer::of_done(answer, lent.clock.into())
 }
 

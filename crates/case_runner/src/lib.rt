@@ -4,6 +4,7 @@
 mod line;
 mod packet;
 mod shown;
+mod tried;
 
 ghost use Rattle.lent.specs.Memory.{IsSameLoan};
 
@@ -15,6 +16,7 @@ use protocol::{Clock, Number, Settings};
 pub use shown::{print_compared, print_figures};
 use std::io;
 use std::io::Write;
+pub use tried::Tried;
 use verdicts::Refusal;
 
 // Where the first word begins, from the colon on.
@@ -91,10 +93,10 @@ fn left(held: Held, blocks: &mut [u64], votes: &mut [u64], line: Line<'_>) -> Af
     let n = packet_bytes(line.letter(WORD), line.numbers, &mut bytes);
     let mut old_blocks = [0u64; 12294];
     let mut old_votes = [0u64; 40965];
-    copy(blocks, &mut old_blocks);
-    copy(votes, &mut old_votes);
     let blocks_lent = held.blocks.lent.min(blocks.len());
     let votes_lent = held.votes.lent.min(votes.len());
+    copy(&blocks[..blocks_lent], &mut old_blocks);
+    copy(&votes[..votes_lent], &mut old_votes);
     let mut lent = LentMut {
         settings: if line.letter(WORD) == b'o' {
             line.settings()

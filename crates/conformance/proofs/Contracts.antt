@@ -3,6 +3,9 @@
 use Prim.Native.Nat.{ℕ}
 use mathlib.Core.Path.{◌≡◌, refl}
 use mathlib.Core.List.{List}
+use base.Logic.{emp, sep}
+use borrow.Fn.World.{World}
+use contract.Monad.{fact}
 use denote.Ref.{Bor}
 use Rattle.protocol.specs.declared.Clock.{Clock}
 use Rattle.protocol.specs.Words.{value}
@@ -17,6 +20,7 @@ use Rattle.node.proofs.propose.Reads as proposing
 use Rattle.node.proofs.vote.Reads as voting
 use Rattle.node.proofs.merge.Reads as merging
 use Rattle.node.proofs.carry.Reads as carrying
+use Rattle.node.specs.contracts.carry as carrying-in-place
 use Rattle.queries.proofs.head.Reads as asking-head
 use Rattle.queries.proofs.deep.Reads as asking-deep
 use Rattle.queries.proofs.fast.Reads as asking-fast
@@ -78,6 +82,16 @@ merge-told = refl
 pub carry-told : carrying.Learnt ≡ (λ κs (l, (call, (beat, (bytes, _)))) r (l', _).
     Carries l.now.settings (memory_mut l.now) call beat bytes.now (memory_mut l'.now) r × IsSameLoan l.now l'.now)
 carry-told = refl
+
+-- Carry may be any of these four calls. Here is the contract itself, in every model of the logic: it asks for nothing, and ensures both promises as facts.
+pub carry-told-whole : (w : World) → carrying-in-place.clauses w.𝓛 w.𝓜.mem w.𝓡.run
+    ≡ (λ κs (l, (call, (beat, (bytes, _)))). record {
+      ghost = Unit;
+      requires = λ g. emp w.𝓤;
+      ensures = λ g r (l', _).
+          sep w.𝓤 (fact w.𝓤 (Carries l.now.settings (memory_mut l.now) call beat bytes.now (memory_mut l'.now) r)) (fact w.𝓤 (IsSameLoan l.now l'.now));
+    })
+carry-told-whole w = refl
 
 pub head-told : asking-head.Learnt ≡ (λ κs (l, (slot, _)) r _. IsHead l.settings (memory l) slot r)
 head-told = refl

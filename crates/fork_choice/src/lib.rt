@@ -77,7 +77,7 @@ fn beats(blocks: Table<'_, Block>, weights: &[u32], d: usize, c: usize) -> bool
     }
     let p = blocks.row(d);
     let q = blocks.row(c);
-    p.entry.number < q.entry.number
+    numbers::is_below(p.entry.number, q.entry.number)
 }
 
 // The better of the best child so far and row i, if that is a child of block a.
@@ -133,6 +133,7 @@ pub fn link_children(parents: &[u16], used: usize, kin: &mut [Kin])
 }
 
 // The heaviest child of the block at row a, if it has one. One turn for each of its children.
+#[inline(always)]
 pub fn best_child(
     blocks: Table<'_, Block>,
     kin: &[Kin],

@@ -319,8 +319,11 @@ impl<'a> Keyed for PacketSlots<'a> {
 
 // ---- the search
 
+// Functions of the search are compiled into each place that asks for them, so that the look at a root is no call; what mixes the digits of a key is one.
+
 // The descent for a key goes on from the row that its root leads to, which has another key, among the first n. The cost is one step for each row that
-// it meets. It is apart from the look at the root, so that this is compiled anew wherever it is asked for: honest entries seldom come here.
+// it meets. Honest entries seldom come here.
+#[inline(always)]
 fn descend<K: Keyed>(keys: K, n: usize, links: &[u16], key: Key, first: usize) -> Spot
     requires { (n ≤ K.size keys) × Index (shape (K.tree keys).roots (K.tree keys).salt) (λ k. k ≡ key) (K.keys keys) n links.now
         × BeginsBelow (shape (K.tree keys).roots (K.tree keys).salt) (K.keys keys) n links.now key first }
@@ -341,6 +344,7 @@ fn descend<K: Keyed>(keys: K, n: usize, links: &[u16], key: Key, first: usize) -
 }
 
 // Where the descent for a key ends, among the first n rows. The cost is a descent.
+#[inline(always)]
 fn seek<K: Keyed>(keys: K, n: usize, links: &[u16], key: Key) -> Spot
     requires { (n ≤ K.size keys) × Index (shape (K.tree keys).roots (K.tree keys).salt) (λ k. k ≡ key) (K.keys keys) n links.now }
     ensures { Sought (shape (K.tree keys).roots (K.tree keys).salt) (K.keys keys) n links.now key result.at (link_of result.row) }
@@ -356,6 +360,7 @@ fn seek<K: Keyed>(keys: K, n: usize, links: &[u16], key: Key) -> Spot
 }
 
 // The first row that has the key among the first n. The cost is a descent.
+#[inline(always)]
 fn find<K: Keyed>(keys: K, n: usize, links: &[u16], key: Key) -> Option<usize>
     requires { (n ≤ K.size keys) × Index (shape (K.tree keys).roots (K.tree keys).salt) (λ k. k ≡ key) (K.keys keys) n links.now }
     ensures { Points (K.keys keys) n key (link_of result) }
@@ -364,6 +369,7 @@ fn find<K: Keyed>(keys: K, n: usize, links: &[u16], key: Key) -> Option<usize>
 }
 
 // Row n, which has this key, joins those before it; the answer is the first of these that has the key. The cost is a descent.
+#[inline(always)]
 fn join<K: Keyed>(keys: K, n: usize, links: &mut [u16], key: Key) -> Option<usize>
     requires { (n ≤ K.size keys) × Room (shape (K.tree keys).roots (K.tree keys).salt) (n + 1) links.old
         × Index (shape (K.tree keys).roots (K.tree keys).salt) (λ k. k ≡ key) (K.keys keys) n links.old × (key ≡ K.keys keys n) }
@@ -379,6 +385,7 @@ fn join<K: Keyed>(keys: K, n: usize, links: &mut [u16], key: Key) -> Option<usiz
 // ---- the index of a table
 
 // Row n joins those before it; the answer is the first of these that has its key. The cost is a descent.
+#[inline(always)]
 fn add<K: Keyed>(keys: K, n: usize, links: &mut [u16]) -> Option<usize>
     requires { (n < K.size keys) × Room (shape (K.tree keys).roots (K.tree keys).salt) (n + 1) links.old
         × Index (shape (K.tree keys).roots (K.tree keys).salt) (λ k. Unit) (K.keys keys) n links.old }
@@ -422,6 +429,7 @@ pub fn build_votes(votes: Table<'_, Vote>, links: &mut [u16]) -> bool
 }
 
 // The row of the first block with the number. The cost is a lookup.
+#[inline(always)]
 pub fn link(blocks: Table<'_, Block>, links: &[u16], number: Number) -> Option<usize>
     requires { BlockIndex blocks.words.now blocks.used links.now }
     ensures { link_of result ≡ link_to_number (rows_of make_block blocks.entry.words.now blocks.entry.used) (value number) }
@@ -430,6 +438,7 @@ pub fn link(blocks: Table<'_, Block>, links: &[u16], number: Number) -> Option<u
 }
 
 // Row n joins the index of the blocks before it. The cost is a lookup.
+#[inline(always)]
 pub fn add_block(blocks: Table<'_, Block>, n: usize, links: &mut [u16])
     requires { (n < blocks.used) × TableRoom (n + 1) links.old × BlockIndex blocks.words.now n links.old }
     ensures { BlockIndex blocks.entry.words.now (n + 1) links.new }
@@ -439,6 +448,7 @@ pub fn add_block(blocks: Table<'_, Block>, n: usize, links: &mut [u16])
 
 // Row n joins the index by voter and slot of the rows before it; the answer is the row of the first of these with its voter and slot. Of the view, rows
 // that wait are kept apart. The cost is a lookup.
+#[inline(always)]
 pub fn slot_add(votes: Table<'_, Vote>, n: usize, whole: bool, links: &mut [u16]) -> Option<usize>
     requires { (n < votes.used) × TableRoom (n + 1) links.old × SlotIndex whole votes.words.now n links.old }
     ensures { Points (slot_key whole votes.entry.words.now) n (slot_key whole votes.entry.words.now n) (link_of result)
@@ -490,6 +500,7 @@ pub fn join_slot(bytes: &[u8], i: usize, links: &mut [u16], salt: u64, vote: Vot
 // ---- of a table and then a packet
 
 // The block at row j.
+#[inline(always)]
 pub fn block_at(blocks: Table<'_, Block>, bytes: &[u8], j: usize) -> Block
     requires { j < blocks.used + length (packet_of bytes.now).blocks }
     ensures { block_of result ≡ get_or (known_blocks blocks.entry.words.now blocks.entry.used bytes.now) j genesis }

@@ -30,7 +30,8 @@ fn stirred(w: Words) -> Words
     Words { a, b, c, d }
 }
 
-// A key's four words, mixed with a salt.
+// A key's four words, mixed with a salt. It stays a call, so that index's search can be compiled into each place that asks for it.
+#[inline(never)]
 pub fn mixed(salt: u64, a: u64, b: u64, c: u64, d: u64) -> u64
     ensures { result ≡ mix salt a b c d }
 {

@@ -1,2 +1,3 @@
--- The order of numbers, by their halves. Assumes nothing.
+-- Numbers in lent words, and the order of numbers by their halves. Assumes nothing.
+pub mod NumberWords
 pub mod Orders

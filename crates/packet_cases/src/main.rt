@@ -6,6 +6,7 @@ ghost use Rattle.protocol.specs.Words.{value};
 ghost use Rattle.protocol.specs.Calls.Write.{sent_of};
 ghost use Rattle.writer.specs.Sent.{node_in};
 
+use case_runner::Tried;
 use packets::Packed;
 use protocol::{Block, Number, Vote, Width};
 use rows::Table;
@@ -241,10 +242,10 @@ fn empty(rt: &impl Print) -> io::Result<()> {
     print(rt, &more)
 }
 
-fn main(rt: HostRuntime) -> io::Result<()> {
-    of_width(&rt, "narrow", Width::Narrow, 0, 0, 90, 60, 37, 41)?;
+fn all(rt: &impl Print) -> io::Result<()> {
+    of_width(rt, "narrow", Width::Narrow, 0, 0, 90, 60, 37, 41)?;
     of_width(
-        &rt,
+        rt,
         "wide",
         Width::Wide,
         578437695752307201,
@@ -254,9 +255,13 @@ fn main(rt: HostRuntime) -> io::Result<()> {
         61,
         65,
     )?;
-    empty(&rt)?;
-    print_narrow(&rt, 0, 0, 0)?;
-    print_narrow(&rt, 1, 0, 0)?;
-    print_narrow(&rt, 0, 1, 0)?;
-    print_narrow(&rt, 0, 0, 1)
+    empty(rt)?;
+    print_narrow(rt, 0, 0, 0)?;
+    print_narrow(rt, 1, 0, 0)?;
+    print_narrow(rt, 0, 1, 0)?;
+    print_narrow(rt, 0, 0, 1)
+}
+
+fn main(rt: HostRuntime) {
+    let _ = all(&Tried { rt: &rt });
 }

@@ -17,7 +17,7 @@
 // In a call 1000 stands for 2^64: a block's number n is n % 1000 + 2^64 * (n / 1000). In a packet each half of it is below 256.
 #![tactic(auto)]
 
-use case_runner::{Line, Questions};
+use case_runner::{Line, Questions, Tried};
 use lent::Lent;
 
 // Fit and Compare, beside the calls.
@@ -58,8 +58,8 @@ fn compared(rt: &impl Print, lent: Lent<'_>, line: Line<'_>) -> std::io::Result<
     )
 }
 
-fn main(rt: HostRuntime) -> std::io::Result<()> {
+fn main(rt: HostRuntime) {
     let mut bytes = [0u8; 65536];
     let n = io::read_full(0, &mut bytes);
-    case_runner::run(&rt, &Packets, &bytes[..n])
+    let _ = case_runner::run(&Tried { rt: &rt }, &Packets, &bytes[..n]);
 }

@@ -36,7 +36,7 @@ fn overtakes(blocks: Table<'_, Block>, weights: &[u32], k: u32, d: usize, c: usi
     }
     let p = blocks.row(d);
     let q = blocks.row(c);
-    p.entry.number < q.entry.number
+    numbers::is_below(p.entry.number, q.entry.number)
 }
 
 // Whether the block at row d is a rival of the one at row c: in view, a child of block a of a slot below t, and before c with k voters more.

@@ -22,11 +22,11 @@ abbrev tested : (Block → Bool) → Bool → List (Marked Block) → ℕ → Bo
 tested p viewed bs x = found_with p (find (entries bs) x) && (not viewed || known (view_of bs) x)
 
 module _ (p : Block → Bool) (viewed : Bool) (ws : List ℕ) (n x : ℕ) where
-  tested-none : 0 ≡ link_to_number (rows_of make_block ws n) x → tested p viewed (rows_of make_block ws n) x ≡ false
+  pub tested-none : 0 ≡ link_to_number (rows_of make_block ws n) x → tested p viewed (rows_of make_block ws n) x ≡ false
   tested-none e = rw (found_none p ws n x (missing-link (rows_of make_block ws n) x (sym e)))
 
   -- the row there was read as b
-  tested_at : {j : ℕ} {b : Marked Block} → numbers_differ (rows_of make_block ws n) ≡ true → suc j ≡ link_to_number (rows_of make_block ws n) x
+  pub tested_at : {j : ℕ} {b : Marked Block} → numbers_differ (rows_of make_block ws n) ≡ true → suc j ≡ link_to_number (rows_of make_block ws n) x
       → b ≡ row_at make_block ws j → tested p viewed (rows_of make_block ws n) x ≡ (p b.entry && (not viewed || b.viewed))
   tested_at {j} d e r = rw (found_at p ws n x (at-link (rows_of make_block ws n) x j (sym e)) r, view-at ws n x j d (sym e) r)
 

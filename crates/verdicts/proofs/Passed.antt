@@ -79,7 +79,7 @@ module _ (s : Settings) (tests : Places → Node → List Test) (m : Lent) where
       go true e = (refl, e)
       go false e = absurd (refuse-not-pass (by 6) e)
 
-  pass-ready : lent_verdict s tests m ≡ pass → Ready s m
+  pub pass-ready : lent_verdict s tests m ≡ pass → Ready s m
   pass-ready e = ready s m (passes e).0
 
 -- ---- what code answers

@@ -47,7 +47,7 @@ module _ {N : Type 0} (f : ℕ → Refusal) where
 -- A call whose tests begin with ts, of which n are; v is what code answers by ts.
 module _ (s : Settings) (ts tests : Places → Node → List Test) (m : Lent) (n : ℕ) (front : (p : Places) (x : Node) → tests p x ≡ ts p x ++ drop n (tests p x))
     {A : Type 0} {v : Result A Refusal} (told : verdict_of v ≡ lent_verdict s ts m) where
-  refused-before : {r : Refusal} → v ≡ Err r → refuse (refusal_of r) ≡ lent_verdict s tests m
+  pub refused-before : {r : Refusal} → v ≡ Err r → refuse (refusal_of r) ≡ lent_verdict s tests m
   unfolding lent_verdict
   refused-before {r} e = sym (go (lent_sound s m) (sym told ∙ ap verdict_of e))
     where

@@ -27,7 +27,7 @@ module _ (proposal : Bool) (width : Width) (blocks : List ℕ) (blocks_used : �
   abbrev pub vote_wide : Bool
   vote_wide = any_pass (λ a. is_wide a.number) (vs proposal width blocks blocks_used votes votes_used ok)
 
-  narrow-met : (number : ℕ) → number ≡ sent.number → width ≡ Narrow → too_wide width sent ≡ (is_wide number || (block_wide || vote_wide))
+  pub narrow-met : (number : ℕ) → number ≡ sent.number → width ≡ Narrow → too_wide width sent ≡ (is_wide number || (block_wide || vote_wide))
   unfolding too_wide has_wide
   narrow-met number e w =
       ap (λ (v : Width). too_wide v sent) w

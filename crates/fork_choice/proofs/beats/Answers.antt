@@ -1,7 +1,5 @@
 -- `beats` meets its contract. Assumes nothing.
-use native.Mathlib.Omega.{arith}
 use mathlib.Core.Path.{◌∙◌}
-use Rattle.numbers.proofs.Orders.{below_lem}
 use Rattle.fork_choice.proofs.Best.{beats-apart, beats-tie}
 use Rattle.fork_choice.proofs.beats.Goals as goal
 
@@ -10,5 +8,4 @@ returns-then-x-y c = beats-apart _ _ _ _ c.if-x-y.true
 
 pub returns : goal.returns
 returns c =
-    c.lt.ensures ∙ below_lem c.row-p.result.entry.number c.row-q.result.entry.number (omega arith) (omega arith)
-    ∙ beats-tie _ _ _ _ _ _ c.row-p.ensures c.row-q.ensures c.if-x-y.false
+    c.is_below.ensures ∙ beats-tie _ _ _ _ _ _ c.row-p.ensures c.row-q.ensures c.if-x-y.false

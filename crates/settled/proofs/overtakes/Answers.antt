@@ -1,7 +1,6 @@
 -- `overtakes` meets its contract. Assumes nothing.
 use native.Mathlib.Omega.{arith}
 use mathlib.Core.Path.{◌∙◌}
-use Rattle.numbers.proofs.Orders.{below_lem}
 use Rattle.settled.proofs.Rivals.{overtakes-self, overtakes-more, overtakes-less, overtakes-tie}
 use Rattle.settled.proofs.overtakes.Goals as goal
 use Rattle.settled.proofs.overtakes.Goals.{then-x-y-via-then-x-y, then-x-y-via-else-x-y+then-x-y-2}
@@ -23,5 +22,5 @@ returns-then-x-y-3 c =
 
 pub returns : goal.returns
 returns c =
-    c.lt.ensures ∙ below_lem c.row-p.result.entry.number c.row-q.result.entry.number (omega arith) (omega arith)
+    c.is_below.ensures
     ∙ overtakes-tie _ _ _ _ _ _ _ c.row-p.ensures c.row-q.ensures c.if-d-c.false (omega (arith, c.if-x-y.false, c.if-x-y-3.false))
